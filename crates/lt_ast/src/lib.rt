@@ -6,6 +6,8 @@
 
 mod expr;
 mod node;
+mod span;
 
 pub use expr::Expr;
 pub use node::NodeDecl;
+pub use span::Span;

@@ -1,0 +1,92 @@
+-- What is drawn of a tree.
+use Rattle.std.proofs.Common.{◌≡◌, ℕ, ◌<◌, Vec, Global, Bool, true, false, IsTrue, List, [], ◌∷◌, ◌++◌, length, get_or, map, Some, None, Ok, Err, refl, ap, sym, ◌∙◌, arith, MatchOption, IsSome, IfOk, if◌then◌else◌, ◌&&◌}
+use Rattle.std.specs.declared.option.Option.{Option}
+use Rattle.std.specs.declared.result.Result.{Result}
+use Rattle.std.specs.List.{list_all}
+use Rattle.lt_term.specs.Expression.{Expression}
+use Rattle.lt_term.specs.Process.{Process}
+use Rattle.lt_term.specs.Solution.{first_solution, IsSatisfiable, IsSolution, IsFirstFrom}
+use Rattle.lt_term.proofs.Solutions.{first_solution_is_first}
+use Rattle.lt_term.specs.Offers.{Leaf, vanish, go, Tree, leaf, flattened, leaf_is_within}
+use Rattle.lt_term.specs.Live.{HasLive, IsLegal}
+use Rattle.lt_term.specs.Scene.{Scene, Configuration, Variable, output_kinds}
+use Rattle.lt_term.specs.View.{process_over, node_leaf, node_leaves}
+use Rattle.lt_term.specs.SceneView.{variable}
+use Rattle.lt_term.specs.declared.memory.Memory.{Memory}
+use Rattle.lt_term.specs.declared.table.Table.{Table}
+use Rattle.lt_term.specs.declared.term.Term.{Term}
+use Rattle.lt_term.specs.declared.scenario.Var.{Var}
+use Rattle.lt_term.specs.declared.tree.TreeNode.{TreeNode}
+use Rattle.lt_term.specs.declared.tree.TreeNode.TheVariants.{Vanish, Go}
+use Rattle.lt_term.specs.declared.value.Kind.{Kind}
+use Rattle.lt_term.specs.declared.value.Value.{Value}
+use Rattle.lt_step.specs.Drawn.{drawn_position, drawn_leaf, DrawIsLegal}
+use Rattle.lt_step.specs.Instant.{taken}
+use Rattle.lt_step.specs.Search.{Finds, expressions_at}
+use Rattle.lt_step.specs.LeafView.{leaf_over, instant_by, Decides}
+
+-- The law.
+
+-- a go leaf, whose search found something or nothing
+go_is_legal : (kinds : List Kind) (es : List Expression) (n : Process Expression) (o : Option (List Value)) → first_solution es kinds ≡ o → MatchOption o (IsSatisfiable es kinds → ⊥) (λ vs. IsSolution es [] kinds vs × IsFirstFrom es [] kinds vs)
+    → MatchOption (drawn_position kinds (leaf (go es n))) (HasLive kinds (leaf (go es n)) → ⊥) (λ position. IsLegal kinds (leaf (go es n)) position × IsSome (drawn_leaf kinds (leaf (go es n))) × HasLive kinds (leaf (go es n)))
+go_is_legal kinds es n None e h = rw e h
+go_is_legal kinds es n (Some vs) e h = rw e ((refl, (vs, h.0)), refl, (vs, h.0))
+
+pub draw_is_legal : DrawIsLegal
+draw_is_legal kinds (leaf vanish) = ((refl, tt), refl, tt)
+draw_is_legal kinds (leaf (go es n)) = go_is_legal kinds es n (first_solution es kinds) refl (first_solution_is_first es kinds)
+
+-- The code.
+
+-- the kinds of a scenario's outputs
+pub output_kinds-scene : (vars : List Var) → map (λ v. v.kind) vars ≡ map (λ (v : Variable). v.kind) (map variable vars)
+output_kinds-scene [] = refl
+output_kinds-scene (v ∷ vs) = ap (λ ks. v.kind ∷ ks) (output_kinds-scene vs)
+
+-- a search from no values decides whether a leaf is live
+pub decides : (r : Result Bool Memory) (es : List Expression) (n : Process Expression) (kinds ks : List Kind) (old new : List Value) → old ≡ [] → kinds ≡ ks → IfOk r (Finds es kinds old new) → IfOk r (Decides ks (go es n) new)
+decides (Err e) es n kinds ks old new h k f = tt
+decides (Ok true) es n kinds ks old new h k f =
+    let found : first_solution es ks ≡ Some f.0 = rw (← k) (rw (← h) f.1) in
+    let all : new ≡ f.0 = f.2 ∙ ap (λ vs. vs ++ f.0) h in found ∙ ap Some (sym all)
+decides (Ok false) es n kinds ks old new h k f = rw (← k) (rw (← h) f.0)
+
+pub decides_node : (r : Result Bool Memory) (table : Table) (node : TreeNode) (cs : Vec ℕ Global) (next : Term) (given : List ℕ) (vars all : List Var) (old new : List Value)
+    → node ≡ Go cs next → given ≡ cs.items → vars ≡ all → old ≡ []
+    → IfOk r (Finds (expressions_at table given) (map (λ v. v.kind) vars) old new) → IfOk r (Decides (map (λ (v : Variable). v.kind) (map variable all)) (leaf_over table node) new)
+decides_node r table node cs next given vars all old new e constraints outputs h f =
+    let kinds = ap (map (λ (v : Var). v.kind)) outputs ∙ output_kinds-scene all in
+    let here : IfOk r (Finds (expressions_at table cs.items) (map (λ v. v.kind) vars) old new) = rw (← constraints) f in
+    rw e (decides r (expressions_at table cs.items) (process_over table next) _ _ old new h kinds here)
+
+-- the only node of a tree
+pub root : (t : Tree Expression) (f : Leaf ℕ → Leaf Expression) (nodes : List TreeNode) → map f (node_leaves nodes) ≡ flattened t → (n : TreeNode) → n ≡ get_or nodes 0 n → t ≡ leaf (f (node_leaf n))
+root (leaf l) f [] e n h = absurd (cc)
+root (leaf l) f (m ∷ ms) e n h = rw h (cc)
+
+pub some_node : (t : Tree Expression) (f : Leaf ℕ → Leaf Expression) (nodes : List TreeNode) → map f (node_leaves nodes) ≡ flattened t → 0 < length nodes
+some_node (leaf l) f [] e = absurd (cc)
+some_node (leaf l) f (m ∷ ms) e = omega arith
+
+-- what is drawn of a leaf that is decided
+drawn_of : (s : Scene) (table : Table) (c : Configuration) (n : TreeNode) (live : Bool) (vs : List Value) → Decides (output_kinds s) (leaf_over table n) vs live
+    → taken s c (drawn_leaf (output_kinds s) (leaf (leaf_over table n))) ≡ instant_by table c (if live then Some n else None) vs
+drawn_of s table c Vanish true vs h = refl
+drawn_of s table c Vanish false vs h = absurd (cc)
+drawn_of s table c (Go cs next) true vs h = rw (h, h)
+drawn_of s table c (Go cs next) false vs h = rw h
+
+-- the instant that takes what is drawn of a tree with one node
+pub instant_drawn : (s : Scene) (table : Table) (c : Configuration) (t : Tree Expression) (n : TreeNode) (live : Bool) (vs : List Value) → t ≡ leaf (leaf_over table n) → Decides (output_kinds s) (leaf_over table n) vs live
+    → taken s c (drawn_leaf (output_kinds s) t) ≡ instant_by table c (if live then Some n else None) vs
+instant_drawn s table c t n live vs e h = ap (λ u. taken s c (drawn_leaf (output_kinds s) u)) e ∙ drawn_of s table c n live vs h
+
+-- each node of a list is within
+pub node_within : (k : ℕ) (nodes : List TreeNode) → IsTrue (list_all (leaf_is_within k) (node_leaves nodes)) → (n : TreeNode) → n ≡ get_or nodes 0 n → 0 < length nodes → IsTrue (leaf_is_within k (node_leaf n))
+node_within k [] h n e l = absurd (omega arith)
+node_within k (m ∷ ms) h n e l = rw e (left_of _ _ h)
+  where
+    left_of : (a b : Bool) → IsTrue (a && b) → IsTrue a
+    left_of true b g = refl
+    left_of false b g = g

@@ -1,0 +1,14 @@
+//! The machine of instants.
+//!
+//! A [`Machine`] makes one instant of a scenario after another: it takes the tree of the term that it
+//! holds, draws a live leaf of it, gives the outputs the first solution of the leaf's constraints, and
+//! goes on with the term behind that leaf. `specs/Instant.antt` has the rules of one instant, and
+//! `specs/Machine.antt` what a step answers.
+#![tactic(auto)]
+
+mod drawing;
+mod machine;
+mod search;
+
+pub use drawing::draw_is_legal;
+pub use machine::{Machine, Outcome};

@@ -1,0 +1,133 @@
+//! The machine.
+
+ghost use Rattle.std.specs.Prelude.{◌≡◌, ◌≢◌, ◌≤◌, ℕ, IsTrue, IfOk, length, map, string_bytes};
+ghost use Rattle.lt_term.specs.Process.{is_within};
+ghost use Rattle.lt_term.specs.View.{process, table_len};
+ghost use Rattle.lt_step.specs.Machine.{going, over, started, step_of, IfGoing, IsGoing};
+
+use crate::drawing::drawn;
+use lt_term::{Memory, Scenario, Term, TreeNode, Value, Var};
+use std::alloc::Global;
+
+/// What a step of a machine answers.
+#[derive(Clone, Copy, Debug, PartialEq, Eq)]
+pub enum Outcome {
+    /// The outputs have values for this instant.
+    Values,
+
+    /// The scenario is over.
+    Normal,
+
+    /// No alternative can be taken.
+    Deadlock,
+
+    /// An earlier step ended the run.
+    Ended,
+
+    /// Memory ran out.
+    Memory,
+}
+
+/// Makes the instants of a scenario, one after another.
+#[derive(Drop)]
+pub struct Machine {
+    scenario: Scenario,
+    term: Term,
+    step: u64,
+    outputs: Vec<Value>,
+    is_over: bool,
+    ghost within: { IsTrue (is_within (table_len scenario.table) (process term)) },
+}
+
+impl Machine {
+    ghost use Rattle.lt_term.specs.Scene.{Scene};
+    ghost use Rattle.lt_term.specs.SceneView.{scene, variable};
+    ghost use Rattle.lt_step.specs.View.{machine_state};
+
+    /// A machine that has not stepped. `_seed` names the words that drawing takes, and `_budget` the
+    /// greatest search; every word is 0 and every search tries all values, so neither has an effect.
+    pub fn make(
+        alloc: Global,
+        scenario: Scenario,
+        _seed: u64,
+        _budget: u64,
+    ) -> Result<Machine, Memory>
+        ensures { IfOk result (λ m. machine_state m ≡ started (scene scenario)) }
+    {
+        let term = scenario.body.clone()?;
+        Ok(Machine {
+            scenario,
+            term,
+            step: 1,
+            outputs: Vec::new(alloc),
+            is_over: false,
+        })
+    }
+
+    /// Makes the next instant. The inputs are what the controller answered in the instant before.
+    /// After an end every step answers `Ended` and changes nothing. Memory may run out at any instant
+    /// of a run that goes on, which ends it too.
+    pub fn step(&mut self, alloc: Global, inputs: &[Value]) -> Outcome
+        requires inputs { length inputs.now ≡ length (machine_state self.old).scene.inputs }
+        requires few { IfGoing (machine_state self.old).phase (λ c. c.step ≤ 1000000) }
+        ensures steps { result ≢ Outcome.Memory → record { outcome = result; state = machine_state self.new } ≡ step_of (machine_state self.old) }
+        ensures memory { result ≡ Outcome.Memory → IsGoing (machine_state self.old).phase × (machine_state self.new ≡ record (machine_state self.old) { phase = over }) }
+    {
+        if self.is_over {
+            return Outcome::Ended;
+        }
+        match drawn(alloc, &self.scenario, &self.term, &mut self.outputs) {
+            Ok(Some(TreeNode::Go { next, .. })) => {
+                self.term = next;
+                self.step += 1;
+                Outcome::Values
+            }
+            Ok(Some(TreeNode::Vanish)) => {
+                self.is_over = true;
+                Outcome::Normal
+            }
+            Ok(None) => {
+                self.is_over = true;
+                Outcome::Deadlock
+            }
+            Err(Memory) => {
+                self.is_over = true;
+                Outcome::Memory
+            }
+        }
+    }
+    /// The outputs of the last instant, where it gave them values.
+    pub fn outputs(&self) -> &[Value]
+        ensures { IfGoing (machine_state self.now).phase (λ c. result.now ≡ c.outputs) }
+    {
+        &self.outputs
+    }
+
+    /// The inputs of the scenario.
+    pub fn input_vars(&self) -> &[Var]
+        ensures { map variable result.now ≡ (machine_state self.now).scene.inputs }
+    {
+        &self.scenario.inputs
+    }
+
+    /// The outputs of the scenario.
+    pub fn output_vars(&self) -> &[Var]
+        ensures { map variable result.now ≡ (machine_state self.now).scene.outputs }
+    {
+        &self.scenario.outputs
+    }
+
+    /// The names of the scenario's exceptions.
+    pub fn names(&self) -> &[String]
+        ensures { map string_bytes result.now ≡ (machine_state self.now).scene.exceptions }
+    {
+        &self.scenario.exceptions
+    }
+
+    /// How many decimals a real number has.
+    pub fn decimals(&self) -> u32
+        ensures { result ≡ (machine_state self.now).scene.decimals }
+    {
+        self.scenario.decimals
+    }
+}

@@ -1,0 +1,83 @@
+-- The expressions of a table, and their numbers.
+use Rattle.std.proofs.Common.{◌≡◌, ℕ, zero, suc, ◌+◌, ◌<◌, Bool, true, false, ◌&&◌, IsTrue, List, [], ◌∷◌, ◌++◌, length, get_or, refl, ap, sym, ◌∙◌, arith, length-append, subst}
+use Rattle.std.proofs.lemmas.List.{get_or_append_left}
+use Rattle.std.proofs.lemmas.Bool.{ltb-true}
+use Rattle.std.proofs.Math.Seq.{get_or-append_seam}
+use Rattle.lt_term.specs.Expression.{Expression, flag, negation}
+use Rattle.lt_term.specs.Table.{spelled, expression_at, extended, expressions_of, fits, are_ordered}
+use Rattle.lt_term.specs.declared.table.ExpNode.{ExpNode}
+use Rattle.lt_term.specs.declared.table.ExpNode.TheVariants.{Flag, Output, Not}
+
+pub both : (a b : Bool) → IsTrue a → IsTrue b → IsTrue (a && b)
+both true b h k = k
+both false b h k = h
+
+pub left_of : (a b : Bool) → IsTrue (a && b) → IsTrue a
+left_of true b h = refl
+left_of false b h = h
+
+pub right_of : (a b : Bool) → IsTrue (a && b) → IsTrue b
+right_of true b h = h
+right_of false b h = absurd (cc)
+
+extended-append : (es : List Expression) (ns : List ExpNode) (n : ExpNode) → extended es (ns ++ n ∷ []) ≡ extended es ns ++ expression_at (extended es ns) n ∷ []
+extended-append es [] n = refl
+extended-append es (m ∷ ns) n = extended-append (es ++ expression_at es m ∷ []) ns n
+
+-- one more node spells one more expression
+pub expressions_of-append : (ns : List ExpNode) (n : ExpNode) → expressions_of (ns ++ n ∷ []) ≡ expressions_of ns ++ expression_at (expressions_of ns) n ∷ []
+expressions_of-append ns n = extended-append [] ns n
+
+-- the parts of one more node have smaller numbers too
+ordered-append : (before outputs : ℕ) (ns : List ExpNode) (n : ExpNode) (all : ℕ) → length ns + before ≡ all → IsTrue (are_ordered before outputs ns) → IsTrue (fits all outputs n) → IsTrue (are_ordered before outputs (ns ++ n ∷ []))
+ordered-append before outputs [] n all e h f = let g : all ≡ before = omega arith in both _ true (rw (← g) f) refl
+ordered-append before outputs (m ∷ ns) n all e h f =
+    both _ _ (left_of _ _ h) (ordered-append (suc before) outputs ns n all (omega arith) (right_of (fits before outputs m) _ h) f)
+
+pub are_ordered-append : (outputs : ℕ) (ns : List ExpNode) (n : ExpNode) → IsTrue (are_ordered 0 outputs ns) → IsTrue (fits (length ns) outputs n) → IsTrue (are_ordered 0 outputs (ns ++ n ∷ []))
+are_ordered-append outputs ns n h f = ordered-append 0 outputs ns n (length ns) (omega arith) h f
+
+pub ruleset pushes = (expressions_of-append, are_ordered-append)
+
+-- an expression that is there stays
+extended-keeps : (es : List Expression) (ns : List ExpNode) (c : ℕ) → c < length es → spelled (extended es ns) c ≡ spelled es c
+extended-keeps es [] c h = refl
+extended-keeps es (n ∷ ns) c h =
+    extended-keeps (es ++ expression_at es n ∷ []) ns c (simp length-append (omega arith))
+    ∙ get_or_append_left es (expression_at es n ∷ []) (flag false) c h
+
+-- a node's expression is the same over more expressions
+expression_at-keeps : (es : List Expression) (ns : List ExpNode) (n : ExpNode) (outputs : ℕ) → IsTrue (fits (length es) outputs n) → expression_at (extended es ns) n ≡ expression_at es n
+expression_at-keeps es ns (Flag b) outputs h = refl
+expression_at-keeps es ns (Output i) outputs h = refl
+expression_at-keeps es ns (Not part) outputs h = ap negation (extended-keeps es ns part (ltb-true _ _ h))
+
+length_more : (es : List Expression) (e : Expression) → length (es ++ e ∷ []) ≡ suc (length es)
+length_more es e = simp length-append (omega arith)
+
+-- the first of some more nodes
+seam : (outputs : ℕ) (es : List Expression) (ns : List ExpNode) (m n : ExpNode) (c : ℕ) → length es ≡ c → IsTrue (fits c outputs m) → n ≡ m → (spelled (extended es (m ∷ ns)) c ≡ expression_at (extended es (m ∷ ns)) n) × IsTrue (fits c outputs n)
+seam outputs es ns m n c e h is =
+    let here : (spelled (extended es (m ∷ ns)) (length es) ≡ expression_at (extended es (m ∷ ns)) m) =
+    extended-keeps (es ++ expression_at es m ∷ []) ns (length es) (simp length-append (omega arith))
+    ∙ get_or-append_seam es (expression_at es m) [] (flag false)
+    ∙ sym (expression_at-keeps es (m ∷ ns) m outputs (rw e h)) in
+    let P : ℕ → Type 0 = λ k. spelled (extended es (m ∷ ns)) k ≡ expression_at (extended es (m ∷ ns)) m in
+    let Q : ExpNode → Type 0 = λ k. (spelled (extended es (m ∷ ns)) c ≡ expression_at (extended es (m ∷ ns)) k) × IsTrue (fits c outputs k) in
+    subst Q (sym is) (subst P e here, h)
+
+-- each number spells its node's expression, whose parts have smaller numbers
+spelled-extended : (outputs : ℕ) (es : List Expression) (ns : List ExpNode) (before : ℕ) → length es ≡ before → IsTrue (are_ordered before outputs ns) → (j c : ℕ) (n d : ExpNode) → before + j ≡ c → j < length ns → n ≡ get_or ns j d → (spelled (extended es ns) c ≡ expression_at (extended es ns) n) × IsTrue (fits c outputs n)
+spelled-extended outputs es [] before e h j c n d at l is = absurd (omega arith)
+spelled-extended outputs es (m ∷ ns) before e h zero c n d at l is =
+    let here : before ≡ c = omega arith in
+    let P : ℕ → Type 0 = λ k. IsTrue (fits k outputs m) in
+    seam outputs es ns m n c (e ∙ here) (subst P here (left_of _ _ h)) is
+spelled-extended outputs es (m ∷ ns) before e h (suc j) c n d at l is =
+    spelled-extended outputs (es ++ expression_at es m ∷ []) ns (suc before) (length_more es _ ∙ ap suc e) (right_of (fits before outputs m) _ h) j c n d (omega arith) (omega arith) is
+
+-- the expression of a number is that of its node, whose part has a smaller number
+pub spelled-at : (outputs : ℕ) (ns : List ExpNode) (c : ℕ) (n m : ExpNode) → IsTrue (are_ordered 0 outputs ns) → c < length ns → n ≡ get_or ns c n → n ≡ m → (spelled (expressions_of ns) c ≡ expression_at (expressions_of ns) m) × IsTrue (fits c outputs m)
+spelled-at outputs ns c n m h l is same =
+    let P : ExpNode → Type 0 = λ k. (spelled (expressions_of ns) c ≡ expression_at (expressions_of ns) k) × IsTrue (fits c outputs k) in
+    subst P same (spelled-extended outputs [] ns 0 refl h c c n n (omega arith) l is)

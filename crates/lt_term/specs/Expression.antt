@@ -1,0 +1,26 @@
+-- Boolean expressions over the outputs of an instant, and their truth.
+use Rattle.std.specs.Prelude.{ℕ, Bool, false, not, List, slice_index_or}
+use Rattle.std.specs.List.{list_all}
+use Rattle.lt_term.specs.declared.value.Value.{Value}
+use Rattle.lt_term.specs.declared.value.Value.TheVariants as value
+
+pub data Expression : Type 0 where
+  -- false or true
+  flag : Bool → Expression
+  -- an output, by its place
+  output : ℕ → Expression
+  -- not
+  negation : Expression → Expression
+
+abbrev pub is_true : Value → Bool
+is_true (value.Bool b) = b
+
+-- the truth of an expression in an instant with these outputs
+abbrev pub truth_of : List Value → Expression → Bool
+truth_of outputs (flag b) = b
+truth_of outputs (output i) = is_true (slice_index_or outputs i (value.Bool false))
+truth_of outputs (negation e) = not (truth_of outputs e)
+
+-- whether all of these hold in an instant with these outputs
+abbrev pub all_hold : List Expression → List Value → Bool
+all_hold es outputs = list_all (truth_of outputs) es

@@ -1,0 +1,9 @@
+pub mod Expression
+pub mod Table
+pub mod Solution
+pub mod Process
+pub mod Offers
+pub mod Live
+pub mod Scene
+pub mod View
+pub mod SceneView

@@ -1,0 +1,34 @@
+-- The expressions that a table spells.
+use Rattle.std.specs.Prelude.{ℕ, suc, Bool, true, false, ◌&&◌, nat_lt, List, [], ◌∷◌, ◌++◌, slice_index_or}
+use Rattle.lt_term.specs.Expression.{Expression, flag, output, negation}
+use Rattle.lt_term.specs.declared.table.ExpNode.{ExpNode}
+use Rattle.lt_term.specs.declared.table.ExpNode.TheVariants.{Flag, Output, Not}
+
+-- the expression of a number
+abbrev pub spelled : List Expression → ℕ → Expression
+spelled es n = slice_index_or es n (flag false)
+
+-- the expression of a node, whose parts are among these
+abbrev pub expression_at : List Expression → ExpNode → Expression
+expression_at es (Flag b) = flag b
+expression_at es (Output i) = output i
+expression_at es (Not part) = negation (spelled es part)
+
+-- these expressions, and behind them those of the nodes
+abbrev pub extended : List Expression → List ExpNode → List Expression
+extended es [] = es
+extended es (n ∷ ns) = extended (es ++ expression_at es n ∷ []) ns
+
+abbrev pub expressions_of : List ExpNode → List Expression
+expressions_of ns = extended [] ns
+
+-- whether a node's part is among so many, and its output too
+abbrev pub fits : ℕ → ℕ → ExpNode → Bool
+fits parts outputs (Flag b) = true
+fits parts outputs (Output i) = nat_lt i outputs
+fits parts outputs (Not part) = nat_lt part parts
+
+-- whether the part of each node, before which there are so many, has a smaller number
+abbrev pub are_ordered : ℕ → ℕ → List ExpNode → Bool
+are_ordered before outputs [] = true
+are_ordered before outputs (n ∷ ns) = fits before outputs n && are_ordered (suc before) outputs ns

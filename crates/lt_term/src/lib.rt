@@ -1,0 +1,26 @@
+//! Terms: what a scenario still has to do, and what it offers in one instant.
+//!
+//! A [`Scenario`] has a table of expressions and a [`Term`], whose constraints are numbers of that
+//! table. [`offers`] gives the tree of a term: the alternatives of one instant, with priorities and
+//! weights kept as a tree, so that they are judged on whole reactions.
+//!
+//! Contracts see a term through its pure twin, a `Process` of `specs/Process.antt`, and a scenario as a
+//! `Scene` of `specs/Scene.antt`, in which expressions stand in place of numbers. `specs/View.antt` has
+//! the functions that lead there.
+#![tactic(auto)]
+
+mod memory;
+mod scenario;
+mod solution;
+mod table;
+mod term;
+mod tree;
+mod value;
+
+pub use memory::Memory;
+pub use scenario::{Scenario, Var};
+pub use solution::first_solution_is_first;
+pub use table::{ExpNode, Table};
+pub use term::Term;
+pub use tree::{Tree, TreeNode, offers};
+pub use value::{Kind, Value};

@@ -1,0 +1,84 @@
+//! Expressions by number.
+
+ghost use Rattle.std.specs.Prelude.{◌≡◌, ◌<◌, ◌+◌, ◌++◌, [], ◌∷◌, length, IsTrue, IfOk, OnOk, OnErr};
+ghost use Rattle.lt_term.specs.Expression.{truth_of, all_hold};
+ghost use Rattle.lt_term.specs.Table.{spelled, expression_at, fits, are_ordered};
+
+use crate::memory::Memory;
+use crate::value::Value;
+use std::alloc::Global;
+
+/// An expression whose parts are given by their numbers in a table.
+#[derive(Clone, Copy, Debug, PartialEq, Eq)]
+pub enum ExpNode {
+    /// `false` or `true`.
+    Flag(bool),
+
+    /// An output of the scenario, by its place from 0.
+    Output(u32),
+
+    /// The negation of another expression.
+    Not(u32),
+}
+
+/// Expressions by number, from 0. The parts of an expression have smaller numbers than it.
+#[derive(Debug, Drop)]
+pub struct Table {
+    nodes: Vec<ExpNode>,
+    outputs: usize,
+    ghost ordered: { IsTrue (are_ordered 0 outputs nodes.items) },
+}
+
+impl Table {
+    ghost use Rattle.lt_term.specs.View.{table_len, table_outputs, table_expressions};
+
+    /// A table without expressions, for a scenario with so many outputs.
+    pub fn new(alloc: Global, outputs: usize) -> Table
+        ensures expressions { table_expressions result ≡ [] }
+        ensures len { table_len result ≡ 0 }
+        ensures outputs { table_outputs result ≡ outputs }
+    {
+        Table {
+            nodes: Vec::new(alloc),
+            outputs,
+        }
+    }
+
+    /// How many expressions it has.
+    pub fn len(&self) -> usize
+        ensures { result ≡ table_len self.now }
+    {
+        self.nodes.len()
+    }
+
+    /// Adds an expression over those that are there, and answers its number. An error changes nothing;
+    /// it also comes where no number is left.
+    #[tactic(auto, using(crate::proofs::Tables::pushes))]
+    pub fn push(&mut self, node: ExpNode) -> Result<u32, Memory>
+        requires { IsTrue (fits (table_len self.old) (table_outputs self.old) node) }
+        ensures number { IfOk result (λ number. number ≡ table_len self.old) }
+        ensures len { OnOk result (table_len self.new ≡ table_len self.old + 1) }
+        ensures expressions { OnOk result (table_expressions self.new ≡ table_expressions self.old ++ expression_at (table_expressions self.old) node ∷ []) }
+        ensures outputs { table_outputs self.new ≡ table_outputs self.old }
+        ensures err { OnErr result (table_len self.new ≡ table_len self.old × table_expressions self.new ≡ table_expressions self.old) }
+    {
+        let Ok(number) = u32::try_from(self.nodes.len()) else {
+            return Err(Memory);
+        };
+        self.nodes.push(node)?;
+        Ok(number)
+    }
+
+    /// Whether an expression holds in an instant with these outputs.
+    pub fn holds(&self, number: u32, outputs: &[Value]) -> bool
+        requires known { number < table_len self.now }
+        requires whole { length outputs.now ≡ table_outputs self.now }
+        ensures { result ≡ truth_of outputs.now (spelled (table_expressions self.now) number) }
+    {
+        match self.nodes[number as usize] {
+            ExpNode::Flag(flag) => flag,
+            ExpNode::Output(output) => outputs[output as usize].is_true(),
+            ExpNode::Not(part) => !self.holds(part, outputs),
+        }
+    }
+}
