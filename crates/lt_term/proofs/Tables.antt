@@ -37,7 +37,28 @@ ordered-append before outputs (m ∷ ns) n all e h f =
 pub are_ordered-append : (outputs : ℕ) (ns : List ExpNode) (n : ExpNode) → IsTrue (are_ordered 0 outputs ns) → IsTrue (fits (length ns) outputs n) → IsTrue (are_ordered 0 outputs (ns ++ n ∷ []))
 are_ordered-append outputs ns n h f = ordered-append 0 outputs ns n (length ns) (omega arith) h f
 
-pub ruleset pushes = (expressions_of-append, are_ordered-append)
+
+length_extended : (es : List Expression) (ns : List ExpNode) → length (extended es ns) ≡ length es + length ns
+length_extended es [] = omega arith
+length_extended es (n ∷ ns) = length_extended (es ++ expression_at es n ∷ []) ns ∙ simp length-append (omega arith)
+
+-- as many expressions as nodes
+pub length-expressions_of : (ns : List ExpNode) → length (expressions_of ns) ≡ length ns
+length-expressions_of ns = length_extended [] ns ∙ omega arith
+
+-- the last node has its number
+pub spelled-last : (ns : List ExpNode) (n : ExpNode) → spelled (expressions_of (ns ++ n ∷ [])) (length ns) ≡ expression_at (expressions_of ns) n
+spelled-last ns n =
+    let here : (spelled (expressions_of ns ++ expression_at (expressions_of ns) n ∷ []) (length (expressions_of ns)) ≡ expression_at (expressions_of ns) n) = get_or-append_seam (expressions_of ns) (expression_at (expressions_of ns) n) [] (flag false) in
+    let P : ℕ → Type 0 = λ k. spelled (expressions_of ns ++ expression_at (expressions_of ns) n ∷ []) k ≡ expression_at (expressions_of ns) n in
+    ap (λ es. spelled es (length ns)) (expressions_of-append ns n) ∙ subst P (length-expressions_of ns) here
+
+-- the others keep theirs
+pub spelled-keeps : (ns : List ExpNode) (n : ExpNode) (k : ℕ) → k < length ns → spelled (expressions_of (ns ++ n ∷ [])) k ≡ spelled (expressions_of ns) k
+spelled-keeps ns n k h =
+    ap (λ es. spelled es k) (expressions_of-append ns n) ∙ get_or_append_left (expressions_of ns) (expression_at (expressions_of ns) n ∷ []) (flag false) k (omega (arith, length-expressions_of ns))
+
+pub ruleset pushes = (expressions_of-append, are_ordered-append, spelled-last, spelled-keeps)
 
 -- an expression that is there stays
 extended-keeps : (es : List Expression) (ns : List ExpNode) (c : ℕ) → c < length es → spelled (extended es ns) c ≡ spelled es c

@@ -1,7 +1,7 @@
 //! Expressions by number.
 
-ghost use Rattle.std.specs.Prelude.{◌≡◌, ◌<◌, ◌+◌, ◌++◌, [], ◌∷◌, length, IsTrue, IfOk, OnOk, OnErr};
-ghost use Rattle.lt_term.specs.Expression.{truth_of, all_hold};
+ghost use Rattle.std.specs.Prelude.{◌≡◌, ℕ, ◌<◌, ◌+◌, ◌++◌, [], ◌∷◌, length, IsTrue, IfOk, OnOk, OnErr};
+ghost use Rattle.lt_term.specs.Expression.{truth_of};
 ghost use Rattle.lt_term.specs.Table.{spelled, expression_at, fits, are_ordered};
 
 use crate::memory::Memory;
@@ -60,6 +60,10 @@ impl Table {
         ensures len { OnOk result (table_len self.new ≡ table_len self.old + 1) }
         ensures expressions { OnOk result (table_expressions self.new ≡ table_expressions self.old ++ expression_at (table_expressions self.old) node ∷ []) }
         ensures outputs { table_outputs self.new ≡ table_outputs self.old }
+
+        // The new number has the new expression, and every other number keeps its own.
+        ensures spells { IfOk result (λ number. spelled (table_expressions self.new) number ≡ expression_at (table_expressions self.old) node) }
+        ensures keeps { (k : ℕ) → k < table_len self.old → spelled (table_expressions self.new) k ≡ spelled (table_expressions self.old) k }
         ensures err { OnErr result (table_len self.new ≡ table_len self.old × table_expressions self.new ≡ table_expressions self.old) }
     {
         let Ok(number) = u32::try_from(self.nodes.len()) else {

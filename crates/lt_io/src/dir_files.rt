@@ -1,0 +1,78 @@
+//! The files of the system.
+
+ghost use Rattle.std.specs.Prelude.{◌≡◌, ◌≤◌, [], length, IfOk, None};
+ghost use Rattle.lt_io.specs.Files.{names_of};
+
+use crate::files::{FileRefusal, Files, concluded};
+use std::alloc::Global;
+use std::io::{ErrorKind, Read};
+use std::{fs, io, rt};
+
+/// The files of the system, each named by its path. They tell no contents.
+#[derive(Drop)]
+pub struct DirFiles<'a, R: rt::Files> {
+    rt: &'a R,
+    /// The names that were asked for, the last one at the end.
+    pub asked: Vec<String>,
+    /// How many calls failed, up to `u64::MAX`.
+    pub faults: u64,
+}
+
+impl<'a, R: rt::Files> DirFiles<'a, R> {
+    /// The files that `rt` reaches, none of them asked for so far. The names asked for are kept in
+    /// memory of `alloc`.
+    pub fn new(rt: &'a R, alloc: Global) -> Self
+        ensures asked { result.asked.items ≡ [] }
+        ensures faults { result.faults ≡ 0 }
+    {
+        DirFiles {
+            rt,
+            asked: Vec::new(alloc),
+            faults: 0,
+        }
+    }
+}
+
+fn refusal_of(error: &io::Error) -> FileRefusal {
+    if error.kind() == ErrorKind::OutOfMemory {
+        FileRefusal::Memory
+    } else {
+        FileRefusal::Failed
+    }
+}
+
+// The whole file, of which one byte more than `most` is read at most.
+fn load<R: rt::Files>(
+    rt: &R,
+    alloc: Global,
+    name: &str,
+    most: usize,
+) -> Result<Vec<u8>, FileRefusal>
+    ensures { IfOk result (λ v. length v.items ≤ most) }
+{
+    let file = fs::open(rt, name).map_err(|error| refusal_of(&error))?;
+    let mut bytes = Vec::new(alloc);
+    file.take((most as u64).saturating_add(1))
+        .read_to_end(&mut bytes)
+        .map_err(|error| refusal_of(&error))?;
+    if bytes.len() > most {
+        return Err(FileRefusal::TooLong);
+    }
+    Ok(bytes)
+}
+
+impl<'a, R: rt::Files> Files for DirFiles<'a, R> {
+    ghost contents = { λ _ _. None };
+
+    ghost asked = { λ f. names_of f.asked.items };
+
+    ghost faults = { λ f. f.faults };
+
+    /// Reads one byte more than `most` at the most, so that a longer file is refused early.
+    ///
+    /// A name that is not there, a folder and a file that cannot be read are faults.
+    fn read(&mut self, alloc: Global, name: &str, most: usize) -> Result<Vec<u8>, FileRefusal> {
+        let loaded = load(self.rt, alloc, name, most);
+        concluded(alloc, name, loaded, &mut self.asked, &mut self.faults)
+    }
+}

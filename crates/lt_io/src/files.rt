@@ -1,0 +1,89 @@
+//! Where files come from.
+
+ghost use Rattle.std.specs.Prelude.{◌≡◌, ◌≢◌, ℕ, ◌≤◌, ◌<◌, List, [], ◌∷◌, ◌++◌, length, IfOk};
+ghost use Rattle.std.specs.declared.option.Option.{Option};
+ghost use Rattle.lt_io.specs.Causes.{Rose, WhereTold, risen};
+ghost use Rattle.lt_io.specs.Files.{names_of};
+
+use std::alloc::Global;
+use thiserror::Error;
+
+/// Why a file was not read.
+#[derive(Clone, Copy, Debug, PartialEq, Eq, Error)]
+pub enum FileRefusal {
+    /// The outside failed, as where no file has the name.
+    #[error("the file could not be read")]
+    Failed,
+    /// The file has more bytes than were asked for.
+    #[error("the file is too long")]
+    TooLong,
+    /// No memory is left.
+    #[error("out of memory")]
+    Memory,
+}
+
+/// Files by name.
+pub trait Files {
+    // the contents by name, where they are told
+    ghost contents: { Self → List ℕ → Option (List ℕ) };
+
+    // the names that were asked for, the last one at the end
+    ghost asked: { Self → List (List ℕ) };
+
+    // how many calls failed, up to the greatest number of 64 bits
+    ghost faults: { Self → ℕ };
+
+    /// Reads the whole file `name`, of `most` bytes at most. A longer one is `TooLong`.
+    ///
+    /// The name is recorded among those that were asked for. `Failed` comes only where the count of
+    /// faults rose. A call that answers `Memory` records no name and leaves the count as it was.
+    fn read(&mut self, alloc: Global, name: &str, most: usize) -> Result<Vec<u8>, FileRefusal>
+        ensures told { IfOk result (λ v. WhereTold (contents self.old name.now) (λ bytes. v.items ≡ bytes)) }
+        ensures within { IfOk result (λ v. length v.items ≤ most) }
+        ensures too_long { result ≡ Err FileRefusal.TooLong →
+            WhereTold (contents self.old name.now) (λ bytes. most < length bytes) }
+        ensures kept { (other : List ℕ) → contents self.new other ≡ contents self.old other }
+
+        // The name is recorded, but not where memory ran out.
+        ensures asks { result ≢ Err FileRefusal.Memory → asked self.new ≡ asked self.old ++ name.now ∷ [] }
+        ensures none_asked { result ≡ Err FileRefusal.Memory → asked self.new ≡ asked self.old }
+
+        // The count of faults never falls, and a failure raises it.
+        ensures later { faults self.old ≤ faults self.new }
+        ensures cause { result ≡ Err FileRefusal.Failed → Rose (faults self.old) (faults self.new) }
+        ensures none_failed { result ≡ Err FileRefusal.Memory → faults self.new ≡ faults self.old };
+}
+
+// Ends a call that read the file `name`: records the name, and counts a fault where the call failed.
+// Where memory runs out, neither changes.
+pub(crate) fn concluded(
+    alloc: Global,
+    name: &str,
+    answer: Result<Vec<u8>, FileRefusal>,
+    asked: &mut Vec<String>,
+    faults: &mut u64,
+) -> Result<Vec<u8>, FileRefusal>
+    ensures answer { result ≢ Err FileRefusal.Memory → result ≡ answer }
+
+    ensures asks { result ≢ Err FileRefusal.Memory →
+        names_of asked.new.items ≡ names_of asked.old.items ++ name.now ∷ [] }
+    ensures none_asked { result ≡ Err FileRefusal.Memory → names_of asked.new.items ≡ names_of asked.old.items }
+
+    ensures later { faults.old ≤ faults.new }
+    ensures fault { result ≡ Err FileRefusal.Failed → faults.new ≡ risen faults.old }
+    ensures no_fault { result ≢ Err FileRefusal.Failed → faults.new ≡ faults.old }
+{
+    if let Err(FileRefusal::Memory) = answer {
+        return Err(FileRefusal::Memory);
+    }
+    let Ok(name) = String::from_str(alloc, name) else {
+        return Err(FileRefusal::Memory);
+    };
+    if asked.push(name).is_err() {
+        return Err(FileRefusal::Memory);
+    }
+    if let Err(FileRefusal::Failed) = answer {
+        *faults = faults.saturating_add(1);
+    }
+    answer
+}

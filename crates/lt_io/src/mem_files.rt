@@ -1,0 +1,107 @@
+//! Files in memory.
+
+ghost use Rattle.std.specs.Prelude.{◌≡◌, ◌≢◌, ◌≤◌, ◌<◌, ◌↔◌, ℕ, List, [], ◌∷◌, ◌++◌, length, IfNone, IfOk, IfSome};
+ghost use Rattle.lt_io.specs.Causes.{Rose, WhereTold, risen};
+ghost use Rattle.lt_io.specs.Files.{names_of};
+ghost use Rattle.lt_io.specs.MemFiles.{first_named, content_of, FailsAt};
+
+use crate::files::{FileRefusal, Files, concluded};
+use std::alloc::Global;
+
+/// Files that are kept in memory, and fail where they are told to.
+#[derive(Drop)]
+pub struct MemFiles {
+    /// The files, each a name with its contents. The first of a name counts.
+    pub entries: Vec<(String, Vec<u8>)>,
+    /// The names that were asked for, the last one at the end.
+    pub asked: Vec<String>,
+    /// How many calls were answered, up to `u64::MAX`. A call out of memory does not count.
+    pub calls: u64,
+    /// The numbers of the calls that are to fail, where the first call is number 0.
+    pub failing: Vec<u64>,
+    /// How many calls failed, up to `u64::MAX`.
+    pub faults: u64,
+}
+
+// The first file of that name.
+fn found<'a>(entries: &'a [(String, Vec<u8>)], name: &str) -> Option<&'a Vec<u8>>
+    ensures none { IfNone result (first_named entries.now name.now ≡ None) }
+    ensures some { IfSome result (λ bytes. first_named entries.now name.now ≡ Some bytes.now.items) }
+{
+    for entry in entries {
+        if entry.0.as_str() == name {
+            return Some(&entry.1);
+        }
+    }
+    None
+}
+
+impl MemFiles {
+    // A copy of the file, where the next call does not fail and the file is short enough.
+    fn copied(&self, alloc: Global, name: &str, most: usize) -> Result<Vec<u8>, FileRefusal>
+        ensures contents { IfOk result (λ v. content_of self.now name.now ≡ Some v.items) }
+        ensures within { IfOk result (λ v. length v.items ≤ most) }
+        ensures too_long { result ≡ Err FileRefusal.TooLong →
+            IfSome (content_of self.now name.now) (λ bytes. most < length bytes) }
+        ensures fails { result ≢ Err FileRefusal.Memory →
+            ((result ≡ Err FileRefusal.Failed) ↔ FailsAt self.now name.now) }
+    {
+        if self.failing.contains(&self.calls) {
+            return Err(FileRefusal::Failed);
+        }
+        let Some(bytes) = found(&self.entries, name) else {
+            return Err(FileRefusal::Failed);
+        };
+        if bytes.len() > most {
+            return Err(FileRefusal::TooLong);
+        }
+        Vec::from_slice(alloc, bytes).map_err(|_| FileRefusal::Memory)
+    }
+}
+
+impl Files for MemFiles {
+    ghost contents = { λ f name. content_of f name };
+
+    ghost asked = { λ f. names_of f.asked.items };
+
+    ghost faults = { λ f. f.faults };
+
+    /// Reads the first file of that name.
+    ///
+    /// It fails exactly where the call's number is in `failing` or no file has the name, and is
+    /// `TooLong` exactly where it does not fail and the file has more than `most` bytes. Any answer
+    /// may yield to `Memory`, which leaves everything as it was.
+    fn read(&mut self, alloc: Global, name: &str, most: usize) -> Result<Vec<u8>, FileRefusal>
+        ensures told { IfOk result (λ v. WhereTold (content_of self.old name.now) (λ bytes. v.items ≡ bytes)) }
+        ensures within { IfOk result (λ v. length v.items ≤ most) }
+        ensures too_long { result ≡ Err FileRefusal.TooLong →
+            WhereTold (content_of self.old name.now) (λ bytes. most < length bytes) }
+        ensures kept { (other : List ℕ) → content_of self.new other ≡ content_of self.old other }
+        ensures asks { result ≢ Err FileRefusal.Memory →
+            names_of self.new.asked.items ≡ names_of self.old.asked.items ++ name.now ∷ [] }
+        ensures none_asked { result ≡ Err FileRefusal.Memory →
+            names_of self.new.asked.items ≡ names_of self.old.asked.items }
+        ensures later { self.old.faults ≤ self.new.faults }
+        ensures cause { result ≡ Err FileRefusal.Failed → Rose self.old.faults self.new.faults }
+        ensures none_failed { result ≡ Err FileRefusal.Memory → self.new.faults ≡ self.old.faults }
+
+        // Beyond the trait: which calls fail, that the others find the file, and what each call leaves.
+        ensures fails { result ≢ Err FileRefusal.Memory →
+            ((result ≡ Err FileRefusal.Failed) ↔ FailsAt self.old name.now) }
+        ensures found { IfOk result (λ v. content_of self.old name.now ≡ Some v.items) }
+        ensures entries { self.new.entries ≡ self.old.entries }
+        ensures failing { self.new.failing ≡ self.old.failing }
+        ensures calls { result ≢ Err FileRefusal.Memory → self.new.calls ≡ risen self.old.calls }
+        ensures none_called { result ≡ Err FileRefusal.Memory → self.new.calls ≡ self.old.calls }
+        ensures fault { result ≡ Err FileRefusal.Failed → self.new.faults ≡ risen self.old.faults }
+        ensures no_fault { result ≢ Err FileRefusal.Failed → self.new.faults ≡ self.old.faults }
+    {
+        let copied = self.copied(alloc, name, most);
+        let answer = concluded(alloc, name, copied, &mut self.asked, &mut self.faults);
+        if let Err(FileRefusal::Memory) = answer {
+            return Err(FileRefusal::Memory);
+        }
+        self.calls = self.calls.saturating_add(1);
+        answer
+    }
+}

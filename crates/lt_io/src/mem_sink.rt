@@ -1,0 +1,109 @@
+//! A sink in memory.
+
+ghost use Rattle.std.specs.Prelude.{◌≡◌, ◌+◌, ◌-◌, ◌<◌, ◌≤◌, ◌↔◌, [], ◌++◌, Some, min, take, length, vec_len, vec_capacity, IfOk, OnErr, IsErr};
+ghost use Rattle.std.specs.Io.KnownBytes.{WriteAppends};
+ghost use Rattle.lt_io.specs.Causes.{HasCause, risen};
+ghost use Rattle.lt_io.specs.SinkState.{SinkState, Fails};
+
+use crate::memory::Memory;
+use crate::sink::{Failed, Sink};
+use std::alloc::Global;
+use std::marker::Model;
+
+/// A sink that keeps the bytes it takes, as many as it has room for, and fails where it is told to.
+#[derive(Drop)]
+pub struct MemSink {
+    written: Vec<u8>,
+    room: usize,
+    calls: u64,
+    failing: Vec<u64>,
+    faults: u64,
+}
+
+impl Model for MemSink {
+    ghost Value = { SinkState };
+
+    ghost view = { λ s. record {
+      written = s.written.items;
+      room = s.room;
+      calls = s.calls;
+      failing = s.failing.items;
+      faults = s.faults;
+    } };
+
+    ghost invariant = { λ s. vec_len s.written + s.room ≤ vec_capacity s.written };
+}
+
+impl MemSink {
+    /// An empty sink with room for `room` bytes, which it reserves. `failing` holds the numbers of
+    /// the calls of `write` that are to fail, where the first call is number 0.
+    ///
+    /// It answers `Memory` where the room could not be reserved.
+    pub fn make(alloc: Global, room: usize, failing: Vec<u64>) -> Result<MemSink, Memory>
+        ensures { IfOk result (λ s.
+            s ≡ record { written = []; room = room; calls = 0; failing = failing.items; faults = 0 }) }
+    {
+        Ok(MemSink {
+            written: Vec::with_capacity(alloc, room)?,
+            room,
+            calls: 0,
+            failing,
+            faults: 0,
+        })
+    }
+
+    /// The bytes taken so far.
+    pub fn written(&self) -> &[u8]
+        ensures { result.now ≡ self.now.written }
+    {
+        &self.written
+    }
+
+    /// How many calls failed, up to `u64::MAX`.
+    pub fn faults(&self) -> u64
+        ensures { result ≡ self.now.faults }
+    {
+        self.faults
+    }
+}
+
+impl Sink for MemSink {
+    ghost written = { λ s. Some s.written };
+
+    ghost faults = { λ s. s.faults };
+
+    /// Takes as much of the piece as there is room for, which falls by as much.
+    ///
+    /// It fails exactly where the call's number is in `failing` or no room is left.
+    fn write(&mut self, bytes: &[u8]) -> Result<usize, Failed>
+        requires { 0 < length bytes.now }
+        ensures some { IfOk result (λ n. 0 < n) }
+        ensures within { IfOk result (λ n. n ≤ length bytes.now) }
+        ensures appends { WriteAppends (Some self.old.written) (Some self.new.written) result bytes.now }
+        ensures cause { HasCause self.old.faults self.new.faults result }
+
+        // Beyond the trait: which calls fail, how much the others take, and what each call leaves.
+        ensures fails { IsErr result ↔ Fails self.old }
+        ensures count { IfOk result (λ n. n ≡ min self.old.room (length bytes.now)) }
+        ensures taken { IfOk result (λ n. self.new ≡ record self.old {
+          written = self.old.written ++ take n bytes.now;
+          room = self.old.room - n;
+          calls = risen self.old.calls;
+        }) }
+        ensures refused { OnErr result (self.new ≡ record self.old {
+          calls = risen self.old.calls;
+          faults = risen self.old.faults;
+        }) }
+    {
+        let call = self.calls;
+        self.calls = call.saturating_add(1);
+        if self.room == 0 || self.failing.contains(&call) {
+            self.faults = self.faults.saturating_add(1);
+            return Err(Failed);
+        }
+        let count = self.room.min(bytes.len());
+        self.written.extend_from_slice(&bytes[..count]).unwrap();
+        self.room -= count;
+        Ok(count)
+    }
+}

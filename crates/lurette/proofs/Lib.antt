@@ -1,0 +1,7 @@
+pub mod Calls
+pub mod FirstToken
+pub mod Nodes
+pub mod Numbers
+pub mod Parts
+pub mod Runs
+pub mod Texts

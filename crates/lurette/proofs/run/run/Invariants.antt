@@ -1,0 +1,14 @@
+use Rattle.std.proofs.Common.{◌≡◌, ◌≤◌, ◌+◌, ◌-◌}
+use Rattle.lt_step.specs.View.{machine_state}
+use Rattle.lurette.specs.Play.{play_of}
+use Rattle.lurette.specs.Running.{rest_of, IsAt, Follows}
+use Rattle.lurette.proofs.run.run.Given as goal
+
+-- the header and so many steps were written, and the machine has the rest
+abbrev pub invariant-loop-steps : goal.invariant-loop-steps
+invariant-loop-steps g l = record {
+  scene : (machine_state l.machine).scene ≡ (machine_state l.fn.machine).scene;
+  at : IsAt (l.steps + 1) (machine_state l.machine).phase;
+  follows : Follows (l.steps + 1) (play_of (machine_state l.fn.machine).scene (record { seed = 0; limit = l.limit })) (rest_of (machine_state l.machine) (l.limit - l.steps)) (g.S.Sink.written l.fn.trace) (g.S.Sink.written l.trace);
+  later : g.S.Sink.faults l.fn.trace ≤ g.S.Sink.faults l.trace;
+}

@@ -1,0 +1,10 @@
+pub mod Form
+pub mod Reading
+pub mod Words
+pub mod Prepared
+pub mod TraceText
+pub mod Play
+pub mod Lines
+pub mod Writing
+pub mod Running
+pub mod Call

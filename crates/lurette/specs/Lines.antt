@@ -1,0 +1,46 @@
+-- What a call says on standard error.
+use Rattle.std.specs.Prelude.{ℕ, List, [], ◌++◌, codes, decimal}
+use Rattle.lurette.specs.TraceText.{line}
+use Rattle.lurette.specs.declared.status.Status.{Status}
+use Rattle.lurette.specs.declared.status.Status.TheVariants as status
+use Rattle.lurette.specs.declared.status.UsageKind.{UsageKind}
+use Rattle.lurette.specs.declared.status.UsageKind.TheVariants as usage
+use Rattle.lurette.specs.declared.status.Refusal.{Refusal}
+use Rattle.lurette.specs.declared.status.Refusal.TheVariants as refusal
+use Rattle.lurette.specs.declared.status.Device.{Device}
+use Rattle.lurette.specs.declared.status.Device.TheVariants as device
+
+abbrev pub usage_word : UsageKind → List ℕ
+usage_word usage.Words = codes "words"
+usage_word usage.Mode = codes "mode"
+
+abbrev pub refusal_word : Refusal → List ℕ
+refusal_word refusal.TooLong = codes "file.TooLong"
+refusal_word refusal.NotBuilt = codes "early.NotBuilt"
+
+abbrev pub device_word : Device → List ℕ
+device_word device.File = codes "file"
+device_word device.Trace = codes "trace"
+
+-- how the program is called
+abbrev pub usage_text : List ℕ
+usage_text =
+    codes "lurette MODE FILE [-l N] [--seed N] [--precision N] [--budget N] [--node NAME] [--sut CMD] [--oracle CMD] [--replay FILE] [--locals]"
+
+-- the line of a status, or its lines; none where all went well
+abbrev pub status_lines : Status → List ℕ
+status_lines status.Ended = []
+status_lines (status.Usage kind) = line (codes "lurette: usage: " ++ usage_word kind) ++ line usage_text
+status_lines (status.Refused reason) = line (codes "lurette: refused " ++ refusal_word reason)
+status_lines (status.Deadlock at) = line (codes "lurette: deadlock " ++ decimal at)
+status_lines (status.Device what at) = line (codes "lurette: device " ++ device_word what ++ codes " " ++ decimal at)
+status_lines status.Memory = line (codes "lurette: memory")
+
+-- the exit status of the program
+abbrev pub status_code : Status → ℕ
+status_code status.Ended = 0
+status_code (status.Usage kind) = 2
+status_code (status.Refused reason) = 3
+status_code (status.Deadlock at) = 4
+status_code (status.Device what at) = 9
+status_code status.Memory = 11

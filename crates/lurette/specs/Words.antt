@@ -1,0 +1,53 @@
+-- The words of a call: MODE FILE, and then options.
+use Rattle.std.specs.Prelude.{ℕ, ◌+◌, ◌-◌, ◌*◌, Bool, false, true, not, ◌&&◌, ◌==◌, nat_le, List, [], ◌∷◌, None, Some, Ok, Err, codes, if◌then◌else◌}
+use Rattle.std.specs.List.{list_all}
+use Rattle.std.specs.Str.{bytes_eq}
+use Rattle.std.specs.declared.option.Option.{Option}
+use Rattle.std.specs.declared.result.Result.{Result}
+use Rattle.lurette.specs.Form.{is_digit}
+use Rattle.lurette.specs.declared.status.UsageKind.{UsageKind}
+use Rattle.lurette.specs.declared.status.UsageKind.TheVariants.{Words, Mode}
+
+-- what the words ask for
+pub record Request : Type 0 where
+  -- the name of the scenario's file
+  pub file : List ℕ
+  -- the most steps
+  pub limit : ℕ
+
+-- the number that digits write behind those of n
+abbrev pub value_behind : ℕ → List ℕ → ℕ
+value_behind n [] = n
+value_behind n (d ∷ ds) = value_behind (10 * n + (d - 48)) ds
+
+-- digits of a number of at most a million
+abbrev pub up_to_million : List ℕ → Option ℕ
+up_to_million digits = if list_all is_digit digits && nat_le (value_behind 0 digits) 1000000 then Some (value_behind 0 digits) else None
+
+-- whether these are some bytes, and no 0 before others
+abbrev pub has_no_leading_zero : List ℕ → Bool
+has_no_leading_zero [] = false
+has_no_leading_zero (d ∷ []) = true
+has_no_leading_zero (d ∷ e ∷ ds) = not (d == 48)
+
+-- a limit of steps: a number of at most a million, in digits alone, the first of which is no 0 before others
+abbrev pub limit_of : List ℕ → Option ℕ
+limit_of word = if has_no_leading_zero word then up_to_million word else None
+
+-- the limit that the options behind FILE give, 100 where there are none; None where they are no options
+abbrev pub limit_in : List (List ℕ) → Option ℕ
+limit_in [] = Some 100
+limit_in (option ∷ word ∷ []) = if bytes_eq option (codes "-l") then limit_of word else None
+limit_in (option ∷ []) = None
+limit_in (option ∷ word ∷ other ∷ others) = None
+
+-- whether the mode is one that there is, where the other words are right
+abbrev pub in_mode : List ℕ → List ℕ → Option ℕ → Result Request UsageKind
+in_mode mode file None = Err Words
+in_mode mode file (Some limit) = if bytes_eq mode (codes "run") then Ok (record { file = file; limit = limit }) else Err Mode
+
+-- what the words ask for, or what is wrong with them
+abbrev pub requested : List (List ℕ) → Result Request UsageKind
+requested [] = Err Words
+requested (mode ∷ []) = Err Words
+requested (mode ∷ file ∷ options) = in_mode mode file (limit_in options)

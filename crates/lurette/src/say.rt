@@ -1,0 +1,76 @@
+//! What a call says on standard error.
+
+ghost use Rattle.std.specs.Prelude.{◌≡◌, OnOk};
+ghost use Rattle.std.specs.Io.KnownBytes.{Appends};
+ghost use Rattle.lt_io.specs.Causes.{HasCause};
+ghost use Rattle.lurette.specs.Lines.{status_lines, usage_word, refusal_word, device_word};
+
+use crate::put::put_all;
+use crate::status::{Device, Refusal, Status, UsageKind};
+use itoa::Buffer;
+use lt_io::{Failed, Sink};
+
+// How the program is called.
+const USAGE: &[u8] =
+    b"lurette MODE FILE [-l N] [--seed N] [--precision N] [--budget N] [--node NAME] [--sut CMD] [--oracle CMD] [--replay FILE] [--locals]";
+
+/// Says the line of a status, if any.
+pub fn say<M: Sink>(says: &mut M, status: Status) -> Result<(), Failed>
+    ensures all { OnOk result (Appends (M.written says.old) (M.written says.new) (status_lines status)) }
+    ensures cause { HasCause (M.faults says.old) (M.faults says.new) result }
+{
+    let mut digits = Buffer::new();
+    match status {
+        Status::Ended => Ok(()),
+        Status::Usage(kind) => put_all(
+            says,
+            &[b"lurette: usage: ", usage_name(kind), b"\n", USAGE, b"\n"],
+        ),
+        Status::Refused(reason) => put_all(
+            says,
+            &[b"lurette: refused ", refusal_name(reason), b"\n"],
+        ),
+        Status::Deadlock(at) => put_all(
+            says,
+            &[b"lurette: deadlock ", digits.format(at).as_bytes(), b"\n"],
+        ),
+        Status::Device(device, at) => put_all(
+            says,
+            &[
+                b"lurette: device ",
+                device_name(device),
+                b" ",
+                digits.format(at).as_bytes(),
+                b"\n",
+            ],
+        ),
+        Status::Memory => put_all(says, &[b"lurette: memory\n"]),
+    }
+}
+
+fn usage_name(kind: UsageKind) -> &'static [u8]
+    ensures { result.now ≡ usage_word kind }
+{
+    match kind {
+        UsageKind::Words => b"words",
+        UsageKind::Mode => b"mode",
+    }
+}
+
+fn refusal_name(reason: Refusal) -> &'static [u8]
+    ensures { result.now ≡ refusal_word reason }
+{
+    match reason {
+        Refusal::TooLong => b"file.TooLong",
+        Refusal::NotBuilt => b"early.NotBuilt",
+    }
+}
+
+fn device_name(device: Device) -> &'static [u8]
+    ensures { result.now ≡ device_word device }
+{
+    match device {
+        Device::File => b"file",
+        Device::Trace => b"trace",
+    }
+}

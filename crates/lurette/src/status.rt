@@ -1,0 +1,73 @@
+//! How a call ends.
+
+ghost use Rattle.std.specs.Prelude.{◌≡◌};
+ghost use Rattle.lurette.specs.Lines.{status_code};
+
+/// How a call of the program ended, with all that its line on standard error says.
+#[derive(Clone, Copy, Debug, PartialEq, Eq)]
+pub enum Status {
+    /// The run ended by itself or at its limit of steps.
+    Ended,
+
+    /// The words of the call are wrong.
+    Usage(UsageKind),
+
+    /// The scenario's file is refused.
+    Refused(Refusal),
+
+    /// No alternative could be taken in the instant of this number, from 1.
+    Deadlock(u64),
+
+    /// Something outside failed. The number is 0 before the trace's header was written whole, and else
+    /// 1 more than the number of steps that were.
+    Device(Device, u64),
+
+    /// Memory ran out.
+    Memory,
+}
+
+/// What is wrong with the words of a call.
+#[derive(Clone, Copy, Debug, PartialEq, Eq)]
+pub enum UsageKind {
+    /// They aren't MODE, FILE and options.
+    Words,
+
+    /// There is no such mode.
+    Mode,
+}
+
+/// Why a scenario's file is refused.
+#[derive(Clone, Copy, Debug, PartialEq, Eq)]
+pub enum Refusal {
+    /// It is longer than [`LONGEST`](crate::top::LONGEST).
+    TooLong,
+
+    /// Its text is none that can be run.
+    NotBuilt,
+}
+
+/// What failed outside.
+#[derive(Clone, Copy, Debug, PartialEq, Eq)]
+pub enum Device {
+    /// The scenario's file.
+    File,
+
+    /// The trace.
+    Trace,
+}
+
+impl Status {
+    /// The exit status of the program: 0 ended, 2 usage, 3 refused, 4 deadlock, 9 device, 11 memory.
+    pub fn code(self) -> u8
+        ensures { result ≡ status_code self }
+    {
+        match self {
+            Status::Ended => 0,
+            Status::Usage(_) => 2,
+            Status::Refused(_) => 3,
+            Status::Deadlock(_) => 4,
+            Status::Device(_, _) => 9,
+            Status::Memory => 11,
+        }
+    }
+}

@@ -1,0 +1,104 @@
+//! The call of the program.
+
+ghost use Rattle.std.specs.Prelude.{◌≡◌, ◌↔◌, ◌≤◌, ◌⊎◌, ℕ, Err, IfOk, OnErr, map, string_bytes};
+ghost use Rattle.std.specs.Io.KnownBytes.{Appends, Keeps};
+ghost use Rattle.lt_io.specs.Causes.{Rose};
+ghost use Rattle.lurette.specs.Lines.{status_lines};
+ghost use Rattle.lurette.specs.Words.{requested};
+ghost use Rattle.lurette.specs.Call.{Tells, TextTells, AsksFor};
+
+use crate::form::{FormRefusal, read_node};
+use crate::prepare::scenario_of;
+use crate::run::run;
+use crate::say::say;
+use crate::status::{Device, Refusal, Status, UsageKind};
+use crate::words::requested;
+use lt_io::{FileRefusal, Files, Sink};
+use lt_step::Machine;
+use std::alloc::Global;
+
+/// The longest text of a scenario, in bytes.
+pub const LONGEST: usize = 1_048_576;
+
+/// The seed of every run.
+const SEED: u64 = 0;
+
+/// The greatest need of a search.
+const BUDGET: u64 = 10_000_000;
+
+/// Does what the words behind the program's name ask for: `run FILE [-l N]` reads the scenario FILE, runs
+/// it for at most N steps, 100 where none is given, and writes the trace. What went wrong is said in a
+/// line.
+pub fn lurette<F: Files, S: Sink, M: Sink>(
+    alloc: Global,
+    words: &[String],
+    files: &mut F,
+    trace: &mut S,
+    says: &mut M,
+) -> Status
+    // The words are refused exactly where they ask for nothing, and then nothing else happens.
+    ensures usage { (kind : UsageKind) → (result ≡ Status.Usage kind) ↔ (requested (map string_bytes words.now) ≡ Err kind) }
+    ensures unused { OnErr (requested (map string_bytes words.now)) (Keeps (S.written trace.old) (S.written trace.new) × (F.asked files.new ≡ F.asked files.old)) }
+
+    // Else the status tells of the file and of the trace ..
+    ensures tells { IfOk (requested (map string_bytes words.now)) (λ request.
+        Tells request (F.contents files.old request.file) (S.written trace.old) (S.written trace.new) result) }
+    // .. and no other file was asked for.
+    ensures asks { IfOk (requested (map string_bytes words.now)) (λ request. AsksFor request (F.asked files.old) (F.asked files.new) result) }
+
+    // A device is blamed only where its count of faults rose.
+    ensures file { (at : ℕ) → result ≡ Status.Device Device.File at → Rose (F.faults files.old) (F.faults files.new) }
+    ensures trace { (at : ℕ) → result ≡ Status.Device Device.Trace at → Rose (S.faults trace.old) (S.faults trace.new) }
+
+    // Where no fault was counted in saying it, the line of the status was said, and nothing else.
+    ensures says { Rose (M.faults says.old) (M.faults says.new) ⊎ Appends (M.written says.old) (M.written says.new) (status_lines result) }
+{
+    let status = match requested(words) {
+        Ok(request) => serve(alloc, request.file, request.limit, files, trace),
+        Err(kind) => Status::Usage(kind),
+    };
+    let _ = say(says, status);
+    status
+}
+
+// Reads and runs a scenario.
+fn serve<F: Files, S: Sink>(
+    alloc: Global,
+    file: &str,
+    limit: u64,
+    files: &mut F,
+    trace: &mut S,
+) -> Status
+    requires { limit ≤ 1000000 }
+    ensures tells { Tells (record { file = file.now; limit = limit }) (F.contents files.old file.now) (S.written trace.old) (S.written trace.new) result }
+    ensures asks { AsksFor (record { file = file.now; limit = limit }) (F.asked files.old) (F.asked files.new) result }
+    ensures file { (at : ℕ) → result ≡ Status.Device Device.File at → Rose (F.faults files.old) (F.faults files.new) }
+    ensures trace { (at : ℕ) → result ≡ Status.Device Device.Trace at → Rose (S.faults trace.old) (S.faults trace.new) }
+{
+    match files.read(alloc, file, LONGEST) {
+        Ok(text) => serve_text(alloc, &text, limit, trace),
+        Err(FileRefusal::Failed) => Status::Device(Device::File, 0),
+        Err(FileRefusal::TooLong) => Status::Refused(Refusal::TooLong),
+        Err(FileRefusal::Memory) => Status::Memory,
+    }
+}
+
+// Runs the scenario that a text spells.
+fn serve_text<S: Sink>(alloc: Global, text: &[u8], limit: u64, trace: &mut S) -> Status
+    requires { limit ≤ 1000000 }
+    ensures shows { TextTells text.now limit (S.written trace.old) (S.written trace.new) result }
+    ensures trace { (at : ℕ) → result ≡ Status.Device Device.Trace at → Rose (S.faults trace.old) (S.faults trace.new) }
+{
+    let node = match read_node(alloc, text) {
+        Ok(node) => node,
+        Err(FormRefusal::NotOfForm) => return Status::Refused(Refusal::NotBuilt),
+        Err(FormRefusal::Memory) => return Status::Memory,
+    };
+    let Ok(scenario) = scenario_of(alloc, node) else {
+        return Status::Memory;
+    };
+    match Machine::make(alloc, scenario, SEED, BUDGET) {
+        Ok(mut machine) => run(alloc, &mut machine, limit, trace),
+        Err(_) => Status::Memory,
+    }
+}

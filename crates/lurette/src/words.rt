@@ -1,0 +1,77 @@
+//! The words of a call.
+
+ghost use Rattle.std.specs.Prelude.{◌≡◌, ◌≤◌, map, string_bytes, Ok, Err, MatchResult, IfOk};
+ghost use Rattle.lurette.specs.Words.{requested, limit_in, limit_of, up_to_million};
+
+use crate::status::UsageKind;
+
+/// The most steps that a call may ask for.
+const MOST_STEPS: u64 = 1_000_000;
+
+/// What the words of a call ask for.
+#[derive(Clone, Copy, Debug)]
+pub struct Request<'a> {
+    /// The name of the scenario's file.
+    pub file: &'a str,
+
+    /// The most steps.
+    pub limit: u64,
+}
+
+/// What the words ask for: `run FILE [-l N]`.
+pub fn requested(words: &[String]) -> Result<Request<'_>, UsageKind>
+    ensures reads { MatchResult result
+        (λ a. requested (map string_bytes words.now) ≡ Ok (record { file = a.file.now; limit = a.limit }))
+        (λ kind. requested (map string_bytes words.now) ≡ Err kind) }
+    ensures few { IfOk result (λ r. r.limit ≤ 1000000) }
+{
+    let [mode, file, options @ ..] = words else {
+        return Err(UsageKind::Words);
+    };
+    let Some(limit) = limit_among(options) else {
+        return Err(UsageKind::Words);
+    };
+    if mode.as_str() != "run" {
+        return Err(UsageKind::Mode);
+    }
+    Ok(Request { file, limit })
+}
+
+// The limit that the options give; none where they are no options.
+fn limit_among(options: &[String]) -> Option<u64>
+    ensures { result ≡ limit_in (map string_bytes options.now) }
+{
+    match options {
+        [] => Some(100),
+        [option, word] if option.as_str() == "-l" => limit(word),
+        _ => None,
+    }
+}
+
+// The number of steps that a word writes, where it is one of at most a million.
+fn limit(word: &str) -> Option<u64>
+    ensures { result ≡ limit_of word.now }
+{
+    match word.as_bytes() {
+        [] | [b'0', _, ..] => None,
+        digits => number(digits),
+    }
+}
+
+// The number that digits write, where they are digits, and it is one of at most a million.
+#[tactic(auto, using(crate::proofs::Numbers::too_large))]
+fn number(digits: &[u8]) -> Option<u64>
+    ensures { result ≡ up_to_million digits.now }
+{
+    let mut number: u64 = 0;
+    for digit in digits {
+        if !digit.is_ascii_digit() {
+            return None;
+        }
+        number = 10 * number + u64::from(*digit - b'0');
+        if number > MOST_STEPS {
+            return None;
+        }
+    }
+    Some(number)
+}
