@@ -11,4 +11,8 @@ mod machine;
 mod search;
 
 pub use drawing::draw_is_legal;
+pub use lt_term::Memory;
 pub use machine::{Machine, Outcome};
+
+#[cfg(test)]
+mod tests;

@@ -26,6 +26,9 @@ use std::rt::Env;
 use std::{env, io};
 use top::lurette;
 
+#[cfg(test)]
+mod tests;
+
 fn main(rt: HostRuntime) -> ExitCode {
     let words = match words_of(&rt) {
         Ok(words) => words,
