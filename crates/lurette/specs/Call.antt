@@ -79,3 +79,17 @@ Tells request contents old new (status.Usage kind) = ⊥
 abbrev pub AsksFor : Request → List (List ℕ) → List (List ℕ) → Status → Type 0
 AsksFor request old new status.Memory = (new ≡ old) ⊎ (new ≡ old ++ request.file ∷ [])
 AsksFor request old new _ = new ≡ old ++ request.file ∷ []
+
+-- the call was not cut short by a device or for want of memory
+abbrev pub IsWhole : Status → Type 0
+IsWhole (status.Device what at) = ⊥
+IsWhole status.Memory = ⊥
+IsWhole _ = Unit {0}
+
+-- Two calls that ask for the same of the same contents append the same bytes to their traces, whatever these held
+-- before, where neither is cut short.
+abbrev pub SameCallSameBytes : Type 0
+SameCallSameBytes =
+    (request : Request) (contents old new old' new' : List ℕ) (s s' : Status) →
+    Tells request (Some contents) (Some old) (Some new) s → Tells request (Some contents) (Some old') (Some new') s' → IsWhole s → IsWhole s' →
+    (bytes : List ℕ) × (new ≡ old ++ bytes) × (new' ≡ old' ++ bytes)

@@ -20,7 +20,7 @@ use lt_step::{Machine, Outcome};
 use std::alloc::Global;
 
 /// The seed of every run.
-const SEED: u64 = 0;
+pub const SEED: u64 = 0;
 
 /// Runs a machine that has not stepped, for at most `limit` steps, and writes the trace.
 pub fn run<S: Sink>(alloc: Global, machine: &mut Machine, limit: u64, trace: &mut S) -> Status

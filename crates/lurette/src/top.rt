@@ -5,11 +5,11 @@ ghost use Rattle.std.specs.Io.KnownBytes.{Appends, Keeps};
 ghost use Rattle.lt_io.specs.Causes.{Rose};
 ghost use Rattle.lurette.specs.Lines.{status_lines};
 ghost use Rattle.lurette.specs.Words.{requested};
-ghost use Rattle.lurette.specs.Call.{Tells, TextTells, AsksFor};
+ghost use Rattle.lurette.specs.Call.{Tells, TextTells, AsksFor, SameCallSameBytes};
 
 use crate::form::{FormRefusal, read_node};
 use crate::prepare::scenario_of;
-use crate::run::run;
+use crate::run::{SEED, run};
 use crate::say::say;
 use crate::status::{Device, Refusal, Status, UsageKind};
 use crate::words::requested;
@@ -20,10 +20,7 @@ use std::alloc::Global;
 /// The longest text of a scenario, in bytes.
 pub const LONGEST: usize = 1_048_576;
 
-/// The seed of every run.
-const SEED: u64 = 0;
-
-/// The greatest need of a search.
+// The greatest need of a search.
 const BUDGET: u64 = 10_000_000;
 
 /// Does what the words behind the program's name ask for: `run FILE [-l N]` reads the scenario FILE, runs
@@ -102,3 +99,10 @@ fn serve_text<S: Sink>(alloc: Global, text: &[u8], limit: u64, trace: &mut S) ->
         Err(_) => Status::Memory,
     }
 }
+
+/// Two calls that ask for the same of the same contents, and that nothing cuts short, write the same
+/// bytes.
+#[tactic(auto, using(crate::proofs::Calls::same_call_same_bytes))]
+pub fn same_call_same_bytes()
+    ensures { SameCallSameBytes }
+{}
