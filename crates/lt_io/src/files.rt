@@ -35,8 +35,8 @@ pub trait Files {
 
     /// Reads the whole file `name`, of `most` bytes at most. A longer one is `TooLong`.
     ///
-    /// The name is recorded among those that were asked for. `Failed` comes only where the count of
-    /// faults rose. A call that answers `Memory` records no name and leaves the count as it was.
+    /// The name is recorded among those that were asked for, but not where the answer is `Memory`.
+    /// `Failed` comes only where the count of faults rose, and any other answer leaves it as it was.
     fn read(&mut self, alloc: Global, name: &str, most: usize) -> Result<Vec<u8>, FileRefusal>
         ensures told { IfOk result (λ v. WhereTold (contents self.old name.now) (λ bytes. v.items ≡ bytes)) }
         ensures within { IfOk result (λ v. length v.items ≤ most) }
@@ -48,10 +48,10 @@ pub trait Files {
         ensures asks { result ≢ Err FileRefusal.Memory → asked self.new ≡ asked self.old ++ name.now ∷ [] }
         ensures none_asked { result ≡ Err FileRefusal.Memory → asked self.new ≡ asked self.old }
 
-        // The count of faults never falls, and a failure raises it.
+        // The count of faults never falls, a failure raises it, and nothing else changes it.
         ensures later { faults self.old ≤ faults self.new }
         ensures cause { result ≡ Err FileRefusal.Failed → Rose (faults self.old) (faults self.new) }
-        ensures none_failed { result ≡ Err FileRefusal.Memory → faults self.new ≡ faults self.old };
+        ensures calm { result ≢ Err FileRefusal.Failed → faults self.new ≡ faults self.old };
 }
 
 // Ends a call that read the file `name`: records the name, and counts a fault where the call failed.

@@ -83,7 +83,7 @@ impl Files for MemFiles {
             names_of self.new.asked.items ≡ names_of self.old.asked.items }
         ensures later { self.old.faults ≤ self.new.faults }
         ensures cause { result ≡ Err FileRefusal.Failed → Rose self.old.faults self.new.faults }
-        ensures none_failed { result ≡ Err FileRefusal.Memory → self.new.faults ≡ self.old.faults }
+        ensures calm { result ≢ Err FileRefusal.Failed → self.new.faults ≡ self.old.faults }
 
         // Beyond the trait: which calls fail, that the others find the file, and what each call leaves.
         ensures fails { result ≢ Err FileRefusal.Memory →
@@ -94,7 +94,6 @@ impl Files for MemFiles {
         ensures calls { result ≢ Err FileRefusal.Memory → self.new.calls ≡ risen self.old.calls }
         ensures none_called { result ≡ Err FileRefusal.Memory → self.new.calls ≡ self.old.calls }
         ensures fault { result ≡ Err FileRefusal.Failed → self.new.faults ≡ risen self.old.faults }
-        ensures no_fault { result ≢ Err FileRefusal.Failed → self.new.faults ≡ self.old.faults }
     {
         let copied = self.copied(alloc, name, most);
         let answer = concluded(alloc, name, copied, &mut self.asked, &mut self.faults);

@@ -23,7 +23,8 @@ pub trait Sink {
     /// Offers a piece that is not empty, and answers how many of its first bytes were taken: one at
     /// least, and perhaps fewer than all. The rest may be offered again.
     ///
-    /// `Failed` comes only where the count of faults rose, and then no byte was taken.
+    /// `Failed` comes only where the count of faults rose, and then no byte was taken. A call that
+    /// takes bytes leaves the count as it was.
     fn write(&mut self, bytes: &[u8]) -> Result<usize, Failed>
         requires { 0 < length bytes.now }
         ensures some { IfOk result (λ n. 0 < n) }

@@ -1,5 +1,5 @@
 -- What is drawn of a tree.
-use Rattle.std.proofs.Common.{◌≡◌, ℕ, ◌<◌, Vec, Global, Bool, true, false, IsTrue, List, [], ◌∷◌, ◌++◌, length, get_or, map, Some, None, Ok, Err, refl, ap, sym, ◌∙◌, arith, MatchOption, IsSome, IfOk, if◌then◌else◌, ◌&&◌}
+use Rattle.std.proofs.Common.{◌↔◌, ◌≡◌, ℕ, ◌<◌, Vec, Global, Bool, true, false, IsTrue, List, [], ◌∷◌, ◌++◌, length, get_or, map, Some, None, Ok, Err, refl, ap, sym, ◌∙◌, arith, MatchOption, IsSome, IfOk, if◌then◌else◌, ◌&&◌}
 use Rattle.std.specs.declared.option.Option.{Option}
 use Rattle.std.specs.declared.result.Result.{Result}
 use Rattle.std.specs.List.{list_all}
@@ -7,7 +7,7 @@ use Rattle.lt_term.specs.Expression.{Expression}
 use Rattle.lt_term.specs.Process.{Process}
 use Rattle.lt_term.specs.Solution.{first_solution, IsSatisfiable, IsSolution, IsFirstFrom}
 use Rattle.lt_term.proofs.Solutions.{first_solution_is_first}
-use Rattle.lt_term.specs.Offers.{Leaf, vanish, go, Tree, leaf, flattened, leaf_is_within}
+use Rattle.lt_term.specs.Offers.{Leaf, vanish, go, Tree, leaf, flattened, leaf_is_within, offers_of}
 use Rattle.lt_term.specs.Live.{HasLive, IsLegal}
 use Rattle.lt_term.specs.Scene.{Scene, Configuration, Variable, output_kinds}
 use Rattle.lt_term.specs.View.{process_over, node_leaf, node_leaves}
@@ -21,7 +21,7 @@ use Rattle.lt_term.specs.declared.tree.TreeNode.TheVariants.{Vanish, Go}
 use Rattle.lt_term.specs.declared.value.Kind.{Kind}
 use Rattle.lt_term.specs.declared.value.Value.{Value}
 use Rattle.lt_step.specs.Drawn.{drawn_position, drawn_leaf, DrawIsLegal}
-use Rattle.lt_step.specs.Instant.{taken}
+use Rattle.lt_step.specs.Instant.{deadlock, taken, DeadlockMeansNoneLive}
 use Rattle.lt_step.specs.Search.{Finds, expressions_at}
 use Rattle.lt_step.specs.LeafView.{leaf_over, instant_by, Decides}
 
@@ -36,6 +36,20 @@ go_is_legal kinds es n (Some vs) e h = rw e ((refl, (vs, h.0)), refl, (vs, h.0))
 pub draw_is_legal : DrawIsLegal
 draw_is_legal kinds (leaf vanish) = ((refl, tt), refl, tt)
 draw_is_legal kinds (leaf (go es n)) = go_is_legal kinds es n (first_solution es kinds) refl (first_solution_is_first es kinds)
+
+-- the instant of a go leaf, whose search found something or nothing
+go_deadlock : (s : Scene) (c : Configuration) (es : List Expression) (n : Process Expression) (o : Option (List Value)) → first_solution es (output_kinds s) ≡ o
+    → MatchOption o (IsSatisfiable es (output_kinds s) → ⊥) (λ vs. IsSolution es [] (output_kinds s) vs × IsFirstFrom es [] (output_kinds s) vs)
+    → (taken s c (drawn_leaf (output_kinds s) (leaf (go es n))) ≡ deadlock) ↔ (IsSatisfiable es (output_kinds s) → ⊥)
+go_deadlock s c es n None e h = rw e ((λ _. h, λ _. refl))
+go_deadlock s c es n (Some vs) e h = rw (e, e) ((λ is. cc, λ none. absurd (none (vs, h.0))))
+
+tree_deadlock : (s : Scene) (c : Configuration) (t : Tree Expression) → (taken s c (drawn_leaf (output_kinds s) t) ≡ deadlock) ↔ (HasLive (output_kinds s) t → ⊥)
+tree_deadlock s c (leaf vanish) = (λ is. cc, λ none. absurd (none tt))
+tree_deadlock s c (leaf (go es n)) = go_deadlock s c es n (first_solution es (output_kinds s)) refl (first_solution_is_first es (output_kinds s))
+
+pub deadlock_means_none_live : DeadlockMeansNoneLive
+deadlock_means_none_live s c = tree_deadlock s c (offers_of c.process)
 
 -- The code.
 

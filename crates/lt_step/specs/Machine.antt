@@ -1,4 +1,6 @@
 -- A machine of instants.
+use Rattle.std.specs.Prelude.{List, []}
+use Rattle.lt_term.specs.declared.value.Value.{Value}
 use Rattle.lt_term.specs.Scene.{Scene, Configuration, first_configuration}
 use Rattle.lt_step.specs.Instant.{Instant, values, normal, deadlock, instant_of}
 use Rattle.lt_step.specs.declared.machine.Outcome.{Outcome}
@@ -40,6 +42,11 @@ step_of m = step_in m.scene m.phase
 abbrev pub IfGoing : Phase → (Configuration → Type 0) → Type 0
 IfGoing (going c) P = P c
 IfGoing over P = Unit {0}
+
+-- the outputs of the last instant, none before the first one and after the end
+abbrev pub outputs_in : Phase → List Value
+outputs_in (going c) = c.outputs
+outputs_in over = []
 
 abbrev pub IsGoing : Phase → Type 0
 IsGoing (going c) = Unit {0}

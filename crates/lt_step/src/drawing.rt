@@ -7,7 +7,7 @@ ghost use Rattle.lt_term.specs.Scene.{Configuration, output_kinds};
 ghost use Rattle.lt_term.specs.View.{process, process_over, table_len, node_leaf};
 ghost use Rattle.lt_term.specs.SceneView.{scene};
 ghost use Rattle.lt_step.specs.Drawn.{DrawIsLegal};
-ghost use Rattle.lt_step.specs.Instant.{instant_of};
+ghost use Rattle.lt_step.specs.Instant.{instant_of, DeadlockMeansNoneLive};
 ghost use Rattle.lt_step.specs.LeafView.{leaf_over, instant_by, Decides};
 
 use crate::search::extend;
@@ -55,3 +55,10 @@ fn is_live(scenario: &Scenario, node: &TreeNode, outputs: &mut Vec<Value>) -> Re
 pub fn draw_is_legal()
     ensures { DrawIsLegal }
 {}
+
+/// An instant is a deadlock exactly where no leaf that can be taken is live.
+#[tactic(auto, using(crate::proofs::Draws::deadlock_means_none_live))]
+pub fn deadlock_means_none_live()
+    ensures { DeadlockMeansNoneLive }
+{
+}

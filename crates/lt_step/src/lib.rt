@@ -10,7 +10,7 @@ mod drawing;
 mod machine;
 mod search;
 
-pub use drawing::draw_is_legal;
+pub use drawing::{deadlock_means_none_live, draw_is_legal};
 pub use lt_term::Memory;
 pub use machine::{Machine, Outcome};
 

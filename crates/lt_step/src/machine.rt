@@ -3,7 +3,7 @@
 ghost use Rattle.std.specs.Prelude.{◌≡◌, ◌≢◌, ◌≤◌, ℕ, IsTrue, IfOk, length, map, string_bytes};
 ghost use Rattle.lt_term.specs.Process.{is_within};
 ghost use Rattle.lt_term.specs.View.{process, table_len};
-ghost use Rattle.lt_step.specs.Machine.{going, over, started, step_of, IfGoing, IsGoing};
+ghost use Rattle.lt_step.specs.Machine.{going, over, started, step_of, outputs_in, IfGoing, IsGoing};
 
 use crate::drawing::drawn;
 use lt_term::{Memory, Scenario, Term, TreeNode, Value, Var};
@@ -96,11 +96,12 @@ impl Machine {
             }
         }
     }
-    /// The outputs of the last instant, where it gave them values.
+    /// The outputs of the last instant, in their order: none before the first one, and none after the
+    /// end.
     pub fn outputs(&self) -> &[Value]
-        ensures { IfGoing (machine_state self.now).phase (λ c. result.now ≡ c.outputs) }
+        ensures { result.now ≡ outputs_in (machine_state self.now).phase }
     {
-        &self.outputs
+        if self.is_over { &[] } else { &self.outputs }
     }
 
     /// The inputs of the scenario.

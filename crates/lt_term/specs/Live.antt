@@ -5,7 +5,7 @@ use Rattle.lt_term.specs.Solution.{IsSatisfiable}
 use Rattle.lt_term.specs.Offers.{Leaf, vanish, go, Tree, leaf}
 use Rattle.lt_term.specs.declared.value.Kind.{Kind}
 
--- a term that is over can be, and an instant whose constraints some outputs of these kinds make true
+-- a term that is over is live; an instant is where some outputs of these kinds make its constraints true
 abbrev pub IsLive : List Kind → Leaf Expression → Type 0
 IsLive kinds vanish = Unit {0}
 IsLive kinds (go es n) = IsSatisfiable es kinds

@@ -56,7 +56,7 @@ first_solution_from es fixed (k ∷ ks) = first_some (λ v. with_first v (first_
 abbrev pub first_solution : List Expression → List Kind → Option (List Value)
 first_solution es kinds = first_solution_from es [] kinds
 
--- the first of these values with which those fixed extend to a solution, where it is one of them at all
+-- it is one of these values, and with none before it do those fixed extend to a solution
 abbrev pub IsFirstAmong : List Expression → List Value → List Kind → List Value → Value → Type 0
 IsFirstAmong es fixed kinds [] v = ⊥
 IsFirstAmong es fixed kinds (u ∷ us) v = (v ≡ u) ⊎ ((IsSatisfiableFrom es (fixed ++ u ∷ []) kinds → ⊥) × IsFirstAmong es fixed kinds us v)

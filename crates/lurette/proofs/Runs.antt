@@ -12,12 +12,12 @@ use Rattle.lt_term.specs.Scene.{Scene, Configuration, output_kinds}
 use Rattle.lt_step.specs.Drawn.{drawn_leaf}
 use Rattle.lt_term.specs.declared.value.Value.{Value}
 use Rattle.lt_step.specs.Instant.{Instant, values, normal, deadlock, instant_of, gone_on, taken}
-use Rattle.lt_step.specs.Machine.{Phase, going, over, State, Step, answered, step_of, step_in}
+use Rattle.lt_step.specs.Machine.{Phase, going, over, State, Step, outputs_in, answered, step_of, step_in}
 use Rattle.lt_step.specs.declared.machine.Outcome.TheVariants as outcome
-use Rattle.lurette.specs.Play.{Play, Ending, ended, behind, goes_on, play_from, trace_pieces, joined, trace_text}
+use Rattle.lurette.specs.Play.{Play, Ending, EndsWell, ended, behind, goes_on, play_from, trace_pieces, joined, trace_text}
 use Rattle.lurette.specs.TraceText.{step_text}
 use Rattle.lurette.specs.Writing.{AppendsPart}
-use Rattle.lurette.specs.Running.{rest_in, rest_of, IsAt, outputs_in, EndsHere, FailsIn, Follows}
+use Rattle.lurette.specs.Running.{rest_in, rest_of, IsAt, EndsHere, FailsIn, Follows}
 use Rattle.lurette.specs.Call.{IsCutAt, Shows}
 use Rattle.lurette.specs.declared.ending.End.TheVariants as end
 use Rattle.lurette.specs.declared.status.Status.{Status}
@@ -169,7 +169,8 @@ cut_here k at whole rest text later before now then f same e part =
 
 -- a run whose rest was put out
 pub shows : (k : ℕ) (whole rest : Play) (before now then : Option (List ℕ)) (s : Status) → Follows k whole rest before now → EndsHere k rest now then s → Shows whole before then s
-shows k whole rest before now then status.Ended f e = (λ d. e.0 (ap (λ (x : Ending). x.end) f.ending ∙ d), whole_text k whole rest before now then f e.1)
+shows k whole rest before now then status.Ended f e =
+    let P : Ending → Type 0 = λ x. EndsWell x.end in (subst P f.ending e.0, whole_text k whole rest before now then f e.1)
 shows k whole rest before now then (status.Deadlock at) f e = (sym f.ending ∙ e.0, whole_text k whole rest before now then f e.1)
 shows k whole rest before now then (status.Device device.Trace at) f e = cut_here k at whole rest e.1 e.2 before now then f e.0 e.3 e.4
 shows k whole rest before now then status.Memory f e =

@@ -1,14 +1,14 @@
 -- What one call does.
-use Rattle.std.specs.Prelude.{◌≡◌, ◌≢◌, ℕ, ◌<◌, ◌≤◌, ◌⊎◌, List, [], ◌∷◌, ◌++◌, length, take, slice_get, Some}
+use Rattle.std.specs.Prelude.{◌≡◌, ℕ, ◌<◌, ◌≤◌, ◌⊎◌, List, [], ◌∷◌, ◌++◌, length, take, slice_get, Some}
 use Rattle.std.specs.Io.KnownBytes.{Keeps, Appends}
 use Rattle.std.specs.declared.option.Option.{Option}
-use Rattle.lt_io.specs.Causes.{WhereTold}
+use Rattle.lt_io.specs.Causes.{Rose, WhereTold}
 use Rattle.lurette.specs.Writing.{AppendsFront}
 use Rattle.lt_ast.specs.Syntax.{NodeTree}
 use Rattle.lurette.specs.Form.{Spells}
 use Rattle.lurette.specs.Words.{Request}
 use Rattle.lurette.specs.Prepared.{scene_of}
-use Rattle.lurette.specs.Play.{Play, play_of, trace_pieces, joined, trace_text}
+use Rattle.lurette.specs.Play.{Play, EndsWell, play_of, trace_pieces, joined, trace_text}
 use Rattle.lurette.specs.declared.top.TheConstants.{LONGEST}
 use Rattle.lurette.specs.declared.ending.End.TheVariants as end
 use Rattle.lurette.specs.declared.status.Status.{Status}
@@ -24,7 +24,7 @@ IsCutAt k texts old new =
 -- What a run and its trace tell of its status.
 abbrev pub Shows : Play → Option (List ℕ) → Option (List ℕ) → Status → Type 0
 -- it ended by itself or at its limit, and the trace is its text
-Shows play old new status.Ended = (play.ending.end ≢ end.Deadlock) × Appends old new (trace_text play)
+Shows play old new status.Ended = EndsWell play.ending.end × Appends old new (trace_text play)
 -- it ended by a deadlock in the instant of this number, and the trace is its text
 Shows play old new (status.Deadlock at) = (play.ending ≡ record { end = end.Deadlock; at = at }) × Appends old new (trace_text play)
 -- a write failed, in the text of this number, and the trace is what was written before
@@ -74,6 +74,16 @@ Tells request contents old new (status.Deadlock at) = OfFile contents (λ text. 
 Tells request contents old new (status.Device device.Trace at) = OfFile contents (λ text. TextTells text request.limit old new (status.Device device.Trace at))
 -- the words were right
 Tells request contents old new (status.Usage kind) = ⊥
+
+-- The trace's count of faults rose exactly where the trace is blamed.
+abbrev pub CountsTrace : Status → ℕ → ℕ → Type 0
+CountsTrace (status.Device device.Trace at) before now = Rose before now
+CountsTrace _ before now = now ≡ before
+
+-- The files' count of faults rose exactly where the file is blamed.
+abbrev pub CountsFile : Status → ℕ → ℕ → Type 0
+CountsFile (status.Device device.File at) before now = Rose before now
+CountsFile _ before now = now ≡ before
 
 -- which names files were asked for, where the words were right: the one file, unless memory ran out before
 abbrev pub AsksFor : Request → List (List ℕ) → List (List ℕ) → Status → Type 0

@@ -25,6 +25,12 @@ pub record Ending : Type 0 where
   pub end : End
   pub at : ℕ
 
+-- the run ended by itself or at its limit
+abbrev pub EndsWell : End → Type 0
+EndsWell Normal = Unit {0}
+EndsWell Limit = Unit {0}
+EndsWell Deadlock = ⊥
+
 pub record Play : Type 0 where
   pub pieces : List Piece
   pub ending : Ending

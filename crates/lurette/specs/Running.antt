@@ -1,11 +1,10 @@
 -- A run that is under way: what its machine has still to put out, and how one more instant shows.
-use Rattle.std.specs.Prelude.{◌≡◌, ◌≢◌, ℕ, suc, ◌+◌, List, [], ◌∷◌, take, drop}
+use Rattle.std.specs.Prelude.{◌≡◌, ℕ, suc, ◌+◌, List, [], ◌∷◌, take, drop}
 use Rattle.std.specs.Io.KnownBytes.{Appends, Keeps}
 use Rattle.std.specs.declared.option.Option.{Option}
 use Rattle.lt_term.specs.Scene.{Scene}
-use Rattle.lt_term.specs.declared.value.Value.{Value}
-use Rattle.lt_step.specs.Machine.{Phase, going, over, State}
-use Rattle.lurette.specs.Play.{Play, ended, behind, play_from, trace_pieces, joined, trace_text}
+use Rattle.lt_step.specs.Machine.{Phase, going, over, State, outputs_in}
+use Rattle.lurette.specs.Play.{Play, EndsWell, ended, behind, play_from, trace_pieces, joined, trace_text}
 use Rattle.lurette.specs.TraceText.{step_text}
 use Rattle.lurette.specs.Writing.{AppendsPart}
 use Rattle.lurette.specs.declared.ending.End.TheVariants as end
@@ -26,10 +25,6 @@ abbrev pub IsAt : ℕ → Phase → Type 0
 IsAt step (going c) = c.step ≡ step
 IsAt step over = ⊥
 
-abbrev pub outputs_in : Phase → List Value
-outputs_in (going c) = c.outputs
-outputs_in over = []
-
 -- one more step was made and written
 pub record GoesOn (step : ℕ) (old new : State) (before now : Option (List ℕ)) : Type 0 where
   pub scene : new.scene ≡ old.scene
@@ -40,7 +35,7 @@ pub record GoesOn (step : ℕ) (old new : State) (before now : Option (List ℕ)
 -- The rest of a run was put out, or a write of its first text failed, which has this number, or memory ran out
 -- before one.
 abbrev pub EndsHere : ℕ → Play → Option (List ℕ) → Option (List ℕ) → Status → Type 0
-EndsHere next rest before now status.Ended = (rest.ending.end ≢ end.Deadlock) × Appends before now (trace_text rest)
+EndsHere next rest before now status.Ended = EndsWell rest.ending.end × Appends before now (trace_text rest)
 EndsHere next rest before now (status.Deadlock at) = (rest.ending ≡ record { end = end.Deadlock; at = at }) × Appends before now (trace_text rest)
 EndsHere next rest before now (status.Device device.Trace at) =
     (at ≡ next) × (text : List ℕ) × (later : List (List ℕ)) × (trace_pieces rest ≡ text ∷ later) × AppendsPart before now text

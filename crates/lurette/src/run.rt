@@ -2,14 +2,13 @@
 
 ghost use Rattle.std.specs.Prelude.{◌≡◌, ◌≤◌, ℕ, suc, ◌+◌, [], Some, IfNone, IfSome};
 ghost use Rattle.std.specs.Io.KnownBytes.{Appends};
-ghost use Rattle.lt_io.specs.Causes.{Rose};
 ghost use Rattle.lt_term.specs.Scene.{Scene};
-ghost use Rattle.lt_step.specs.Machine.{started};
+ghost use Rattle.lt_step.specs.Machine.{started, outputs_in};
 ghost use Rattle.lt_step.specs.View.{machine_state};
 ghost use Rattle.lurette.specs.Play.{play_of, ended};
-ghost use Rattle.lurette.specs.Running.{rest_of, outputs_in, IsAt, GoesOn, EndsHere, FailsIn};
+ghost use Rattle.lurette.specs.Running.{rest_of, IsAt, GoesOn, EndsHere, FailsIn};
 ghost use Rattle.lurette.specs.TraceText.{step_text};
-ghost use Rattle.lurette.specs.Call.{Shows};
+ghost use Rattle.lurette.specs.Call.{Shows, CountsTrace};
 
 use crate::ending::End;
 use crate::put::put;
@@ -28,7 +27,7 @@ pub fn run<S: Sink>(alloc: Global, machine: &mut Machine, limit: u64, trace: &mu
     requires inputs { (machine_state machine.old).scene.inputs ≡ [] }
     requires few { limit ≤ 1000000 }
     ensures shows { Shows (play_of (machine_state machine.old).scene (record { seed = 0; limit = limit })) (S.written trace.old) (S.written trace.new) result }
-    ensures cause { (at : ℕ) → result ≡ Status.Device Device.Trace at → Rose (S.faults trace.old) (S.faults trace.new) }
+    ensures faults { CountsTrace result (S.faults trace.old) (S.faults trace.new) }
 {
     let mut text = Vec::new(alloc);
     if write_header(&mut text, SEED, machine.output_vars(), machine.input_vars()).is_err() {
@@ -59,8 +58,8 @@ fn advance<S: Sink>(
     requires few { step ≤ 1000000 }
     ensures goes_on { IfNone result (GoesOn step (machine_state machine.old) (machine_state machine.new) (S.written trace.old) (S.written trace.new)) }
     ensures ends { IfSome result (λ s. (left : ℕ) → EndsHere step (rest_of (machine_state machine.old) (suc left)) (S.written trace.old) (S.written trace.new) s) }
-    ensures cause { (at : ℕ) → result ≡ Some (Status.Device Device.Trace at) → Rose (S.faults trace.old) (S.faults trace.new) }
-    ensures later { S.faults trace.old ≤ S.faults trace.new }
+    ensures calm { IfNone result (S.faults trace.new ≡ S.faults trace.old) }
+    ensures faults { IfSome result (λ s. CountsTrace s (S.faults trace.old) (S.faults trace.new)) }
 {
     match machine.step(alloc, &[]) {
         Outcome::Values => write_out(machine, step, text, trace),
@@ -74,8 +73,7 @@ fn advance<S: Sink>(
 // Writes the end line, which is the text of number `next` in the trace. The status of the run.
 fn finish<S: Sink>(end: End, at: u64, next: u64, text: &mut Vec<u8>, trace: &mut S) -> Status
     ensures ends { EndsHere next (ended end at) (S.written trace.old) (S.written trace.new) result }
-    ensures cause { (number : ℕ) → result ≡ Status.Device Device.Trace number → Rose (S.faults trace.old) (S.faults trace.new) }
-    ensures later { S.faults trace.old ≤ S.faults trace.new }
+    ensures faults { CountsTrace result (S.faults trace.old) (S.faults trace.new) }
 {
     text.clear();
     if write_end(text, end, at).is_err() {
@@ -100,8 +98,8 @@ fn write_out<S: Sink>(
     requires { IsAt (step + 1) (machine_state machine.now).phase }
     ensures written { IfNone result (Appends (S.written trace.old) (S.written trace.new) (step_text step (outputs_in (machine_state machine.now).phase))) }
     ensures fails { IfSome result (FailsIn step (step_text step (outputs_in (machine_state machine.now).phase)) (S.written trace.old) (S.written trace.new)) }
-    ensures cause { (at : ℕ) → result ≡ Some (Status.Device Device.Trace at) → Rose (S.faults trace.old) (S.faults trace.new) }
-    ensures later { S.faults trace.old ≤ S.faults trace.new }
+    ensures calm { IfNone result (S.faults trace.new ≡ S.faults trace.old) }
+    ensures faults { IfSome result (λ s. CountsTrace s (S.faults trace.old) (S.faults trace.new)) }
 {
     text.clear();
     if write_step(text, step, machine.outputs()).is_err() {

@@ -1,11 +1,11 @@
 //! The call of the program.
 
-ghost use Rattle.std.specs.Prelude.{◌≡◌, ◌↔◌, ◌≤◌, ◌⊎◌, ℕ, Err, IfOk, OnErr, map, string_bytes};
+ghost use Rattle.std.specs.Prelude.{◌≡◌, ◌≢◌, ◌↔◌, ◌≤◌, ◌⊎◌, ℕ, Err, IfOk, OnErr, map, string_bytes};
 ghost use Rattle.std.specs.Io.KnownBytes.{Appends, Keeps};
 ghost use Rattle.lt_io.specs.Causes.{Rose};
 ghost use Rattle.lurette.specs.Lines.{status_lines};
 ghost use Rattle.lurette.specs.Words.{requested};
-ghost use Rattle.lurette.specs.Call.{Tells, TextTells, AsksFor, SameCallSameBytes};
+ghost use Rattle.lurette.specs.Call.{Tells, TextTells, CountsFile, CountsTrace, AsksFor, SameCallSameBytes};
 
 use crate::form::{FormRefusal, read_node};
 use crate::prepare::scenario_of;
@@ -43,9 +43,9 @@ pub fn lurette<F: Files, S: Sink, M: Sink>(
     // .. and no other file was asked for.
     ensures asks { IfOk (requested (map string_bytes words.now)) (λ request. AsksFor request (F.asked files.old) (F.asked files.new) result) }
 
-    // A device is blamed only where its count of faults rose.
-    ensures file { (at : ℕ) → result ≡ Status.Device Device.File at → Rose (F.faults files.old) (F.faults files.new) }
-    ensures trace { (at : ℕ) → result ≡ Status.Device Device.Trace at → Rose (S.faults trace.old) (S.faults trace.new) }
+    // A device is blamed exactly where its count of faults rose.
+    ensures file { CountsFile result (F.faults files.old) (F.faults files.new) }
+    ensures trace { CountsTrace result (S.faults trace.old) (S.faults trace.new) }
 
     // Where no fault was counted in saying it, the line of the status was said, and nothing else.
     ensures says { Rose (M.faults says.old) (M.faults says.new) ⊎ Appends (M.written says.old) (M.written says.new) (status_lines result) }
@@ -69,8 +69,8 @@ fn serve<F: Files, S: Sink>(
     requires { limit ≤ 1000000 }
     ensures tells { Tells (record { file = file.now; limit = limit }) (F.contents files.old file.now) (S.written trace.old) (S.written trace.new) result }
     ensures asks { AsksFor (record { file = file.now; limit = limit }) (F.asked files.old) (F.asked files.new) result }
-    ensures file { (at : ℕ) → result ≡ Status.Device Device.File at → Rose (F.faults files.old) (F.faults files.new) }
-    ensures trace { (at : ℕ) → result ≡ Status.Device Device.Trace at → Rose (S.faults trace.old) (S.faults trace.new) }
+    ensures file { CountsFile result (F.faults files.old) (F.faults files.new) }
+    ensures trace { CountsTrace result (S.faults trace.old) (S.faults trace.new) }
 {
     match files.read(alloc, file, LONGEST) {
         Ok(text) => serve_text(alloc, &text, limit, trace),
@@ -84,7 +84,8 @@ fn serve<F: Files, S: Sink>(
 fn serve_text<S: Sink>(alloc: Global, text: &[u8], limit: u64, trace: &mut S) -> Status
     requires { limit ≤ 1000000 }
     ensures shows { TextTells text.now limit (S.written trace.old) (S.written trace.new) result }
-    ensures trace { (at : ℕ) → result ≡ Status.Device Device.Trace at → Rose (S.faults trace.old) (S.faults trace.new) }
+    ensures trace { CountsTrace result (S.faults trace.old) (S.faults trace.new) }
+    ensures no_file { (at : ℕ) → result ≢ Status.Device Device.File at }
 {
     let node = match read_node(alloc, text) {
         Ok(node) => node,

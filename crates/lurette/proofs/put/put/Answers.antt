@@ -1,4 +1,4 @@
-use Rattle.std.proofs.Common.{◌≡◌, ◌≤◌, ◌-◌, arith, length, drop, take, length-drop}
+use Rattle.std.proofs.Common.{◌≡◌, ◌≤◌, ◌-◌, ◌∙◌, arith, length, drop, take, length-drop}
 use Rattle.std.proofs.lemmas.List.{take_all}
 use Rattle.lurette.proofs.Texts.{written_more}
 use Rattle.lurette.proofs.put.put.Goals as goal
@@ -12,5 +12,5 @@ loop-written-preserved g c =
     record {
       short = omega (arith, within, length-drop c.loop-written.written text);
       front = written_more (g.S.Sink.written c.args.sink.now) (g.S.Sink.written c.loop-written.sink) (g.S.Sink.written c.write.new.self) text c.loop-written.written c.in_ok-written.field-0 c.loop-written.invariant.front appends;
-      later = omega (arith, c.loop-written.invariant.later, c.in_ok-written.ensures.cause.later);
+      calm = c.in_ok-written.ensures.cause.calm ∙ c.loop-written.invariant.calm;
     }

@@ -1,4 +1,4 @@
-use Rattle.std.proofs.Common.{◌-◌, ◌≤◌, length, take}
+use Rattle.std.proofs.Common.{◌≡◌, ◌-◌, ◌≤◌, length, take}
 use Rattle.std.specs.Io.KnownBytes.{Appends}
 use Rattle.lurette.proofs.put.put.Given as goal
 
@@ -7,7 +7,7 @@ abbrev pub invariant-loop-written : goal.invariant-loop-written
 invariant-loop-written g l = record {
   short : l.written ≤ length l.text;
   front : Appends (g.S.Sink.written l.fn.sink) (g.S.Sink.written l.sink) (take l.written l.text);
-  later : g.S.Sink.faults l.fn.sink ≤ g.S.Sink.faults l.sink;
+  calm : g.S.Sink.faults l.sink ≡ g.S.Sink.faults l.fn.sink;
 }
 
 abbrev pub decreases-loop-written : goal.decreases-loop-written

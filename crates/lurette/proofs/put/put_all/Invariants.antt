@@ -1,4 +1,4 @@
-use Rattle.std.proofs.Common.{◌≤◌, take}
+use Rattle.std.proofs.Common.{◌≡◌, ◌≤◌, take}
 use Rattle.std.specs.List.{flat_map}
 use Rattle.std.specs.Io.KnownBytes.{Appends}
 use Rattle.lurette.proofs.put.put_all.Given as goal
@@ -7,5 +7,5 @@ use Rattle.lurette.proofs.put.put_all.Given as goal
 abbrev pub invariant-loop-text : goal.invariant-loop-text
 invariant-loop-text g l = record {
   written : Appends (g.S.Sink.written l.fn.sink) (g.S.Sink.written l.sink) (flat_map (λ text. text.now) (take l.text-index l.texts));
-  later : g.S.Sink.faults l.fn.sink ≤ g.S.Sink.faults l.sink;
+  calm : g.S.Sink.faults l.sink ≡ g.S.Sink.faults l.fn.sink;
 }

@@ -1,6 +1,7 @@
 use Rattle.std.proofs.Common.{suc}
 use Rattle.lt_step.specs.View.{machine_state}
-use Rattle.lurette.specs.Running.{outputs_in, rest_of}
+use Rattle.lt_step.specs.Machine.{outputs_in}
+use Rattle.lurette.specs.Running.{rest_of}
 use Rattle.lurette.specs.TraceText.{step_text}
 use Rattle.lurette.proofs.Runs.{rest_normal, rest_deadlock, rest_values, ends_same, step_fails}
 use Rattle.lurette.proofs.run.advance.Goals as goal

@@ -10,5 +10,5 @@ invariant-loop-steps g l = record {
   scene : (machine_state l.machine).scene ≡ (machine_state l.fn.machine).scene;
   at : IsAt (l.steps + 1) (machine_state l.machine).phase;
   follows : Follows (l.steps + 1) (play_of (machine_state l.fn.machine).scene (record { seed = 0; limit = l.limit })) (rest_of (machine_state l.machine) (l.limit - l.steps)) (g.S.Sink.written l.fn.trace) (g.S.Sink.written l.trace);
-  later : g.S.Sink.faults l.fn.trace ≤ g.S.Sink.faults l.trace;
+  calm : g.S.Sink.faults l.trace ≡ g.S.Sink.faults l.fn.trace;
 }
