@@ -60,5 +60,4 @@ pub fn draw_is_legal()
 #[tactic(auto, using(crate::proofs::Draws::deadlock_means_none_live))]
 pub fn deadlock_means_none_live()
     ensures { DeadlockMeansNoneLive }
-{
-}
+{}

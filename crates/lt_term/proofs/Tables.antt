@@ -37,7 +37,6 @@ ordered-append before outputs (m ∷ ns) n all e h f =
 pub are_ordered-append : (outputs : ℕ) (ns : List ExpNode) (n : ExpNode) → IsTrue (are_ordered 0 outputs ns) → IsTrue (fits (length ns) outputs n) → IsTrue (are_ordered 0 outputs (ns ++ n ∷ []))
 are_ordered-append outputs ns n h f = ordered-append 0 outputs ns n (length ns) (omega arith) h f
 
-
 length_extended : (es : List Expression) (ns : List ExpNode) → length (extended es ns) ≡ length es + length ns
 length_extended es [] = omega arith
 length_extended es (n ∷ ns) = length_extended (es ++ expression_at es n ∷ []) ns ∙ simp length-append (omega arith)

@@ -1,0 +1,15 @@
+pub mod Bools
+pub mod Runs
+pub mod Digits
+pub mod Giving
+pub mod Starts
+pub mod Numbers
+pub mod Finds
+pub mod Symbols
+pub mod Comments
+pub mod Pieces
+pub mod Divisions
+pub mod Progress
+pub mod Answering
+pub mod Keywords
+pub mod Places

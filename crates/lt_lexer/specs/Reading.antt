@@ -1,0 +1,124 @@
+-- How the first piece of a text is found: the middle between the rules and the code.
+use Rattle.std.specs.Prelude.{◌≡◌, ℕ, Bool, nat_eq, nat_le, List, [], ◌∷◌, ◌++◌, drop, length, count_by, Some, None, Ok, Err, if◌then◌else◌, codes}
+use Rattle.std.specs.declared.option.Option.{Option}
+use Rattle.std.specs.declared.result.Result.{Result}
+use Rattle.std.specs.Cmp.Lexicographic.{pointwise}
+use Rattle.std.specs.List.{find}
+use Rattle.std.specs.Char.{is_ascii_digit, is_ascii_alphabetic}
+use Rattle.lt_lexer.specs.Byte.{is_blank, is_word_byte, is_in_line, is_point, begins_with}
+use Rattle.lt_lexer.specs.Symbol.{symbol_bytes}
+use Rattle.lt_lexer.specs.Piece.{Piece, blank, line_comment, block_comment, token, bytes_of, begins_line_comment, begins_block_comment, most_digits, kind_of}
+use Rattle.lt_lexer.specs.Tokenization.{Fault, bad_byte, open_comment, number_too_long, refusal_at}
+use Rattle.lt_lexer.specs.declared.token.TokenKind.TheVariants.{Word, Number, Symbol}
+use Rattle.lt_lexer.specs.declared.symbol.Symbol as sign
+use Rattle.lt_lexer.specs.declared.symbol.Symbol.TheVariants.{OpenParen, CloseParen, OpenBrace, CloseBrace, OpenBracket, CloseBracket, Colon, Semicolon, Comma, Equal, NotEqual, Less, AtMost, Greater, AtLeast, Plus, Minus, Star, Slash, Implies, Bar, Priority, Parallel, Tilde}
+use Rattle.lt_lexer.specs.declared.refusal.LexRefusal.{LexRefusal}
+use Rattle.lt_lexer.specs.declared.piece.Piece as code
+
+-- the bytes at the front that pass a test
+abbrev pub leading : (ℕ → Bool) → List ℕ → List ℕ
+leading p [] = []
+leading p (b ∷ bs) = if p b then b ∷ leading p bs else []
+
+-- and those behind them
+abbrev pub behind : (ℕ → Bool) → List ℕ → List ℕ
+behind p [] = []
+behind p (b ∷ bs) = if p b then behind p bs else b ∷ bs
+
+-- every symbol
+abbrev pub symbols : List sign.Symbol
+symbols =
+    OpenParen ∷ CloseParen ∷ OpenBrace ∷ CloseBrace ∷ OpenBracket ∷ CloseBracket
+    ∷ Colon ∷ Semicolon ∷ Comma ∷ Equal ∷ NotEqual ∷ Less
+    ∷ AtMost ∷ Greater ∷ AtLeast ∷ Plus ∷ Minus ∷ Star
+    ∷ Slash ∷ Implies ∷ Bar ∷ Priority ∷ Parallel ∷ Tilde
+    ∷ []
+
+-- the symbol that is spelled so
+abbrev pub symbol_spelled : List ℕ → Option sign.Symbol
+symbol_spelled bytes = find (λ s. pointwise nat_eq (symbol_bytes s) bytes) symbols
+
+-- the first of two that is there
+abbrev pub or_else : {X : Type 0} → Option X → Option X → Option X
+or_else None other = other
+or_else (Some x) other = Some x
+
+-- the longest symbol at the front
+abbrev pub first_symbol : List ℕ → Option sign.Symbol
+first_symbol [] = None
+first_symbol (a ∷ []) = symbol_spelled (a ∷ [])
+first_symbol (a ∷ b ∷ bs) = or_else (symbol_spelled (a ∷ b ∷ [])) (symbol_spelled (a ∷ []))
+
+-- what is first in a text: nothing, where it is over, a piece and what follows it, or a fault
+pub data Next : Type 0 where
+  done : Next
+  next : Piece → List ℕ → Next
+  fails : Fault → Next
+
+-- the bytes up to the next *), and those behind it
+pub record Parts : Type 0 where
+  pub inside : List ℕ
+  pub after : List ℕ
+
+-- the same with one byte more in front
+abbrev pub parts_more : ℕ → Option Parts → Option Parts
+parts_more b None = None
+parts_more b (Some parts) = Some (record { inside = b ∷ parts.inside; after = parts.after })
+
+-- where a comment is closed, of which this is the text behind its (*
+abbrev pub closed : List ℕ → Option Parts
+closed [] = None
+closed (b ∷ bs) =
+    if begins_with (codes "*)") (b ∷ bs) then Some (record { inside = []; after = drop 1 bs })
+    else parts_more b (closed bs)
+
+-- a comment by where it is closed
+abbrev pub next_comment : Option Parts → Next
+next_comment None = fails open_comment
+next_comment (Some parts) = next (block_comment parts.inside) parts.after
+
+-- the bytes of a number behind its first digits: a point, and digits
+abbrev pub fraction : List ℕ → List ℕ
+fraction [] = []
+fraction (b ∷ bs) = if is_point b then b ∷ leading is_ascii_digit bs else []
+
+-- and what follows them
+abbrev pub behind_fraction : List ℕ → List ℕ
+behind_fraction [] = []
+behind_fraction (b ∷ bs) = if is_point b then behind is_ascii_digit bs else b ∷ bs
+
+-- the number at the front, where the text begins with a digit
+abbrev pub number_bytes : List ℕ → List ℕ
+number_bytes text = leading is_ascii_digit text ++ fraction (behind is_ascii_digit text)
+
+-- that number as a piece, where it isn't too long
+abbrev pub next_number : List ℕ → Next
+next_number text =
+    if nat_le (count_by is_ascii_digit (number_bytes text)) most_digits
+    then next (token Number (number_bytes text)) (behind_fraction (behind is_ascii_digit text))
+    else fails number_too_long
+
+-- the symbol at the front as a piece, where there is one
+abbrev pub next_symbol : List ℕ → Option sign.Symbol → Next
+next_symbol text None = fails bad_byte
+next_symbol text (Some s) = next (token Symbol (symbol_bytes s)) (drop (length (symbol_bytes s)) text)
+
+-- what is first in a text, by its first bytes
+abbrev pub next_of : List ℕ → Next
+next_of [] = done
+next_of (b ∷ bs) =
+    if begins_line_comment (b ∷ bs) then next (line_comment (leading is_in_line (drop 1 bs))) (behind is_in_line (drop 1 bs))
+    else (if begins_block_comment (b ∷ bs) then next_comment (closed (drop 1 bs))
+    else (if is_blank b then next (blank b) bs
+    else (if is_ascii_alphabetic b then next (token Word (b ∷ leading is_word_byte bs)) (behind is_word_byte bs)
+    else (if is_ascii_digit b then next_number (b ∷ bs)
+    else next_symbol (b ∷ bs) (first_symbol (b ∷ bs))))))
+
+-- what the code answers at a place is the first piece of the text from there on
+abbrev pub Gives : ℕ → Result code.Piece LexRefusal → Next → Type 0
+Gives place (Ok p) (next q after) = (p.kind ≡ kind_of q) × (p.len ≡ length (bytes_of q))
+Gives place (Err refusal) (fails fault) = refusal ≡ refusal_at fault place
+Gives place (Ok p) done = ⊥
+Gives place (Ok p) (fails fault) = ⊥
+Gives place (Err refusal) done = ⊥
+Gives place (Err refusal) (next q after) = ⊥

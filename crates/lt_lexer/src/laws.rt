@@ -1,0 +1,27 @@
+//! What holds of every text.
+
+ghost use Rattle.std.specs.Prelude.{◌≡◌, ◌⊎◌, ℕ, List};
+ghost use Rattle.lt_lexer.specs.Tokenization.{IsTokenization, IsRefusal};
+ghost use Rattle.lt_lexer.specs.Source.{StandApart};
+ghost use Rattle.lt_lexer.specs.declared.token.Token.{Token};
+ghost use Rattle.lt_lexer.specs.declared.refusal.LexRefusal.{LexRefusal};
+
+/// A text has one list of tokens, or one refusal, and never both.
+pub fn one_answer_belongs_to_a_text()
+    ensures some { (text : List ℕ) →
+        ((tokens : List Token) × IsTokenization text tokens)
+        ⊎ ((refusal : LexRefusal) × IsRefusal text refusal) }
+    ensures one_list { (text : List ℕ) (tokens others : List Token) →
+        IsTokenization text tokens → IsTokenization text others → tokens ≡ others }
+    ensures one_refusal { (text : List ℕ) (refusal other : LexRefusal) →
+        IsRefusal text refusal → IsRefusal text other → refusal ≡ other }
+    ensures not_both { (text : List ℕ) (tokens : List Token) (refusal : LexRefusal) →
+        IsTokenization text tokens → IsRefusal text refusal → ⊥ }
+{}
+
+/// The tokens of a text stand one behind another and apart, each where its span says, and what stands
+/// between them and at both ends are blanks and comments.
+pub fn tokens_stand_apart()
+    ensures { (text : List ℕ) (tokens : List Token) →
+        IsTokenization text tokens → StandApart text 0 tokens }
+{}

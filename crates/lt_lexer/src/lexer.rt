@@ -1,0 +1,59 @@
+//! From a text to its tokens.
+
+ghost use Rattle.std.specs.Prelude.{◌≡◌, ◌⊎◌, List, All, IfOk, IfErr};
+ghost use Rattle.lt_lexer.specs.Tokenization.{IsTokenization, IsRefusal, AnswersTokens, AnswersRefusal};
+ghost use Rattle.lt_lexer.specs.Source.{IsInside};
+ghost use Rattle.lt_lexer.specs.declared.token.Token.{Token};
+ghost use Rattle.lt_lexer.specs.declared.refusal.LexRefusal.{LexRefusal};
+
+use crate::piece::first_piece;
+use crate::refusal::LexRefusal;
+use crate::token::Token;
+use lt_ast::Span;
+use std::alloc::Global;
+
+/// The tokens of a text from end to end, in their order.
+///
+/// A text that has none is refused with the first place from the left at which the rules fail. The one
+/// answer that the text doesn't determine is [`LexRefusal::Memory`].
+pub fn lex(alloc: Global, text: &[u8]) -> Result<Vec<Token>, LexRefusal>
+    // What is answered are the text's tokens ..
+    ensures found { IfOk result (λ v. IsTokenization text.now v.items) }
+    // .. and what are the text's tokens is answered, unless memory runs out.
+    ensures only { (tokens : List Token) →
+        IsTokenization text.now tokens → AnswersTokens tokens result }
+    // Each of them stands in the text.
+    ensures inside { IfOk result (λ v. All (IsInside text.now) v.items) }
+
+    // What is refused is refused rightly ..
+    ensures refused { IfErr result (λ refusal.
+        (refusal ≡ LexRefusal.Memory) ⊎ IsRefusal text.now refusal) }
+    // .. and what is to be refused is refused so, unless memory runs out.
+    ensures refuses { (refusal : LexRefusal) →
+        IsRefusal text.now refusal → AnswersRefusal refusal result }
+{
+    tokens_of(alloc, text)
+}
+
+// The tokens of a text, piece by piece.
+fn tokens_of(alloc: Global, text: &[u8]) -> Result<Vec<Token>, LexRefusal>
+    ensures found { IfOk result (λ v. IsTokenization text.now v.items) }
+    ensures refused { IfErr result (λ refusal.
+        (refusal ≡ LexRefusal.Memory) ⊎ IsRefusal text.now refusal) }
+{
+    let mut tokens = Vec::new(alloc);
+    let mut rest = text;
+    while !rest.is_empty() {
+        let start = text.len() - rest.len();
+        let piece = first_piece(rest, start)?;
+        if let Some(kind) = piece.kind {
+            let end = start + piece.len;
+            tokens.push(Token {
+                kind,
+                span: Span { start, end },
+            })?;
+        }
+        rest = &rest[piece.len..];
+    }
+    Ok(tokens)
+}

@@ -1,0 +1,25 @@
+//! Tokens: the words, numbers and symbols of a scenario's text, with their places.
+//!
+//! A text divides into blanks, comments and tokens, each as long as it can be. `specs/Piece.antt` says
+//! what these are, and `specs/Tokenization.antt` what tokens a text has and why a text has none.
+//! [`lex`] answers the one or the other; [`Token`] tells what a token is in its text.
+#![tactic(auto)]
+
+mod byte;
+mod keyword;
+mod laws;
+mod lexer;
+mod piece;
+mod refusal;
+mod symbol;
+mod token;
+
+pub use keyword::Keyword;
+pub use laws::{one_answer_belongs_to_a_text, tokens_stand_apart};
+pub use lexer::lex;
+pub use refusal::LexRefusal;
+pub use symbol::Symbol;
+pub use token::{Token, TokenKind};
+
+#[cfg(test)]
+mod tests;

@@ -1,0 +1,35 @@
+//! Why a text has no tokens.
+
+use std::alloc::AllocFailed;
+use thiserror::Error;
+
+/// Why a text has no tokens, with the place of the byte at which that shows, from 0.
+#[derive(Clone, Copy, Debug, PartialEq, Eq, Error)]
+pub enum LexRefusal {
+    /// No token, blank or comment begins with this byte.
+    #[error("no token begins at byte {0}")]
+    BadByte(usize),
+
+    /// The comment that begins here has no end.
+    #[error("the comment at byte {0} is not closed")]
+    OpenComment(usize),
+
+    /// The number that begins here has more than 18 digits.
+    #[error("the number at byte {0} has more than 18 digits")]
+    NumberTooLong(usize),
+
+    /// Memory ran out.
+    #[error("out of memory")]
+    Memory,
+}
+
+impl<T: Drop> From<AllocFailed<T>> for LexRefusal {
+    ghost use Rattle.std.specs.Prelude.{◌≡◌};
+    ghost use Rattle.lt_lexer.specs.declared.refusal.LexRefusal.TheVariants.{Memory};
+
+    ghost from_gives = { λ _ e. e ≡ Memory };
+
+    fn from(_error: AllocFailed<T>) -> LexRefusal {
+        LexRefusal::Memory
+    }
+}
