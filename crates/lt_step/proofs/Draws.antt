@@ -1,29 +1,28 @@
 -- What is drawn of a tree.
-use Rattle.std.proofs.Common.{◌↔◌, ◌≡◌, ℕ, ◌<◌, Vec, Global, Bool, true, false, IsTrue, List, [], ◌∷◌, ◌++◌, length, get_or, map, Some, None, Ok, Err, refl, ap, sym, ◌∙◌, arith, MatchOption, IsSome, IfOk, if◌then◌else◌, ◌&&◌}
+use Rattle.std.proofs.Common.{◌↔◌, ◌≡◌, ℕ, Vec, Global, Bool, true, false, List, [], ◌∷◌, ◌++◌, map, Some, None, Ok, Err, refl, ap, sym, ◌∙◌, MatchOption, IsSome, IfOk}
 use Rattle.std.specs.declared.option.Option.{Option}
 use Rattle.std.specs.declared.result.Result.{Result}
-use Rattle.std.specs.List.{list_all}
 use Rattle.lt_term.specs.Expression.{Expression}
 use Rattle.lt_term.specs.Process.{Process}
 use Rattle.lt_term.specs.Solution.{first_solution, IsSatisfiable, IsSolution, IsFirstFrom}
 use Rattle.lt_term.proofs.Solutions.{first_solution_is_first}
-use Rattle.lt_term.specs.Offers.{Leaf, vanish, go, Tree, leaf, flattened, leaf_is_within, offers_of}
+use Rattle.lt_term.specs.Offers.{vanish, go, Tree, leaf, offers_of}
 use Rattle.lt_term.specs.Live.{HasLive, IsLegal}
 use Rattle.lt_term.specs.Scene.{Scene, Configuration, Variable, output_kinds}
-use Rattle.lt_term.specs.View.{process_over, node_leaf, node_leaves}
+use Rattle.lt_term.specs.View.{process_over}
 use Rattle.lt_term.specs.SceneView.{variable}
 use Rattle.lt_term.specs.declared.memory.Memory.{Memory}
 use Rattle.lt_term.specs.declared.table.Table.{Table}
 use Rattle.lt_term.specs.declared.term.Term.{Term}
 use Rattle.lt_term.specs.declared.scenario.Var.{Var}
 use Rattle.lt_term.specs.declared.tree.TreeNode.{TreeNode}
-use Rattle.lt_term.specs.declared.tree.TreeNode.TheVariants.{Vanish, Go}
+use Rattle.lt_term.specs.declared.tree.TreeNode.TheVariants.{Go}
 use Rattle.lt_term.specs.declared.value.Kind.{Kind}
 use Rattle.lt_term.specs.declared.value.Value.{Value}
 use Rattle.lt_step.specs.Drawn.{drawn_position, drawn_leaf, DrawIsLegal}
 use Rattle.lt_step.specs.Instant.{deadlock, taken, DeadlockMeansNoneLive}
 use Rattle.lt_step.specs.Search.{Finds, expressions_at}
-use Rattle.lt_step.specs.LeafView.{leaf_over, instant_by, Decides}
+use Rattle.lt_step.specs.LeafView.{leaf_over, Decides}
 
 -- The law.
 
@@ -73,34 +72,3 @@ decides_node r table node cs next given vars all old new e constraints outputs h
     let kinds = ap (map (λ (v : Var). v.kind)) outputs ∙ output_kinds-scene all in
     let here : IfOk r (Finds (expressions_at table cs.items) (map (λ v. v.kind) vars) old new) = rw (← constraints) f in
     rw e (decides r (expressions_at table cs.items) (process_over table next) _ _ old new h kinds here)
-
--- the only node of a tree
-pub root : (t : Tree Expression) (f : Leaf ℕ → Leaf Expression) (nodes : List TreeNode) → map f (node_leaves nodes) ≡ flattened t → (n : TreeNode) → n ≡ get_or nodes 0 n → t ≡ leaf (f (node_leaf n))
-root (leaf l) f [] e n h = absurd (cc)
-root (leaf l) f (m ∷ ms) e n h = rw h (cc)
-
-pub some_node : (t : Tree Expression) (f : Leaf ℕ → Leaf Expression) (nodes : List TreeNode) → map f (node_leaves nodes) ≡ flattened t → 0 < length nodes
-some_node (leaf l) f [] e = absurd (cc)
-some_node (leaf l) f (m ∷ ms) e = omega arith
-
--- what is drawn of a leaf that is decided
-drawn_of : (s : Scene) (table : Table) (c : Configuration) (n : TreeNode) (live : Bool) (vs : List Value) → Decides (output_kinds s) (leaf_over table n) vs live
-    → taken s c (drawn_leaf (output_kinds s) (leaf (leaf_over table n))) ≡ instant_by table c (if live then Some n else None) vs
-drawn_of s table c Vanish true vs h = refl
-drawn_of s table c Vanish false vs h = absurd (cc)
-drawn_of s table c (Go cs next) true vs h = rw (h, h)
-drawn_of s table c (Go cs next) false vs h = rw h
-
--- the instant that takes what is drawn of a tree with one node
-pub instant_drawn : (s : Scene) (table : Table) (c : Configuration) (t : Tree Expression) (n : TreeNode) (live : Bool) (vs : List Value) → t ≡ leaf (leaf_over table n) → Decides (output_kinds s) (leaf_over table n) vs live
-    → taken s c (drawn_leaf (output_kinds s) t) ≡ instant_by table c (if live then Some n else None) vs
-instant_drawn s table c t n live vs e h = ap (λ u. taken s c (drawn_leaf (output_kinds s) u)) e ∙ drawn_of s table c n live vs h
-
--- each node of a list is within
-pub node_within : (k : ℕ) (nodes : List TreeNode) → IsTrue (list_all (leaf_is_within k) (node_leaves nodes)) → (n : TreeNode) → n ≡ get_or nodes 0 n → 0 < length nodes → IsTrue (leaf_is_within k (node_leaf n))
-node_within k [] h n e l = absurd (omega arith)
-node_within k (m ∷ ms) h n e l = rw e (left_of _ _ h)
-  where
-    left_of : (a b : Bool) → IsTrue (a && b) → IsTrue a
-    left_of true b g = refl
-    left_of false b g = g
