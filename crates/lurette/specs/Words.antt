@@ -1,5 +1,5 @@
 -- The words of a call: MODE FILE, and then options.
-use Rattle.std.specs.Prelude.{ℕ, ◌+◌, ◌-◌, ◌*◌, Bool, false, true, not, ◌&&◌, ◌==◌, nat_le, List, [], ◌∷◌, None, Some, Ok, Err, codes, if◌then◌else◌}
+use Rattle.std.specs.Prelude.{◌≡◌, ◌↔◌, ℕ, ◌+◌, ◌-◌, ◌*◌, ◌≤◌, Bool, false, true, not, ◌&&◌, ◌==◌, nat_le, List, [], ◌∷◌, None, Some, Ok, Err, codes, decimal, if◌then◌else◌}
 use Rattle.std.specs.List.{list_all}
 use Rattle.std.specs.Str.{bytes_eq}
 use Rattle.std.specs.declared.option.Option.{Option}
@@ -33,6 +33,10 @@ has_no_leading_zero (d ∷ e ∷ ds) = not (d == 48)
 -- a limit of steps: a number of at most a million, in digits alone, the first of which is no 0 before others
 abbrev pub limit_of : List ℕ → Option ℕ
 limit_of word = if has_no_leading_zero word then up_to_million word else None
+
+-- a word is a limit exactly where it is the printed form of a number of at most a million
+abbrev pub LimitsArePrinted : Type 0
+LimitsArePrinted = (word : List ℕ) (n : ℕ) → (limit_of word ≡ Some n) ↔ ((word ≡ decimal n) × (n ≤ 1000000))
 
 -- the limit that the options behind FILE give, 100 where there are none; None where they are no options
 abbrev pub limit_in : List (List ℕ) → Option ℕ

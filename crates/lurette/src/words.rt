@@ -1,7 +1,7 @@
 //! The words of a call.
 
 ghost use Rattle.std.specs.Prelude.{◌≡◌, ◌≤◌, map, string_bytes, Ok, Err, MatchResult, IfOk};
-ghost use Rattle.lurette.specs.Words.{requested, limit_in, limit_of, up_to_million};
+ghost use Rattle.lurette.specs.Words.{requested, limit_in, limit_of, up_to_million, LimitsArePrinted};
 
 use crate::status::UsageKind;
 
@@ -75,3 +75,10 @@ fn number(digits: &[u8]) -> Option<u64>
     }
     Some(number)
 }
+
+/// A word is a limit exactly where it is the printed form of a number of at most a million, and it is the
+/// limit of that number.
+#[tactic(auto, using(crate::proofs::Limits::limits_are_printed))]
+pub fn limits_are_printed()
+    ensures { LimitsArePrinted }
+{}
