@@ -1,5 +1,5 @@
 -- What a run tells of the text that was run.
-use Rattle.std.proofs.Common.{◌≡◌, ℕ, ◌<◌, ◌≤◌, ◌⊎◌, inl, inr, List, [], ◌++◌, length, Some, subst, refl, ap, sym, ◌∙◌, arith, append-nil}
+use Rattle.std.proofs.Common.{◌≡◌, ℕ, ◌≤◌, ◌⊎◌, inl, inr, List, [], ◌++◌, length, Some, subst, refl, ap, sym, ◌∙◌, arith, append-nil}
 use Rattle.std.specs.declared.option.Option.{Option}
 use Rattle.lt_io.specs.Causes.{WhereTold}
 use Rattle.lt_ast.specs.Syntax.{NodeTree}

@@ -1,4 +1,4 @@
-use Rattle.std.proofs.Common.{◌≡◌, ◌≤◌, ◌+◌, ◌-◌}
+use Rattle.std.proofs.Common.{◌≡◌, ◌+◌, ◌-◌}
 use Rattle.lt_step.specs.View.{machine_state}
 use Rattle.lurette.specs.Play.{play_of}
 use Rattle.lurette.specs.Running.{rest_of, IsAt, Follows}
