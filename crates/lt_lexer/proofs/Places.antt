@@ -7,9 +7,9 @@ use Rattle.std.specs.declared.alloc.Global.{Global}
 use Rattle.std.proofs.lemmas.List.Elements.{All-from_recursion}
 use Rattle.std.specs.List.{AllByRecursion}
 use Rattle.std.proofs.lemmas.List.{drop_at, take_at, drop-drop}
-use Rattle.lt_lexer.specs.Piece.{Piece, blank, line_comment, block_comment, token, bytes_of, kind_of, IsPiece, IsLineEnd, IsToken}
+use Rattle.lt_lexer.specs.Piece.{Piece, token, bytes_of, kind_of, IsTaken}
 use Rattle.lt_lexer.specs.Tokenization.{Divides, tokens_from, IsTokenization}
-use Rattle.lt_lexer.specs.Source.{IsInside, StandApart}
+use Rattle.lt_lexer.specs.Source.{IsInside, IsGap, StandInTurn}
 use Rattle.lt_lexer.specs.declared.token.Token.{Token}
 use Rattle.lt_lexer.specs.declared.refusal.LexRefusal.{LexRefusal}
 use Rattle.lt_lexer.proofs.Divisions.{bytes_some, divides_more}
@@ -27,24 +27,6 @@ divides-spelled : (text : List ℕ) (ps : List Piece) (rest : List ℕ) → Divi
 divides-spelled text [] rest h = h
 divides-spelled text (p ∷ ps) rest h = h.1 ∙ ap (λ l. bytes_of p ++ l) (divides-spelled h.0 ps rest h.3) ∙ sym (append_assoc (bytes_of p) (spelled ps) rest)
 
-line_end-front : (xs ys : List ℕ) → IsLineEnd (xs ++ ys) → IsLineEnd xs
-line_end-front [] ys h = tt
-line_end-front (x ∷ xs) ys h = h
-
--- a blank or a comment is one also where the text ends sooner
-piece-front : (p : Piece) (xs ys : List ℕ) → kind_of p ≡ None → IsPiece p (xs ++ ys) → IsPiece p xs
-piece-front (blank b) xs ys k h = h
-piece-front (line_comment bytes) xs ys k h = (h.0, line_end-front xs ys h.1)
-piece-front (block_comment bytes) xs ys k h = h
-piece-front (token kind bytes) xs ys k h = absurd (cc k)
-
--- blanks and comments divide their own bytes, too
-gap-front : (ps : List Piece) (text rest : List ℕ) → Divides text ps rest → AreNoTokens ps → Divides (spelled ps) ps []
-gap-front [] text rest h k = refl
-gap-front (p ∷ ps) text rest h k =
-    let P : List ℕ → Type 0 = IsPiece p in
-    (spelled ps, refl, piece-front p (spelled ps) rest k.0 (subst P (divides-spelled h.0 ps rest h.3) h.2), gap-front ps h.0 rest h.3 k.1)
-
 no_tokens-more : (ps : List Piece) (p : Piece) → AreNoTokens ps → kind_of p ≡ None → AreNoTokens (ps ++ p ∷ [])
 no_tokens-more [] p h k = (k, tt)
 no_tokens-more (q ∷ qs) p h k = (h.0, no_tokens-more qs p h.1 k)
@@ -53,23 +35,33 @@ spelled-more : (ps : List Piece) (p : Piece) → length (spelled (ps ++ p ∷ []
 spelled-more [] p = omega (arith, length-append (bytes_of p) [])
 spelled-more (q ∷ qs) p = omega (arith, length-append (bytes_of q) (spelled (qs ++ p ∷ [])), length-append (bytes_of q) (spelled qs), spelled-more qs p)
 
+-- what stands behind the pieces of a text from a place on
+behind-pieces : (text : List ℕ) (from n : ℕ) (gs : List Piece) (rest : List ℕ) → Divides (drop from text) gs rest → n ≡ from + length (spelled gs) → drop n text ≡ rest
+behind-pieces text from n gs rest h place =
+    ap (λ m. drop m text) place ∙ sym (drop-drop (length (spelled gs)) from text) ∙ ap (drop (length (spelled gs))) (divides-spelled (drop from text) gs rest h) ∙ drop_at (spelled gs) rest (length (spelled gs)) refl
+
+-- blanks and comments stand up to what is behind them
+gap : (text : List ℕ) (from n : ℕ) (gs : List Piece) (rest : List ℕ) → Divides (drop from text) gs rest → AreNoTokens gs → drop n text ≡ rest → IsGap text from n
+gap text from n gs rest h k here = let P : List ℕ → Type 0 = Divides (drop from text) gs in (gs, subst P (sym here) h, k)
+
 -- the tokens among these pieces, behind some blanks and comments
-stand : (ps : List Piece) (text : List ℕ) (from : ℕ) (gs : List Piece) (rest : List ℕ) (n : ℕ) → Divides (drop from text) gs rest → AreNoTokens gs → Divides rest ps [] → n ≡ from + length (spelled gs) → n + length rest ≡ length text → StandApart text from (tokens_from n ps)
-stand [] text from gs rest n h k d place whole = let P : List ℕ → Type 0 = Divides (drop from text) gs in (gs, subst P d h, k)
+stand : (ps : List Piece) (text : List ℕ) (from : ℕ) (gs : List Piece) (rest : List ℕ) (n : ℕ) → Divides (drop from text) gs rest → AreNoTokens gs → Divides rest ps [] → n ≡ from + length (spelled gs) → n + length rest ≡ length text → StandInTurn text from (tokens_from n ps)
+stand [] text from gs rest n h k d place whole =
+    let none : length rest ≡ 0 = ap length d in
+    let end : length text ≡ n = omega arith in
+    gap text from (length text) gs rest h k (ap (λ m. drop m text) end ∙ behind-pieces text from n gs rest h place)
 stand (token kind bytes ∷ ps) text from gs rest n h k d place whole =
     let some : 0 < length bytes = bytes_some (token kind bytes) d.0 d.2 in
     let lengths : length rest ≡ length bytes + length d.0 = ap length d.1 ∙ length-append bytes d.0 in
-    let front : drop from text ≡ spelled gs ++ rest = divides-spelled (drop from text) gs rest h in
-    let gap : spelled gs ≡ take (n - from) (drop from text) = sym (ap (take (n - from)) front ∙ take_at (spelled gs) rest (n - from) (omega arith)) in
-    let here : drop n text ≡ rest = ap (λ m. drop m text) place ∙ sym (drop-drop (length (spelled gs)) from text) ∙ ap (drop (length (spelled gs))) front ∙ drop_at (spelled gs) rest (length (spelled gs)) refl in
+    let here = behind-pieces text from n gs rest h place in
     let own : bytes ≡ take (n + length bytes - n) (drop n text) = sym (ap (take (n + length bytes - n)) (here ∙ d.1) ∙ take_at bytes d.0 (n + length bytes - n) (omega arith)) in
     let behind : drop (n + length bytes) text ≡ d.0 = sym (drop-drop (length bytes) n text) ∙ ap (drop (length bytes)) (here ∙ d.1) ∙ drop_at bytes d.0 (length bytes) refl in
-    let P : List ℕ → Type 0 = λ l. Divides l gs [] in
-    let Q : List ℕ → Type 0 = IsToken kind in (
+    let P : List ℕ → Type 0 = IsTaken kind bytes in
+    let Q : List ℕ → Type 0 = λ l. IsTaken kind l (drop (n + length bytes) text) in (
       omega arith,
-      (gs, subst P gap (gap-front gs (drop from text) rest h k), k),
+      gap text from n gs rest h k here,
       record { ordered = omega arith; within = omega arith },
-      subst Q own d.2.is_token,
+      subst Q own (subst P (sym behind) d.2),
       stand ps text (n + length bytes) [] d.0 (n + length bytes) behind tt d.3 (omega arith) (omega arith),
     )
 stand (p ∷ ps) text from gs rest n h k d place whole =
@@ -77,17 +69,17 @@ stand (p ∷ ps) text from gs rest n h k d place whole =
     (omega (arith, spelled-more gs p))
     (omega (arith, ap length d.1, length-append (bytes_of p) d.0))
 
--- the tokens of a text stand apart
-pub stand_apart : (text : List ℕ) (ts : List Token) → IsTokenization text ts → StandApart text 0 ts
-stand_apart text ts h = let P : List Token → Type 0 = StandApart text 0 in subst P (sym h.are) (stand h.pieces text 0 [] text 0 refl tt h.divides refl (omega arith))
+-- the tokens of a text stand in turn
+pub stand_in_turn : (text : List ℕ) (ts : List Token) → IsTokenization text ts → StandInTurn text 0 ts
+stand_in_turn text ts h = let P : List Token → Type 0 = StandInTurn text 0 in subst P (sym h.are) (stand h.pieces text 0 [] text 0 refl tt h.divides refl (omega arith))
 
-inside-each : (text : List ℕ) (from : ℕ) (ts : List Token) → StandApart text from ts → AllByRecursion (IsInside text) ts
+inside-each : (text : List ℕ) (from : ℕ) (ts : List Token) → StandInTurn text from ts → AllByRecursion (IsInside text) ts
 inside-each text from [] h = tt
 inside-each text from (t ∷ ts) h = (h.2, inside-each text t.span.end ts h.4)
 
 -- each of them stands in the text
 pub inside : (text : List ℕ) (ts : List Token) → IsTokenization text ts → All (IsInside text) ts
-inside text ts h = All-from_recursion (IsInside text) ts (inside-each text 0 ts (stand_apart text ts h))
+inside text ts h = All-from_recursion (IsInside text) ts (inside-each text 0 ts (stand_in_turn text ts h))
 
 pub inside_of : (result : Result (Vec Token Global) LexRefusal) (text : List ℕ) → IfOk result (λ v. IsTokenization text v.items) → IfOk result (λ v. All (IsInside text) v.items)
 inside_of (Ok v) text h = inside text v.items h

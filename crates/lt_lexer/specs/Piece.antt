@@ -13,12 +13,12 @@ abbrev pub is_word : List ℕ → Bool
 is_word [] = false
 is_word (b ∷ bs) = is_ascii_alphabetic b && list_all is_word_byte bs
 
--- what may follow a number's first digit: digits, and maybe a point and digits behind it
+-- what may follow a number's first digit: digits, and maybe a point behind them, with or without digits after it
 abbrev pub continues_number : List ℕ → Bool
 continues_number [] = true
 continues_number (b ∷ bs) = (is_ascii_digit b && continues_number bs) || (is_point b && list_all is_ascii_digit bs)
 
--- digits, and maybe a point and digits behind it
+-- digits, and maybe a point behind them, with or without digits after it
 abbrev pub is_number : List ℕ → Bool
 is_number [] = false
 is_number (b ∷ bs) = is_ascii_digit b && continues_number bs

@@ -4,7 +4,7 @@ use Rattle.std.specs.List.{AllByRecursion}
 use Rattle.lt_lexer.specs.Byte.{point}
 use Rattle.lt_lexer.specs.Symbol.{symbol_bytes}
 use Rattle.lt_lexer.specs.Keyword.{keyword_bytes, IsKeyword}
-use Rattle.lt_lexer.specs.Piece.{Piece, kind_of, IsToken}
+use Rattle.lt_lexer.specs.Piece.{Piece, kind_of, IsTaken}
 use Rattle.lt_lexer.specs.Tokenization.{Divides}
 use Rattle.lt_lexer.specs.declared.token.Token.{Token}
 use Rattle.lt_lexer.specs.declared.token.TokenKind.TheVariants as kind
@@ -36,14 +36,14 @@ IsName text t = (t.kind ≡ kind.Word) × (IsKeyword (token_bytes text t) → �
 abbrev pub IsReal : List ℕ → Token → Type 0
 IsReal text t = (t.kind ≡ kind.Number) × Contains (token_bytes text t) point
 
--- the bytes are blanks and comments, and nothing else
-abbrev pub IsGap : List ℕ → Type 0
-IsGap bytes = (pieces : List Piece) × Divides bytes pieces [] × AllByRecursion (λ p. kind_of p ≡ None) pieces
+-- from one place of the text up to another stand blanks and comments, and nothing else
+abbrev pub IsGap : List ℕ → ℕ → ℕ → Type 0
+IsGap text from to = (pieces : List Piece) × Divides (drop from text) pieces (drop to text) × AllByRecursion (λ p. kind_of p ≡ None) pieces
 
--- From a place on the tokens stand one behind another. Each is in the text, and its bytes are a token of its kind;
--- before each and behind the last one stand blanks and comments.
-abbrev pub StandApart : List ℕ → ℕ → List Token → Type 0
-StandApart text from [] = IsGap (drop from text)
-StandApart text from (t ∷ ts) =
-    (from ≤ t.span.start) × IsGap (slice_range text from t.span.start)
-    × IsInside text t × IsToken t.kind (token_bytes text t) × StandApart text t.span.end ts
+-- From a place on the tokens stand one behind another. Each is in the text, and the rules take its bytes as a token of
+-- its kind where it stands; before each and behind the last one stand blanks and comments alone, if anything.
+abbrev pub StandInTurn : List ℕ → ℕ → List Token → Type 0
+StandInTurn text from [] = IsGap text from (length text)
+StandInTurn text from (t ∷ ts) =
+    (from ≤ t.span.start) × IsGap text from t.span.start
+    × IsInside text t × IsTaken t.kind (token_bytes text t) (drop t.span.end text) × StandInTurn text t.span.end ts

@@ -78,7 +78,8 @@ refusal_at bad_byte place = BadByte place
 refusal_at open_comment place = OpenComment place
 refusal_at number_too_long place = NumberTooLong place
 
--- the text divides into pieces up to a place at which this is wrong: the first such place from the left
+-- the text divides into pieces up to a place at which this is wrong; no text divides in two ways, so it is the first such
+-- place from the left
 pub record IsRefusal (text : List ℕ) (refusal : LexRefusal) : Type 0 where
   pub pieces : List Piece
   pub rest : List ℕ

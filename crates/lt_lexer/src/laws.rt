@@ -2,7 +2,7 @@
 
 ghost use Rattle.std.specs.Prelude.{◌≡◌, ◌⊎◌, ℕ, List};
 ghost use Rattle.lt_lexer.specs.Tokenization.{IsTokenization, IsRefusal};
-ghost use Rattle.lt_lexer.specs.Source.{StandApart};
+ghost use Rattle.lt_lexer.specs.Source.{StandInTurn};
 ghost use Rattle.lt_lexer.specs.declared.token.Token.{Token};
 ghost use Rattle.lt_lexer.specs.declared.refusal.LexRefusal.{LexRefusal};
 
@@ -19,9 +19,9 @@ pub fn one_answer_belongs_to_a_text()
         IsTokenization text tokens → IsRefusal text refusal → ⊥ }
 {}
 
-/// The tokens of a text stand one behind another and apart, each where its span says, and what stands
-/// between them and at both ends are blanks and comments.
-pub fn tokens_stand_apart()
+/// The tokens of a text stand one behind another, each where its span says, and what stands between
+/// them and at both ends, if anything, are blanks and comments.
+pub fn tokens_stand_in_turn()
     ensures { (text : List ℕ) (tokens : List Token) →
-        IsTokenization text tokens → StandApart text 0 tokens }
+        IsTokenization text tokens → StandInTurn text 0 tokens }
 {}

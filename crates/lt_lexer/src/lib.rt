@@ -15,7 +15,7 @@ mod symbol;
 mod token;
 
 pub use keyword::Keyword;
-pub use laws::{one_answer_belongs_to_a_text, tokens_stand_apart};
+pub use laws::{one_answer_belongs_to_a_text, tokens_stand_in_turn};
 pub use lexer::lex;
 pub use refusal::LexRefusal;
 pub use symbol::Symbol;

@@ -15,7 +15,7 @@ pub enum TokenKind {
     /// A letter, and letters, digits and `_` behind it.
     Word,
 
-    /// Digits, and maybe a point and digits behind it.
+    /// Digits, and maybe a point behind them, with or without digits after it.
     Number,
 
     /// One of the signs that [`Symbol`](crate::Symbol) lists.
