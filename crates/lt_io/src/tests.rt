@@ -113,10 +113,12 @@ fn files_of_the_system_are_read(rt: HostRuntime) -> Result<(), Fail> {
             (there.as_str(), 3, Err(FileRefusal::TooLong)),
             (missing.as_str(), 4, Err(FileRefusal::Failed)),
             (folder, 4, Err(FileRefusal::Failed)),
+            // This file never ends.
+            ("/dev/zero", 4, Err(FileRefusal::TooLong)),
         ],
     );
     fs::remove_file(&rt, there.as_str())?;
     assert_eq!(rt; files.faults, 2);
-    assert_eq!(rt; files.asked.len(), 4);
+    assert_eq!(rt; files.asked.len(), 5);
     Ok(())
 }

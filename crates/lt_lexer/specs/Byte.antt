@@ -23,7 +23,7 @@ point = 46
 abbrev pub is_in_line : ℕ → Bool
 is_in_line b = not (b == line_feed)
 
--- whether a byte is that point
+-- whether a byte is the point of a number
 abbrev pub is_point : ℕ → Bool
 is_point b = b == point
 

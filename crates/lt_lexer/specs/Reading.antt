@@ -65,7 +65,7 @@ abbrev pub parts_more : ℕ → Option Parts → Option Parts
 parts_more b None = None
 parts_more b (Some parts) = Some (record { inside = b ∷ parts.inside; after = parts.after })
 
--- where a comment is closed, of which this is the text behind its (*
+-- the text behind a (*, cut at the first *)
 abbrev pub closed : List ℕ → Option Parts
 closed [] = None
 closed (b ∷ bs) =

@@ -1,8 +1,10 @@
 //! Tokens: the words, numbers and symbols of a scenario's text, with their places.
 //!
-//! A text divides into blanks, comments and tokens, each as long as it can be. `specs/Piece.antt` says
-//! what these are, and `specs/Tokenization.antt` what tokens a text has and why a text has none.
-//! [`lex`] answers the one or the other; [`Token`] tells what a token is in its text.
+//! A text divides into blanks, comments and tokens, each token as long as it can be. [`lex`] answers a
+//! text's tokens, or why it has none; [`Token`] tells what a token is in its text.
+//!
+//! The rules are in `docs/LANGUAGE.md`, under *Lexical rules*. `specs/Piece.antt` says what blanks,
+//! comments and tokens are, and `specs/Tokenization.antt` what tokens a text has and why a text has none.
 #![tactic(auto)]
 
 mod byte;

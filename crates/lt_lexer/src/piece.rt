@@ -63,7 +63,7 @@ pub fn first_piece(text: &[u8], place: usize) -> Result<Piece, LexRefusal>
     }
 }
 
-// The block comment at a place, of which this is the text behind its `(*`.
+// The block comment at `place`; `inside` is the text behind its `(*`.
 fn comment(inside: &[u8], place: usize) -> Result<Piece, LexRefusal>
     ensures { Gives place result (next_comment (closed inside.now)) }
 {
@@ -91,7 +91,7 @@ fn close(inside: &[u8]) -> Option<usize>
     None
 }
 
-// The number at a place, of which this is the text from its first digit on.
+// The number at `place`; `text` begins with its first digit.
 #[tactic(auto, using(crate::proofs::Giving::giving))]
 fn number(text: &[u8], place: usize) -> Result<Piece, LexRefusal>
     ensures { Gives place result (next_number text.now) }
@@ -105,7 +105,8 @@ fn number(text: &[u8], place: usize) -> Result<Piece, LexRefusal>
     }
 }
 
-// How many bytes of a number stand behind its first digits, of which this is the text behind these.
+// How many bytes of a number follow its whole part: a point, and digits. `text` is what stands behind
+// the whole part.
 #[tactic(auto, using(crate::proofs::Digits::fraction_cases))]
 fn fraction(text: &[u8]) -> usize
     ensures count { result ≡ length (fraction text.now) }

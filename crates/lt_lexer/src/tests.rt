@@ -90,33 +90,58 @@ fn refusals(rt: HostRuntime) {
     }
 }
 
+// A token, and the questions that it says yes to.
+#[derive(Clone, Copy)]
+struct Asked {
+    token: Token,
+    is_loop: bool,
+    is_name: bool,
+    is_real: bool,
+    is_implies: bool,
+}
+
+// A token that says no to all of them.
+const fn none(token: Token) -> Asked {
+    Asked {
+        token,
+        is_loop: false,
+        is_name: false,
+        is_real: false,
+        is_implies: false,
+    }
+}
+
 #[test]
 fn questions(rt: HostRuntime) -> Result<(), Fail> {
     let text = b"loop loops 2.0 3 => <";
-    // Whether each token is the keyword `loop`, a name, a real number, the symbol `=>`.
     let expected = [
-        (true, false, false, false),
-        (false, true, false, false),
-        (false, false, true, false),
-        (false, false, false, false),
-        (false, false, false, true),
-        (false, false, false, false),
+        Asked {
+            is_loop: true,
+            ..none(word(0, 4))
+        },
+        Asked {
+            is_name: true,
+            ..none(word(5, 10))
+        },
+        Asked {
+            is_real: true,
+            ..none(number(11, 14))
+        },
+        none(number(15, 16)),
+        Asked {
+            is_implies: true,
+            ..none(symbol(17, 19))
+        },
+        none(symbol(20, 21)),
     ];
     let tokens = lex(rt.alloc(), text)?;
     assert_eq!(rt; tokens.len(), expected.len());
-    for (token, answers) in tokens.iter().zip(expected) {
-        assert_eq!(rt;
-            token.is_keyword(text, Keyword::Loop),
-            answers.0,
-            "{token:?}"
-        );
-        assert_eq!(rt; token.is_name(text), answers.1, "{token:?}");
-        assert_eq!(rt; token.is_real(text), answers.2, "{token:?}");
-        assert_eq!(rt;
-            token.is_symbol(text, Symbol::Implies),
-            answers.3,
-            "{token:?}"
-        );
+    for (token, asked) in tokens.iter().zip(expected) {
+        assert_eq!(rt; *token, asked.token);
+        assert_eq!(rt; token.is_keyword(text, Keyword::Loop), asked.is_loop);
+        assert_eq!(rt; token.is_name(text), asked.is_name);
+        assert_eq!(rt; token.is_real(text), asked.is_real);
+        assert_eq!(rt; token.is_symbol(text, Symbol::Implies), asked.is_implies);
     }
     Ok(())
 }

@@ -7,7 +7,7 @@ use Rattle.lt_term.specs.Offers.{Leaf, vanish, go, Tree, leaf, leaf_at}
 use Rattle.lt_term.specs.Live.{HasLive, IsLegal}
 use Rattle.lt_term.specs.declared.value.Kind.{Kind}
 
--- whether a leaf can be taken
+-- whether a leaf is live
 abbrev pub is_live : List Kind → Leaf Expression → Bool
 is_live kinds vanish = true
 is_live kinds (go es n) = is_some (first_solution es kinds)

@@ -10,6 +10,7 @@ use Rattle.lt_term.specs.Scene.{Scene, Configuration, output_kinds}
 use Rattle.lt_term.specs.declared.value.Value.{Value}
 use Rattle.lt_step.specs.Drawn.{drawn_leaf}
 
+-- what an instant is
 pub data Instant : Type 0 where
   -- the outputs have these values, and the run goes on from there
   values : List Value → Configuration → Instant
@@ -37,6 +38,6 @@ taken s c (Some (go es n)) = gone_on c n (first_solution es (output_kinds s))
 abbrev pub instant_of : Scene → Configuration → Instant
 instant_of s c = taken s c (drawn_leaf (output_kinds s) (offers_of c.process))
 
--- An instant is a deadlock exactly where no leaf that priorities and weights allow is live.
+-- An instant is a deadlock exactly where no leaf of what the term offers is live.
 abbrev pub DeadlockMeansNoneLive : Type 0
 DeadlockMeansNoneLive = (s : Scene) (c : Configuration) → (instant_of s c ≡ deadlock) ↔ (HasLive (output_kinds s) (offers_of c.process) → ⊥)

@@ -6,12 +6,14 @@ use Rattle.lt_step.specs.Instant.{Instant, values, normal, deadlock, instant_of}
 use Rattle.lt_step.specs.declared.machine.Outcome.{Outcome}
 use Rattle.lt_step.specs.declared.machine.Outcome.TheVariants as outcome
 
+-- how far a machine is
 pub data Phase : Type 0 where
   -- the run goes on from here
   going : Configuration → Phase
   -- the run has ended
   over : Phase
 
+-- the state of a machine
 pub record State : Type 0 where
   pub scene : Scene
   pub phase : Phase
@@ -25,6 +27,7 @@ pub record Step : Type 0 where
   pub outcome : Outcome
   pub state : State
 
+-- the step that makes this instant
 abbrev pub answered : Scene → Instant → Step
 answered s (values vs next) = record { outcome = outcome.Values; state = record { scene = s; phase = going next } }
 answered s normal = record { outcome = outcome.Normal; state = record { scene = s; phase = over } }
@@ -35,6 +38,7 @@ abbrev pub step_in : Scene → Phase → Step
 step_in s (going c) = answered s (instant_of s c)
 step_in s over = record { outcome = outcome.Ended; state = record { scene = s; phase = over } }
 
+-- a step of a machine
 abbrev pub step_of : State → Step
 step_of m = step_in m.scene m.phase
 
@@ -48,6 +52,7 @@ abbrev pub outputs_in : Phase → List Value
 outputs_in (going c) = c.outputs
 outputs_in over = []
 
+-- the run goes on
 abbrev pub IsGoing : Phase → Type 0
 IsGoing (going c) = Unit {0}
 IsGoing over = ⊥

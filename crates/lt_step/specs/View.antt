@@ -6,10 +6,12 @@ use Rattle.lt_term.specs.SceneView.{scene}
 use Rattle.lt_step.specs.Machine.{Phase, going, over, State}
 use Rattle.lt_step.specs.declared.machine.Machine.{Machine}
 
+-- over, or going on from here
 abbrev pub phase_of : Bool → Configuration → Phase
 phase_of true c = over
 phase_of false c = going c
 
+-- the state of a machine
 abbrev pub machine_state : Machine → State
 machine_state m = record {
   scene = scene m.scenario;

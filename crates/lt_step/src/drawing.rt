@@ -56,7 +56,7 @@ pub fn draw_is_legal()
     ensures { DrawIsLegal }
 {}
 
-/// An instant is a deadlock exactly where no leaf that can be taken is live.
+/// An instant is a deadlock exactly where no leaf of what the term offers is live.
 #[tactic(auto, using(crate::proofs::Draws::deadlock_means_none_live))]
 pub fn deadlock_means_none_live()
     ensures { DeadlockMeansNoneLive }

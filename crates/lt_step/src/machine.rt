@@ -18,7 +18,7 @@ pub enum Outcome {
     /// The scenario is over.
     Normal,
 
-    /// No alternative can be taken.
+    /// No leaf of what the scenario offers is live.
     Deadlock,
 
     /// An earlier step ended the run.
@@ -64,7 +64,8 @@ impl Machine {
         })
     }
 
-    /// Makes the next instant. The inputs are what the controller answered in the instant before.
+    /// Makes the next instant. The inputs are what the controller answered in the instant before: one
+    /// value for each input of the scenario, in their order. A machine makes at most a million steps.
     /// After an end every step answers `Ended` and changes nothing. Memory may run out at any instant
     /// of a run that goes on, which ends it too.
     pub fn step(&mut self, alloc: Global, inputs: &[Value]) -> Outcome
@@ -96,6 +97,7 @@ impl Machine {
             }
         }
     }
+
     /// The outputs of the last instant, in their order: none before the first one, and none after the
     /// end.
     pub fn outputs(&self) -> &[Value]

@@ -4,6 +4,7 @@ use Rattle.std.specs.List.{list_all}
 use Rattle.lt_term.specs.declared.value.Value.{Value}
 use Rattle.lt_term.specs.declared.value.Value.TheVariants as value
 
+-- a Boolean expression
 pub data Expression : Type 0 where
   -- false or true
   flag : Bool → Expression
@@ -12,6 +13,7 @@ pub data Expression : Type 0 where
   -- not
   negation : Expression → Expression
 
+-- the truth of a value
 abbrev pub is_true : Value → Bool
 is_true (value.Bool b) = b
 

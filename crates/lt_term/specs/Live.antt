@@ -1,4 +1,4 @@
--- Which leaves of a tree can be taken.
+-- Which leaves of a tree are live.
 use Rattle.std.specs.Prelude.{◌≡◌, ℕ, List}
 use Rattle.lt_term.specs.Expression.{Expression}
 use Rattle.lt_term.specs.Solution.{IsSatisfiable}
@@ -10,10 +10,10 @@ abbrev pub IsLive : List Kind → Leaf Expression → Type 0
 IsLive kinds vanish = Unit {0}
 IsLive kinds (go es n) = IsSatisfiable es kinds
 
--- some leaf that priorities and weights allow is live
+-- some leaf of the tree is live
 abbrev pub HasLive : List Kind → Tree Expression → Type 0
 HasLive kinds (leaf l) = IsLive kinds l
 
--- the leaf at this position is live, and priorities and weights allow it
+-- there is a leaf at this position, and it is live
 abbrev pub IsLegal : List Kind → Tree Expression → ℕ → Type 0
 IsLegal kinds (leaf l) position = (position ≡ 0) × IsLive kinds l

@@ -1,16 +1,17 @@
--- What a term offers in one instant: its alternatives as a tree.
+-- What a term offers in one instant, as a tree.
 use Rattle.std.specs.Prelude.{ℕ, zero, suc, List, [], ◌∷◌, None, Some, map, Bool, true, ◌&&◌, nat_lt}
 use Rattle.std.specs.List.{list_all}
 use Rattle.std.specs.declared.option.Option.{Option}
 use Rattle.lt_term.specs.Process.{Process, eps, con, seq, with_constraints, is_within}
 
+-- what a term can do in one instant
 pub data Leaf (C : Type 0) : Type 0 where
   -- the term is over, and takes no instant
   vanish : Leaf C
   -- one instant in which these constraints hold, and what comes after it
   go : List C → Process C → Leaf C
 
--- positions count from 0, each node before its parts and these from left to right
+-- a tree, which is a leaf so far; positions count from 0
 pub data Tree (C : Type 0) : Type 0 where
   leaf : Leaf C → Tree C
 
@@ -38,7 +39,7 @@ offers_of eps = leaf vanish
 offers_of (con c) = leaf (go (c ∷ []) eps)
 offers_of (seq a b) = with_leaves (going_on b) (offers_of b) (offers_of a)
 
--- the nodes of a tree in the order of their positions
+-- the leaves of a tree in the order of their positions
 abbrev pub flattened : {C : Type 0} → Tree C → List (Leaf C)
 flattened (leaf l) = l ∷ []
 

@@ -5,9 +5,11 @@ use Rattle.lt_term.specs.View.{process_over}
 use Rattle.lt_term.specs.declared.scenario.Var.{Var}
 use Rattle.lt_term.specs.declared.scenario.Scenario.{Scenario}
 
+-- a variable
 abbrev pub variable : Var → Variable
 variable v = record { name = string_bytes v.name; kind = v.kind }
 
+-- a scenario, with expressions in place of numbers
 abbrev pub scene : Scenario → Scene
 scene s = record {
   name = string_bytes s.name;

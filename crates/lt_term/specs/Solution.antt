@@ -11,6 +11,7 @@ use Rattle.lt_term.specs.declared.value.Value.TheVariants as value
 abbrev pub values_of : Kind → List Value
 values_of kind.Bool = value.Bool false ∷ value.Bool true ∷ []
 
+-- whether a value is one of a kind
 abbrev pub IsOfKind : Kind → Value → Type 0
 IsOfKind kind.Bool (value.Bool b) = Unit {0}
 
@@ -30,6 +31,7 @@ pub record IsSolution (es : List Expression) (fixed : List Value) (kinds : List 
 abbrev pub IsSatisfiableFrom : List Expression → List Value → List Kind → Type 0
 IsSatisfiableFrom es fixed kinds = (values : List Value) × IsSolution es fixed kinds values
 
+-- some values of these kinds make the constraints true
 abbrev pub IsSatisfiable : List Expression → List Kind → Type 0
 IsSatisfiable es kinds = IsSatisfiableFrom es [] kinds
 
@@ -43,6 +45,7 @@ abbrev pub first_some : {X Y : Type 0} → (X → Option Y) → List X → Optio
 first_some f [] = None
 first_some f (x ∷ xs) = or_else (f x) (first_some f xs)
 
+-- a value before others, where there are some
 abbrev pub with_first : Value → Option (List Value) → Option (List Value)
 with_first v None = None
 with_first v (Some vs) = Some (v ∷ vs)
@@ -53,10 +56,11 @@ abbrev pub first_solution_from : List Expression → List Value → List Kind �
 first_solution_from es fixed [] = if all_hold es fixed then Some [] else None
 first_solution_from es fixed (k ∷ ks) = first_some (λ v. with_first v (first_solution_from es (fixed ++ v ∷ []) ks)) (values_of k)
 
+-- the first solution
 abbrev pub first_solution : List Expression → List Kind → Option (List Value)
 first_solution es kinds = first_solution_from es [] kinds
 
--- it is one of these values, and with none before it do those fixed extend to a solution
+-- v is among these values, and no value before it extends to a solution behind those fixed
 abbrev pub IsFirstAmong : List Expression → List Value → List Kind → List Value → Value → Type 0
 IsFirstAmong es fixed kinds [] v = ⊥
 IsFirstAmong es fixed kinds (u ∷ us) v = (v ≡ u) ⊎ ((IsSatisfiableFrom es (fixed ++ u ∷ []) kinds → ⊥) × IsFirstAmong es fixed kinds us v)

@@ -19,6 +19,7 @@ abbrev pub extended : List Expression → List ExpNode → List Expression
 extended es [] = es
 extended es (n ∷ ns) = extended (es ++ expression_at es n ∷ []) ns
 
+-- the expressions of nodes
 abbrev pub expressions_of : List ExpNode → List Expression
 expressions_of ns = extended [] ns
 

@@ -10,6 +10,7 @@ use Rattle.lt_term.specs.declared.term.Term.TheVariants.{Eps, Con, Seq'}
 use Rattle.lt_term.specs.declared.tree.TreeNode.{TreeNode}
 use Rattle.lt_term.specs.declared.tree.TreeNode.TheVariants.{Vanish, Go}
 
+-- how many expressions a table has
 abbrev pub table_len : Table → ℕ
 table_len t = length t.nodes.items
 
@@ -17,6 +18,7 @@ table_len t = length t.nodes.items
 abbrev pub table_outputs : Table → ℕ
 table_outputs t = t.outputs
 
+-- the expressions of a table
 abbrev pub table_expressions : Table → List Expression
 table_expressions t = expressions_of t.nodes.items
 
@@ -30,10 +32,11 @@ process (Seq' p a q b) = seq (process a) (process b)
 abbrev pub process_over : Table → Term → Process Expression
 process_over table term = with_constraints (spelled (table_expressions table)) (process term)
 
--- a node of a tree
+-- a leaf of a tree
 abbrev pub node_leaf : TreeNode → Leaf ℕ
 node_leaf Vanish = vanish
 node_leaf (Go constraints next) = go constraints.items (process next)
 
+-- the leaves of a tree
 abbrev pub node_leaves : List TreeNode → List (Leaf ℕ)
 node_leaves nodes = map node_leaf nodes

@@ -1,8 +1,7 @@
 //! Terms: what a scenario still has to do, and what it offers in one instant.
 //!
 //! A [`Scenario`] has a table of expressions and a [`Term`], whose constraints are numbers of that
-//! table. [`offers`] gives the tree of a term: the alternatives of one instant, with priorities and
-//! weights kept as a tree, so that they are judged on whole reactions.
+//! table. [`offers`] gives the tree of a term: what it can do in one instant.
 //!
 //! Contracts see a term through its pure twin, a `Process` of `specs/Process.antt`, and a scenario as a
 //! `Scene` of `specs/Scene.antt`, in which expressions stand in place of numbers. `specs/View.antt` has

@@ -11,7 +11,7 @@ use crate::memory::Memory;
 use crate::term::Term;
 use std::alloc::{AllocError, Global};
 
-/// A node of a tree.
+/// A leaf of a tree.
 #[derive(Debug, Drop)]
 pub enum TreeNode {
     /// The term is over, and takes no instant.
@@ -21,8 +21,7 @@ pub enum TreeNode {
     Go { constraints: Vec<u32>, next: Term },
 }
 
-/// The alternatives of one instant, as a list of nodes: each before its parts, and these from left to
-/// right.
+/// What a term offers in one instant, as the list of its leaves.
 #[derive(Debug, Drop)]
 pub struct Tree {
     pub nodes: Vec<TreeNode>,

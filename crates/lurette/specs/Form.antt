@@ -10,13 +10,15 @@ use Rattle.lurette.specs.declared.form.FormRefusal.TheVariants.{NotOfForm, Memor
 
 -- Bytes.
 
--- a tab, a line feed, a carriage return or a blank
+-- a tab, a line feed, a carriage return or a space
 abbrev pub is_blank : ℕ → Bool
 is_blank b = b == 9 || b == 10 || b == 13 || b == 32
 
+-- an ASCII letter
 abbrev pub is_letter : ℕ → Bool
 is_letter b = (nat_le 65 b && nat_le b 90) || (nat_le 97 b && nat_le b 122)
 
+-- a decimal digit
 abbrev pub is_digit : ℕ → Bool
 is_digit b = nat_le 48 b && nat_le b 57
 
@@ -30,6 +32,7 @@ is_sign b = b == 40 || b == 41 || b == 58 || b == 61
 
 -- Tokens.
 
+-- a token
 pub data Token : Type 0 where
   -- a word, by its bytes
   word : List ℕ → Token
@@ -41,6 +44,7 @@ abbrev pub is_word : List ℕ → Bool
 is_word [] = false
 is_word (b ∷ bs) = is_letter b && list_all is_word_byte bs
 
+-- the bytes are those of such a token
 abbrev pub IsToken : Token → Type 0
 IsToken (word w) = IsTrue (is_word w)
 IsToken (sign s) = IsTrue (is_sign s)
@@ -65,6 +69,7 @@ Divides bytes (t ∷ ts) =
 
 -- The tokens of a node.
 
+-- an expression
 abbrev pub expr_tokens : ExprTree → List Token
 expr_tokens (flag true) = word (codes "true") ∷ []
 expr_tokens (flag false) = word (codes "false") ∷ []
@@ -89,6 +94,7 @@ tokens_of n =
 
 -- The form.
 
+-- the words that are no names
 abbrev pub keywords : List (List ℕ)
 keywords =
     codes "node" ∷ codes "returns" ∷ codes "let" ∷ codes "in" ∷ codes "exist" ∷ codes "bool" ∷ codes "int" ∷ codes "real"
@@ -112,10 +118,11 @@ SpeaksOf output (flag b) = Unit {0}
 SpeaksOf output (named name) = name ≡ output
 SpeaksOf output (negated e) = SpeaksOf output e
 
+-- such an expression, with at most 200 times not
 abbrev pub IsPart : List ℕ → ExprTree → Type 0
 IsPart output e = (count_nots e ≤ 200) × SpeaksOf output e
 
--- every part is one
+-- every one of them is a part
 abbrev pub AreParts : List ℕ → List ExprTree → Type 0
 AreParts output [] = Unit {0}
 AreParts output (e ∷ es) = IsPart output e × AreParts output es

@@ -10,14 +10,17 @@ use Rattle.lurette.specs.declared.status.Refusal.TheVariants as refusal
 use Rattle.lurette.specs.declared.status.Device.{Device}
 use Rattle.lurette.specs.declared.status.Device.TheVariants as device
 
+-- the word of a fault of the words
 abbrev pub usage_word : UsageKind → List ℕ
 usage_word usage.Words = codes "words"
 usage_word usage.Mode = codes "mode"
 
+-- the code of a refusal
 abbrev pub refusal_word : Refusal → List ℕ
 refusal_word refusal.TooLong = codes "file.TooLong"
 refusal_word refusal.NotBuilt = codes "early.NotBuilt"
 
+-- the word of a device
 abbrev pub device_word : Device → List ℕ
 device_word device.File = codes "file"
 device_word device.Trace = codes "trace"

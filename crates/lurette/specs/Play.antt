@@ -17,6 +17,7 @@ pub record Piece : Type 0 where
   pub to : Destination
   pub bytes : List ℕ
 
+-- a piece of the trace
 abbrev pub trace_piece : List ℕ → Piece
 trace_piece bytes = record { to = to_trace; bytes = bytes }
 
@@ -31,6 +32,7 @@ EndsWell Normal = Unit {0}
 EndsWell Limit = Unit {0}
 EndsWell Deadlock = ⊥
 
+-- a run: its pieces, in turn, and how it ends
 pub record Play : Type 0 where
   pub pieces : List Piece
   pub ending : Ending

@@ -17,6 +17,7 @@ abbrev pub rest_in : Scene → ℕ → Phase → Play
 rest_in s left (going c) = play_from s left c
 rest_in s left over = ended end.Normal 0
 
+-- the same of a machine
 abbrev pub rest_of : State → ℕ → Play
 rest_of m left = rest_in m.scene left m.phase
 

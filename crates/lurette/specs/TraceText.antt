@@ -13,10 +13,11 @@ use Rattle.lurette.specs.declared.ending.End.TheVariants.{Normal, Limit, Deadloc
 abbrev pub line : List ℕ → List ℕ
 line text = text ++ 10 ∷ []
 
+-- the word of a kind
 abbrev pub kind_text : Kind → List ℕ
 kind_text kind.Bool = codes "bool"
 
--- a blank, and "NAME":KIND
+-- a space, and "NAME":KIND
 abbrev pub declared_text : Variable → List ℕ
 declared_text v = codes " \"" ++ v.name ++ codes "\":" ++ kind_text v.kind
 
@@ -27,10 +28,12 @@ header_text seed outputs inputs =
     ++ line (codes "#inputs" ++ flat_map declared_text outputs)
     ++ line (codes "#outputs" ++ flat_map declared_text inputs)
 
+-- a truth
 abbrev pub bool_text : Bool → List ℕ
 bool_text true = codes "t"
 bool_text false = codes "f"
 
+-- a value
 abbrev pub value_text : Value → List ℕ
 value_text (value.Bool b) = bool_text b
 
@@ -38,10 +41,12 @@ value_text (value.Bool b) = bool_text b
 abbrev pub step_text : ℕ → List Value → List ℕ
 step_text step outputs = line (codes "#step " ++ decimal step) ++ line (flat_map (λ v. value_text v ++ codes " ") outputs ++ codes "#outs")
 
+-- the word of an end
 abbrev pub end_word : End → List ℕ
 end_word Normal = codes "normal"
 end_word Limit = codes "limit"
 end_word Deadlock = codes "deadlock"
 
+-- the end line, with its number
 abbrev pub end_text : End → ℕ → List ℕ
 end_text end at = line (codes "#end " ++ end_word end ++ codes " " ++ decimal at)

@@ -20,7 +20,7 @@ abbrev pub value_behind : ℕ → List ℕ → ℕ
 value_behind n [] = n
 value_behind n (d ∷ ds) = value_behind (10 * n + (d - 48)) ds
 
--- digits of a number of at most a million
+-- the number that these bytes write, where all are digits and it is at most a million
 abbrev pub up_to_million : List ℕ → Option ℕ
 up_to_million digits = if list_all is_digit digits && nat_le (value_behind 0 digits) 1000000 then Some (value_behind 0 digits) else None
 
@@ -45,7 +45,7 @@ limit_in (option ∷ word ∷ []) = if bytes_eq option (codes "-l") then limit_o
 limit_in (option ∷ []) = None
 limit_in (option ∷ word ∷ other ∷ others) = None
 
--- whether the mode is one that there is, where the other words are right
+-- the request, where the other words are right and there is such a mode; else what is wrong
 abbrev pub in_mode : List ℕ → List ℕ → Option ℕ → Result Request UsageKind
 in_mode mode file None = Err Words
 in_mode mode file (Some limit) = if bytes_eq mode (codes "run") then Ok (record { file = file; limit = limit }) else Err Mode

@@ -1,4 +1,4 @@
-//! The form of a text that is run: one node.
+//! The form of a text that is run: one node. `docs/LANGUAGE.md` has its rules.
 
 ghost use Rattle.std.specs.Prelude.{◌≡◌, ◌∷◌, [], ℕ, List, IfOk, IsTrue, MatchOption, map, string_bytes};
 ghost use Rattle.lt_ast.specs.Syntax.{NodeTree};

@@ -19,6 +19,7 @@ mod trace_text;
 mod words;
 
 use lt_io::{DirFiles, StdSink};
+use say::say;
 use status::Status;
 use std::io::{ErrorKind, Lock};
 use std::process::ExitCode;
@@ -34,6 +35,7 @@ fn main(rt: HostRuntime) -> ExitCode {
         Ok(words) => words,
         // The system ran out of memory.
         Err(error) if error.kind() == ErrorKind::OutOfMemory => {
+            let _ = say(&mut StdSink::new(rt.stderr().lock()), Status::Memory);
             return ExitCode::from(Status::Memory.code());
         }
         // A word is no text, so the words ask for nothing.

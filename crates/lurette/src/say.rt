@@ -1,4 +1,4 @@
-//! What a call says on standard error.
+//! What a call says on standard error, by `docs/COMMAND.md`.
 
 ghost use Rattle.std.specs.Prelude.{◌≡◌, OnOk};
 ghost use Rattle.std.specs.Io.KnownBytes.{Appends};

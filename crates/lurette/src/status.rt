@@ -1,4 +1,4 @@
-//! How a call ends.
+//! How a call ends: `docs/COMMAND.md` has the statuses and their lines.
 
 ghost use Rattle.std.specs.Prelude.{◌≡◌};
 ghost use Rattle.lurette.specs.Lines.{status_code};
@@ -15,11 +15,11 @@ pub enum Status {
     /// The scenario's file is refused.
     Refused(Refusal),
 
-    /// No alternative could be taken in the instant of this number, from 1.
+    /// Nothing could be done in the instant of this number, from 1.
     Deadlock(u64),
 
-    /// Something outside failed. The number is 0 before the trace's header was written whole, and else
-    /// 1 more than the number of steps that were.
+    /// Something outside failed. The number is 0 for the file, and for the trace that of the text that
+    /// wasn't written whole: 0 for the header, and then 1 more than the number of steps that were.
     Device(Device, u64),
 
     /// Memory ran out.

@@ -80,53 +80,57 @@ fn check(rt: &impl Abort, call: &Called, code: u8, trace: &[u8], says: &str) {
     assert_eq!(rt; call.says.written(), says.as_bytes());
 }
 
+// A run: the scenario, the words' limit, and what is written behind the header and said.
+#[derive(Clone, Copy)]
+struct Run<'a> {
+    text: &'a str,
+    limit: &'a str,
+    trace: &'a str,
+    code: u8,
+    says: &'a str,
+}
+
+// A run of the toggle that says nothing.
+fn toggled<'a>(limit: &'a str, trace: &'a str) -> Run<'a> {
+    Run {
+        text: TOGGLE,
+        limit,
+        trace,
+        code: 0,
+        says: "",
+    }
+}
+
 #[test]
 fn a_run_is_written_to_its_end_or_limit(rt: HostRuntime) -> Result<(), Fail> {
     let alloc = rt.alloc();
-    let cases = [
-        (
-            TOGGLE,
-            "10",
-            "#step 1\nt #outs\n#step 2\nf #outs\n#end normal 2\n",
-            0,
-            "",
-        ),
-        (
-            TOGGLE,
-            "3",
-            "#step 1\nt #outs\n#step 2\nf #outs\n#end normal 2\n",
-            0,
-            "",
-        ),
-        (
-            TOGGLE,
-            "2",
-            "#step 1\nt #outs\n#step 2\nf #outs\n#end limit 2\n",
-            0,
-            "",
-        ),
-        (TOGGLE, "1", "#step 1\nt #outs\n#end limit 1\n", 0, ""),
-        (TOGGLE, "0", "#end limit 0\n", 0, ""),
-        (
-            "node n() returns (b: bool) = false",
-            "1000000",
-            "#end deadlock 1\n",
-            4,
-            "lurette: deadlock 1\n",
-        ),
-        (
-            "node n() returns (b: bool) = true fby false fby b",
-            "9",
-            "#step 1\nf #outs\n#end deadlock 2\n",
-            4,
-            "lurette: deadlock 2\n",
-        ),
+    let whole = "#step 1\nt #outs\n#step 2\nf #outs\n#end normal 2\n";
+    let runs = [
+        toggled("10", whole),
+        toggled("3", whole),
+        toggled("2", "#step 1\nt #outs\n#step 2\nf #outs\n#end limit 2\n"),
+        toggled("1", "#step 1\nt #outs\n#end limit 1\n"),
+        toggled("0", "#end limit 0\n"),
+        Run {
+            text: "node n() returns (b: bool) = false",
+            limit: "1000000",
+            trace: "#end deadlock 1\n",
+            code: 4,
+            says: "lurette: deadlock 1\n",
+        },
+        Run {
+            text: "node n() returns (b: bool) = true fby false fby b",
+            limit: "9",
+            trace: "#step 1\nf #outs\n#end deadlock 2\n",
+            code: 4,
+            says: "lurette: deadlock 2\n",
+        },
     ];
-    for (text, limit, trace, code, says) in cases {
-        let words = ["run", "f", "-l", limit];
-        let call = call_of(alloc, &words, &Outside::sound(text.as_bytes()))?;
-        let whole = format!(in alloc; "{HEADER}{trace}")?;
-        check(&rt, &call, code, whole.as_bytes(), says);
+    for run in runs {
+        let words = ["run", "f", "-l", run.limit];
+        let call = call_of(alloc, &words, &Outside::sound(run.text.as_bytes()))?;
+        let trace = format!(in alloc; "{HEADER}{}", run.trace)?;
+        check(&rt, &call, run.code, trace.as_bytes(), run.says);
         assert_eq!(rt; call.asked, 1);
     }
     Ok(())
@@ -161,21 +165,19 @@ fn words_are_refused(rt: HostRuntime) -> Result<(), Fail> {
 
 #[test]
 fn files_are_refused(rt: HostRuntime) -> Result<(), Fail> {
-    let other: &[u8] = b"node n(y: int) returns (x: int [0;3]) = loop x = 1";
-    let cases: [(&str, &[u8], &[u64], u8, &str); 3] = [
-        ("f", other, &[], 3, "lurette: refused early.NotBuilt\n"),
-        ("g", b"", &[], 9, "lurette: device file 0\n"),
-        ("f", TOGGLE.as_bytes(), &[0], 9, "lurette: device file 0\n"),
-    ];
-    for (name, text, failing_reads, code, says) in cases {
-        let outside = Outside {
-            text,
-            failing_reads,
-            room: 10_000,
-            failing_writes: &[],
-        };
-        let call = call_of(rt.alloc(), &["run", name], &outside)?;
-        check(&rt, &call, code, b"", says);
+    let alloc = rt.alloc();
+    let other = Outside::sound(b"node n(y: int) returns (x: int [0;3]) = loop x = 1");
+    let call = call_of(alloc, &["run", "f"], &other)?;
+    check(&rt, &call, 3, b"", "lurette: refused early.NotBuilt\n");
+    assert_eq!(rt; call.asked, 1);
+    let toggle = Outside::sound(TOGGLE.as_bytes());
+    let failing = Outside {
+        failing_reads: &[0],
+        ..toggle
+    };
+    for (name, outside) in [("g", toggle), ("f", failing)] {
+        let call = call_of(alloc, &["run", name], &outside)?;
+        check(&rt, &call, 9, b"", "lurette: device file 0\n");
         assert_eq!(rt; call.asked, 1);
     }
     Ok(())
@@ -226,10 +228,8 @@ fn a_write_that_fails_ends_the_run(rt: HostRuntime) -> Result<(), Fail> {
 fn each_write_may_fail(rt: HostRuntime) -> Result<(), Fail> {
     for failing in 0..4 {
         let outside = Outside {
-            text: TOGGLE.as_bytes(),
-            failing_reads: &[],
-            room: 10_000,
             failing_writes: &[failing],
+            ..Outside::sound(TOGGLE.as_bytes())
         };
         let call = call_of(rt.alloc(), &["run", "f"], &outside)?;
         let says = format!(in rt.alloc(); "lurette: device trace {failing}\n")?;

@@ -20,7 +20,7 @@ use std::alloc::Global;
 /// The longest text of a scenario, in bytes.
 pub const LONGEST: usize = 1_048_576;
 
-// The greatest need of a search.
+// The greatest search that a machine may make. No search looks at it yet.
 const BUDGET: u64 = 10_000_000;
 
 /// Does what the words behind the program's name ask for: `run FILE [-l N]` reads the scenario FILE, runs

@@ -1,4 +1,4 @@
-//! The text of a trace.
+//! The text of a trace: `docs/TRACE.md` has its form.
 
 ghost use Rattle.std.specs.Prelude.{◌≡◌, ◌++◌, [], ◌∷◌, codes, decimal, map, OnOk};
 ghost use Rattle.std.specs.List.{flat_map};
@@ -28,7 +28,7 @@ pub fn write_header(
     into.extend_from_slice(b"\n")
 }
 
-// Appends a blank, a quoted name and a kind for each variable.
+// Appends a space, a quoted name and a kind for each variable.
 fn write_declared(into: &mut Vec<u8>, variables: &[Var]) -> Result<(), AllocError>
     ensures { OnOk result (into.new.items ≡ into.old.items ++ flat_map declared_text (map variable variables.now)) }
 {

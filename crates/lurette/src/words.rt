@@ -1,4 +1,4 @@
-//! The words of a call.
+//! The words of a call: `docs/COMMAND.md` has their rules.
 
 ghost use Rattle.std.specs.Prelude.{◌≡◌, ◌≤◌, map, string_bytes, Ok, Err, MatchResult, IfOk};
 ghost use Rattle.lurette.specs.Words.{requested, limit_in, limit_of, up_to_million, LimitsArePrinted};
@@ -7,6 +7,9 @@ use crate::status::UsageKind;
 
 /// The most steps that a call may ask for.
 const MOST_STEPS: u64 = 1_000_000;
+
+/// The most steps where the words give no limit.
+const DEFAULT_STEPS: u64 = 100;
 
 /// What the words of a call ask for.
 #[derive(Clone, Copy, Debug)]
@@ -42,13 +45,13 @@ fn limit_among(options: &[String]) -> Option<u64>
     ensures { result ≡ limit_in (map string_bytes options.now) }
 {
     match options {
-        [] => Some(100),
+        [] => Some(DEFAULT_STEPS),
         [option, word] if option.as_str() == "-l" => limit(word),
         _ => None,
     }
 }
 
-// The number of steps that a word writes, where it is one of at most a million.
+// The limit that a word is; none where it isn't one.
 fn limit(word: &str) -> Option<u64>
     ensures { result ≡ limit_of word.now }
 {

@@ -1,3 +1,5 @@
+//! Texts of every kind, with ample memory: no clause can promise that.
+
 use super::{FormRefusal, read_node};
 use lt_ast::Expr;
 use std::alloc::{AllocError, Global};
