@@ -1,0 +1,5 @@
+pub mod RoundingLemmas
+pub mod AnswerLemmas
+pub mod DigitLemmas
+pub mod TextLemmas
+pub mod RoundTripLemmas

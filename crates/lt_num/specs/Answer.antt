@@ -1,0 +1,25 @@
+-- The answer of an operation: the raw number, if it is within bounds.
+use Rattle.std.specs.Prelude.{◌≡◌, ◌≢◌, ℕ, ℤ, pos, unsigned_abs, nat_le, if◌then◌else◌, Ok, Err}
+use Rattle.std.specs.declared.result.Result.{Result}
+use Rattle.lt_num.specs.declared.fault.Arith.{Arith}
+use Rattle.lt_num.specs.declared.fault.Arith.TheVariants.{Overflow}
+use Rattle.lt_num.specs.declared.fixed.Fixed.{Fixed}
+use Rattle.lt_num.specs.Rounding.{IsNearest}
+
+-- how large in size a raw number may be
+abbrev pub most : ℕ
+most = 1_000_000_000_000
+
+-- this raw number, or Overflow where it is past the bound
+abbrev pub bounded : ℤ → Result Fixed Arith
+bounded raw = if nat_le (unsigned_abs raw) most then Ok (record { raw = raw }) else Err Overflow
+
+-- the answer for the rational n / d: the nearest raw number, or Overflow where that one is past the bound
+pub record IsRounded (n d : ℤ) (answer : Result Fixed Arith) : Type 0 where
+  pub raw : ℤ
+  pub is_nearest : IsNearest n d raw
+  pub is_bounded : answer ≡ bounded raw
+
+-- Each rational has exactly one answer.
+abbrev pub AnswerIsOne : Type 0
+AnswerIsOne = (n d : ℤ) → d ≢ pos 0 → (answer : Result Fixed Arith) × IsRounded n d answer × ((other : Result Fixed Arith) → IsRounded n d other → other ≡ answer)
