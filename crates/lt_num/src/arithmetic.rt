@@ -7,7 +7,7 @@ ghost use Rattle.lt_num.specs.Rounding.{nearest};
 use crate::fault::Arith;
 use crate::fixed::Fixed;
 
-/// The most that a raw number may be in size.
+// The most that a raw number may be in size.
 const MOST: u128 = 1_000_000_000_000;
 
 /// The sum.
@@ -103,7 +103,7 @@ pub(crate) fn rounded(numerator: i128, divisor: i128) -> Result<Fixed, Arith>
     })
 }
 
-/// A raw number, where it is within bounds.
+// A raw number, where it is within bounds.
 fn within(raw: i128) -> Result<Fixed, Arith>
     ensures { result ≡ bounded raw }
 {

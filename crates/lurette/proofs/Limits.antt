@@ -5,7 +5,7 @@ use Rattle.std.proofs.lemmas.Str.Parse.{IsNumeralModel, numerals_by_fold}
 use Rattle.std.proofs.lemmas.Fmt.{decimal_digit, first_decimal, digits_decimal, digits_value-decimal, decimal-digits_value}
 use Rattle.std.specs.List.{list_all}
 use Rattle.lurette.specs.Form.{is_digit}
-use Rattle.lurette.specs.Words.{value_behind, up_to_million, has_no_leading_zero, limit_of, LimitsArePrinted}
+use Rattle.lurette.specs.Words.{value_behind, up_to_million, is_plain, limit_of, LimitsArePrinted}
 
 -- the tests and the value of digits are those of std's lemmas on printed numbers
 own : IsNumeralModel (λ ds. list_all is_digit ds ≡ true) (value_behind 0)
@@ -17,31 +17,31 @@ passed true o x h = (refl, h)
 passed false o x h = absurd (cc)
 
 -- a word with no leading zero is not empty
-not_empty : (ds : List ℕ) → has_no_leading_zero ds ≡ true → 0 < length ds
+not_empty : (ds : List ℕ) → is_plain ds ≡ true → 0 < length ds
 not_empty [] h = absurd (cc)
 not_empty (d ∷ ds) h = omega arith
 
 -- a 0 stands alone in a word with no leading zero
-zero_alone : (ds : List ℕ) → has_no_leading_zero ds ≡ true → get_or ds 0 0 ≡ 48 → length ds ≡ 1
+zero_alone : (ds : List ℕ) → is_plain ds ≡ true → get_or ds 0 0 ≡ 48 → length ds ≡ 1
 zero_alone [] h z = absurd (cc)
 zero_alone (d ∷ []) h z = refl
 zero_alone (d ∷ e ∷ ds) h z = absurd (both_ways (d == 48) (not-true (d == 48) h) (eq-eqb d 48 z))
 
 -- a word whose first byte is more than a 0 has no leading zero
-no_zero : (ds : List ℕ) → 48 < get_or ds 0 0 → has_no_leading_zero ds ≡ true
+no_zero : (ds : List ℕ) → 48 < get_or ds 0 0 → is_plain ds ≡ true
 no_zero [] h = absurd (omega arith)
 no_zero (d ∷ []) h = refl
 no_zero (d ∷ e ∷ ds) h = not_from_false _ (ne_eqb d 48 (λ z. omega arith))
 
 -- a printed number has no leading zero
-decimal_leads : (n : ℕ) → n ≤ 1000000 → has_no_leading_zero (decimal n) ≡ true
-decimal_leads zero h = ap has_no_leading_zero (decimal_digit 0 (omega arith))
+decimal_leads : (n : ℕ) → n ≤ 1000000 → is_plain (decimal n) ≡ true
+decimal_leads zero h = ap is_plain (decimal_digit 0 (omega arith))
 decimal_leads (suc n) h = no_zero (decimal (suc n)) (first_decimal (suc n) (omega arith) (omega arith))
 
 -- a limit is printed
 printed : (word : List ℕ) (n : ℕ) → limit_of word ≡ Some n → (word ≡ decimal n) × (n ≤ 1000000)
 printed word n h =
-    let leads = passed (has_no_leading_zero word) (up_to_million word) n h in
+    let leads = passed (is_plain word) (up_to_million word) n h in
     let read = passed (list_all is_digit word && nat_le (value_behind 0 word) 1000000) (Some (value_behind 0 word)) n leads.1 in
     let tests = and_parts (list_all is_digit word) (nat_le (value_behind 0 word) 1000000) read.0 in
     let small = leb-true (value_behind 0 word) 1000000 tests.1 in

@@ -25,14 +25,14 @@ abbrev pub up_to_million : List ℕ → Option ℕ
 up_to_million digits = if list_all is_digit digits && nat_le (value_behind 0 digits) 1000000 then Some (value_behind 0 digits) else None
 
 -- whether these are some bytes, and no 0 before others
-abbrev pub has_no_leading_zero : List ℕ → Bool
-has_no_leading_zero [] = false
-has_no_leading_zero (d ∷ []) = true
-has_no_leading_zero (d ∷ e ∷ ds) = not (d == 48)
+abbrev pub is_plain : List ℕ → Bool
+is_plain [] = false
+is_plain (d ∷ []) = true
+is_plain (d ∷ e ∷ ds) = not (d == 48)
 
 -- a limit of steps: a number of at most a million, in digits alone, the first of which is no 0 before others
 abbrev pub limit_of : List ℕ → Option ℕ
-limit_of word = if has_no_leading_zero word then up_to_million word else None
+limit_of word = if is_plain word then up_to_million word else None
 
 -- a word is a limit exactly where it is the printed form of a number of at most a million
 abbrev pub LimitsArePrinted : Type 0

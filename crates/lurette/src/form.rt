@@ -41,16 +41,16 @@ impl<T: Drop> From<AllocFailed<T>> for FormRefusal {
     }
 }
 
-/// How many parts a node has at most.
+// How many parts a node has at most.
 const MOST_PARTS: usize = 200;
 
-/// How many times a part says `not` at most.
+// How many times a part says `not` at most.
 const MOST_NOTS: usize = 200;
 
-/// What stands before the node's name.
+// What stands before the node's name.
 const BEFORE_NAME: [Token<'static>; 1] = [Token::Word(NODE)];
 
-/// What stands between the node's name and the output's.
+// What stands between the node's name and the output's.
 const BEFORE_OUTPUT: [Token<'static>; 4] = [
     Token::Sign(Sign::Open),
     Token::Sign(Sign::Close),
@@ -58,7 +58,7 @@ const BEFORE_OUTPUT: [Token<'static>; 4] = [
     Token::Sign(Sign::Open),
 ];
 
-/// What stands between the output's name and the parts.
+// What stands between the output's name and the parts.
 const BEFORE_PARTS: [Token<'static>; 4] = [
     Token::Sign(Sign::Colon),
     Token::Word(BOOL),
@@ -66,7 +66,7 @@ const BEFORE_PARTS: [Token<'static>; 4] = [
     Token::Sign(Sign::Equals),
 ];
 
-/// What follows the token, where the text begins with it.
+// What follows the token, where the text begins with it.
 fn after<'a>(text: &'a [u8], wanted: &Token) -> Option<&'a [u8]>
     ensures { MatchOption result (NeverBegins text.now (token_of wanted.now ∷ [])) (λ rest. Begins text.now (token_of wanted.now ∷ []) rest.now) }
 {
@@ -78,7 +78,7 @@ fn after<'a>(text: &'a [u8], wanted: &Token) -> Option<&'a [u8]>
     }
 }
 
-/// What follows the tokens, where the text begins with them.
+// What follows the tokens, where the text begins with them.
 fn after_all<'a>(text: &'a [u8], wanted: &[Token]) -> Result<&'a [u8], FormRefusal>
     ensures { Reads result (λ rest. Begins text.now (map token_of wanted.now) rest.now) (NeverBegins text.now (map token_of wanted.now)) }
 {
@@ -89,7 +89,7 @@ fn after_all<'a>(text: &'a [u8], wanted: &[Token]) -> Result<&'a [u8], FormRefus
     Ok(rest)
 }
 
-/// The word that the text begins with, and what follows it.
+// The word that the text begins with, and what follows it.
 fn first_word(text: &[u8]) -> Result<(&[u8], &[u8]), FormRefusal>
     ensures { Reads result (λ found. Some (word found.0.now, found.1.now) ≡ next_token text.now) (NoWord text.now) }
 {
@@ -99,7 +99,7 @@ fn first_word(text: &[u8]) -> Result<(&[u8], &[u8]), FormRefusal>
     }
 }
 
-/// A word as text.
+// A word as text.
 fn text_of(alloc: Global, word: &[u8]) -> Result<String, AllocError>
     requires { IsTrue (is_word word.now) }
     ensures { IfOk result (λ text. string_bytes text ≡ word.now) }
@@ -107,7 +107,7 @@ fn text_of(alloc: Global, word: &[u8]) -> Result<String, AllocError>
     String::from_utf8_lossy(alloc, word)
 }
 
-/// The name that the text begins with, and what follows it.
+// The name that the text begins with, and what follows it.
 fn read_name(alloc: Global, text: &[u8]) -> Result<(String, &[u8]), FormRefusal>
     ensures { Reads result (λ found. BeginsWithName text.now (string_bytes found.0) found.1.now) (NoName text.now) }
 {
@@ -118,7 +118,7 @@ fn read_name(alloc: Global, text: &[u8]) -> Result<(String, &[u8]), FormRefusal>
     Ok((text_of(alloc, word)?, rest))
 }
 
-/// The part that the text begins with, with so many `not` at most, and what follows it.
+// The part that the text begins with, with so many `not` at most, and what follows it.
 fn read_part<'a>(
     alloc: Global,
     text: &'a [u8],
@@ -142,7 +142,7 @@ fn read_part<'a>(
     }
 }
 
-/// The parts that the text is, with `fby` between two of them.
+// The parts that the text is, with `fby` between two of them.
 fn read_parts(alloc: Global, text: &[u8], output: &[u8]) -> Result<Vec<Expr>, FormRefusal>
     requires { IsTrue (is_name output.now) }
     ensures { Reads result (λ parts. IsParts output.now text.now (map expr_tree parts.items)) (NoParts output.now text.now) }

@@ -19,7 +19,7 @@ pub const TRUE: &[u8] = b"true";
 
 pub const FALSE: &[u8] = b"false";
 
-/// All of them: most stand in no text that is read, and are still no names.
+// All of them: most stand in no text that is read, and are still no names.
 const KEYWORDS: [&[u8]; 32] = [
     NODE,
     RETURNS,

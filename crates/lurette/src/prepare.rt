@@ -12,7 +12,7 @@ use lt_ast::{Expr, NodeDecl};
 use lt_term::{ExpNode, Kind, Memory, Scenario, Table, Term, Var};
 use std::alloc::Global;
 
-/// How many decimals a real number has.
+// How many decimals a real number has.
 const DECIMALS: u32 = 2;
 
 /// The scenario that a node says.

@@ -34,7 +34,10 @@ pub fn run<S: Sink>(alloc: Global, machine: &mut Machine, limit: u64, trace: &mu
         return Status::Memory;
     }
     if put(trace, &text).is_err() {
-        return Status::Device(Device::Trace, 0);
+        return Status::Device {
+            device: Device::Trace,
+            text: 0,
+        };
     }
     for steps in 0..limit {
         if let Some(status) = advance(alloc, machine, steps + 1, &mut text, trace) {
@@ -80,10 +83,13 @@ fn finish<S: Sink>(end: End, at: u64, next: u64, text: &mut Vec<u8>, trace: &mut
         return Status::Memory;
     }
     if put(trace, text).is_err() {
-        return Status::Device(Device::Trace, next);
+        return Status::Device {
+            device: Device::Trace,
+            text: next,
+        };
     }
     match end {
-        End::Deadlock => Status::Deadlock(at),
+        End::Deadlock => Status::Deadlock { instant: at },
         End::Normal | End::Limit => Status::Ended,
     }
 }
@@ -106,7 +112,10 @@ fn write_out<S: Sink>(
         return Some(Status::Memory);
     }
     if put(trace, text).is_err() {
-        return Some(Status::Device(Device::Trace, step));
+        return Some(Status::Device {
+            device: Device::Trace,
+            text: step,
+        });
     }
     None
 }

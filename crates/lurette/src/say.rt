@@ -30,17 +30,21 @@ pub fn say<M: Sink>(says: &mut M, status: Status) -> Result<(), Failed>
             says,
             &[b"lurette: refused ", refusal_name(reason), b"\n"],
         ),
-        Status::Deadlock(at) => put_all(
+        Status::Deadlock { instant } => put_all(
             says,
-            &[b"lurette: deadlock ", digits.format(at).as_bytes(), b"\n"],
+            &[
+                b"lurette: deadlock ",
+                digits.format(instant).as_bytes(),
+                b"\n",
+            ],
         ),
-        Status::Device(device, at) => put_all(
+        Status::Device { device, text } => put_all(
             says,
             &[
                 b"lurette: device ",
                 device_name(device),
                 b" ",
-                digits.format(at).as_bytes(),
+                digits.format(text).as_bytes(),
                 b"\n",
             ],
         ),

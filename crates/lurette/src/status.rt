@@ -15,12 +15,21 @@ pub enum Status {
     /// The scenario's file is refused.
     Refused(Refusal),
 
-    /// Nothing could be done in the instant of this number, from 1.
-    Deadlock(u64),
+    /// Nothing could be done in an instant.
+    Deadlock {
+        /// The number of that instant, from 1.
+        instant: u64,
+    },
 
-    /// Something outside failed. The number is 0 for the file, and for the trace that of the text that
-    /// wasn't written whole: 0 for the header, and then 1 more than the number of steps that were.
-    Device(Device, u64),
+    /// Something outside failed.
+    Device {
+        /// What failed.
+        device: Device,
+
+        /// For the trace, the number of the text that wasn't written whole: 0 for the header, and then 1
+        /// more than the number of steps that were. For the file, 0.
+        text: u64,
+    },
 
     /// Memory ran out.
     Memory,
@@ -65,8 +74,8 @@ impl Status {
             Status::Ended => 0,
             Status::Usage(_) => 2,
             Status::Refused(_) => 3,
-            Status::Deadlock(_) => 4,
-            Status::Device(_, _) => 9,
+            Status::Deadlock { .. } => 4,
+            Status::Device { .. } => 9,
             Status::Memory => 11,
         }
     }

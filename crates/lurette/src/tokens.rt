@@ -40,7 +40,7 @@ fn is_word_byte(byte: u8) -> bool
     is_letter(byte) || matches!(byte, b'0'..=b'9') || byte == b'_'
 }
 
-/// The sign that a byte is.
+// The sign that a byte is.
 fn sign_of(byte: u8) -> Option<Sign>
     ensures { result ≡ sign_at byte }
 {
@@ -53,7 +53,7 @@ fn sign_of(byte: u8) -> Option<Sign>
     }
 }
 
-/// How many blanks the text begins with.
+// How many blanks the text begins with.
 fn count_blanks(text: &[u8]) -> usize
     ensures count { result ≡ prefix_len is_blank text.now }
     ensures within { result ≤ length text.now }
@@ -61,7 +61,7 @@ fn count_blanks(text: &[u8]) -> usize
     text.iter().take_while(|byte| is_blank(**byte)).count()
 }
 
-/// How many bytes of a word the text begins with.
+// How many bytes of a word the text begins with.
 fn word_len(text: &[u8]) -> usize
     ensures count { result ≡ prefix_len is_word_byte text.now }
     ensures within { result ≤ length text.now }

@@ -74,7 +74,10 @@ fn serve<F: Files, S: Sink>(
 {
     match files.read(alloc, file, LONGEST) {
         Ok(text) => serve_text(alloc, &text, limit, trace),
-        Err(FileRefusal::Failed) => Status::Device(Device::File, 0),
+        Err(FileRefusal::Failed) => Status::Device {
+            device: Device::File,
+            text: 0,
+        },
         Err(FileRefusal::TooLong) => Status::Refused(Refusal::TooLong),
         Err(FileRefusal::Memory) => Status::Memory,
     }

@@ -5,10 +5,10 @@ ghost use Rattle.lurette.specs.Words.{requested, limit_in, limit_of, up_to_milli
 
 use crate::status::UsageKind;
 
-/// The most steps that a call may ask for.
+// The most steps that a call may ask for.
 const MOST_STEPS: u64 = 1_000_000;
 
-/// The most steps where the words give no limit.
+// The most steps where the words give no limit.
 const DEFAULT_STEPS: u64 = 100;
 
 /// What the words of a call ask for.

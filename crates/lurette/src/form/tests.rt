@@ -64,7 +64,7 @@ fn reads_or_refuses(rt: HostRuntime) {
     }
 }
 
-/// A node whose right side is a piece many times and then its output.
+// A node whose right side is a piece many times and then its output.
 fn repeated(alloc: Global, piece: &str, times: usize) -> Result<String, AllocError> {
     let mut text = String::from_str(alloc, "node n() returns (b: bool) = ")?;
     for _ in 0..times {
