@@ -1,14 +1,179 @@
 //! Expressions.
 
-/// A Boolean expression.
-#[derive(Debug, Drop)]
+ghost use Rattle.std.specs.Prelude.{◌≡◌};
+
+use crate::name::{Literal, Name};
+use crate::sign::Sign;
+use crate::span::Span;
+use crate::trace::Braced;
+
+/// An operator with one operand.
+#[derive(Clone, Copy, Debug, PartialEq, Eq)]
+pub enum UnOp {
+    /// `-`.
+    Neg,
+
+    /// `not`.
+    Not,
+}
+
+impl UnOp {
+    ghost use Rattle.lt_ast.specs.Tokens.{unary_sign};
+
+    /// The sign that it is written as.
+    pub fn sign(self) -> Sign
+        ensures { result ≡ unary_sign self }
+    {
+        match self {
+            UnOp::Neg => Sign::Minus,
+            UnOp::Not => Sign::Not,
+        }
+    }
+}
+
+/// An operator with two operands.
+#[derive(Clone, Copy, Debug, PartialEq, Eq)]
+pub enum BinOp {
+    /// `+`.
+    Add,
+
+    /// `-`.
+    Sub,
+
+    /// `*`.
+    Mul,
+
+    /// `/`.
+    Div,
+
+    /// `div`.
+    DivWord,
+
+    /// `mod`.
+    Mod,
+
+    /// `=`.
+    Eq,
+
+    /// `<>`.
+    Ne,
+
+    /// `<`.
+    Lt,
+
+    /// `<=`.
+    Le,
+
+    /// `>`.
+    Gt,
+
+    /// `>=`.
+    Ge,
+
+    /// `and`.
+    And,
+
+    /// `or`.
+    Or,
+
+    /// `xor`.
+    Xor,
+
+    /// `=>`.
+    Implies,
+}
+
+impl BinOp {
+    ghost use Rattle.lt_ast.specs.Tokens.{binary_sign};
+
+    /// The sign that it is written as.
+    pub fn sign(self) -> Sign
+        ensures { result ≡ binary_sign self }
+    {
+        match self {
+            BinOp::Add => Sign::Plus,
+            BinOp::Sub => Sign::Minus,
+            BinOp::Mul => Sign::Star,
+            BinOp::Div => Sign::Slash,
+            BinOp::DivWord => Sign::Div,
+            BinOp::Mod => Sign::Mod,
+            BinOp::Eq => Sign::Equal,
+            BinOp::Ne => Sign::Unequal,
+            BinOp::Lt => Sign::Less,
+            BinOp::Le => Sign::LessEqual,
+            BinOp::Gt => Sign::Greater,
+            BinOp::Ge => Sign::GreaterEqual,
+            BinOp::And => Sign::And,
+            BinOp::Or => Sign::Or,
+            BinOp::Xor => Sign::Xor,
+            BinOp::Implies => Sign::Implies,
+        }
+    }
+}
+
+/// An expression.
+#[cycle(ast)]
+#[derive(Debug)]
 pub enum Expr {
+    /// A number.
+    Number(Literal),
+
     /// `true` or `false`.
-    Flag(bool),
+    Flag(bool, Span),
 
-    /// A name.
-    Named(String),
+    /// A name, and the arguments where it has a list of them.
+    Named(Name, Option<Args>),
 
-    /// `not` and what it turns round.
-    Not(Box<Expr>),
+    /// `pre` and a name.
+    Pre(Name, Span),
+
+    /// An expression in parentheses.
+    Paren(Box<Expr>, Span),
+
+    /// An operator and its operand.
+    Unary(UnOp, Box<Expr>, Span),
+
+    /// An operator between its operands.
+    Binary(BinOp, Box<Expr>, Box<Expr>, Span),
+
+    /// `if`, `then` and `else`.
+    If(Box<Expr>, Box<Expr>, Box<Expr>, Span),
+}
+
+// A chain of operators hangs on its left side, which a loop takes apart: its length takes no stack.
+impl Drop for Expr {
+    #[cycle(ast)]
+    fn drop(mut self) {
+        loop {
+            match self {
+                Expr::Binary(_, left, _, _) => self = Box::into_inner(left),
+                Expr::Number(_)
+                | Expr::Flag(_, _)
+                | Expr::Named(_, _)
+                | Expr::Pre(_, _)
+                | Expr::Paren(_, _)
+                | Expr::Unary(_, _, _)
+                | Expr::If(_, _, _, _) => return,
+            }
+        }
+    }
+}
+
+/// Arguments, in order.
+#[cycle(ast)]
+#[derive(Debug, Drop)]
+pub struct Args {
+    /// The arguments.
+    pub items: Vec<Arg>,
+}
+
+/// An argument.
+#[cycle(ast)]
+#[derive(Debug, Drop)]
+pub enum Arg {
+    /// An expression.
+    Value(Expr),
+
+    /// A trace in braces.
+    Trace(Braced, Span),
 }

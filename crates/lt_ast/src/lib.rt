@@ -1,13 +1,26 @@
-//! Syntax trees: what a scenario's text says, and nothing of how it is laid out.
+//! Syntax trees: what a scenario's text says, and where it says it.
 //!
-//! Contracts see a tree through its pure twin: `expr_tree` and `node_tree` of `specs/View.antt` give
-//! the twins of `specs/Syntax.antt`, which have no pointers and no capacities.
+//! Contracts see a tree through its pure twin: `program` of `specs/View.antt` gives the twins of
+//! `specs/Syntax.antt`, which have no pointers and no capacities. `specs/Tokens.antt` has the tokens
+//! that a tree is written with.
 #![tactic(auto)]
 
 mod expr;
-mod node;
+mod group;
+mod name;
+mod printer;
+mod program;
+mod sign;
 mod span;
+#[cfg(test)]
+mod tests;
+mod trace;
 
-pub use expr::Expr;
-pub use node::NodeDecl;
+pub use expr::{Arg, Args, BinOp, Expr, UnOp};
+pub use group::{Group, Groups, Range, TypeName};
+pub use name::{Literal, Name, Names};
+pub use printer::print;
+pub use program::{Decl, NodeDecl, Program};
+pub use sign::Sign;
 pub use span::Span;
+pub use trace::{Body, Bounds, Braced, MacroDecl, Part, Parts, TraceExpr, Traces};

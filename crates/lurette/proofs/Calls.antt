@@ -2,7 +2,7 @@
 use Rattle.std.proofs.Common.{◌≡◌, ℕ, ◌≤◌, ◌⊎◌, inl, inr, List, [], ◌++◌, length, Some, subst, refl, ap, sym, ◌∙◌, arith, append-nil}
 use Rattle.std.specs.declared.option.Option.{Option}
 use Rattle.lt_io.specs.Causes.{WhereTold}
-use Rattle.lt_ast.specs.Syntax.{NodeTree}
+use Rattle.lurette.specs.Node.{NodeTree}
 use Rattle.lt_term.specs.Scene.{Scene}
 use Rattle.lurette.specs.Form.{Spells}
 use Rattle.lurette.specs.Words.{Request}

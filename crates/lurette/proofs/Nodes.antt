@@ -3,7 +3,7 @@ use Rattle.std.proofs.Common.{ℕ, ◌<◌, ◌≤◌, ◌≡◌, ◌∙◌, tru
 use Rattle.std.proofs.lemmas.List.{append-nil, length-append}
 use Rattle.std.proofs.lemmas.Bool.{both_ways}
 use Rattle.std.specs.List.{list_all}
-use Rattle.lt_ast.specs.Syntax.{ExprTree, flag, named, negated, NodeTree}
+use Rattle.lurette.specs.Node.{ExprTree, flag, named, negated, NodeTree}
 use Rattle.lurette.specs.Form.{is_blank, Token, word, sign, Divides, expr_tokens, further_tokens, part_tokens, tokens_of, is_name, SpeaksOf, IsPart, AreParts, Spells, IsRunnable, ReadsAs}
 use Rattle.lurette.specs.Reading.{Begins, NeverBegins, Reads, BeginsWithName, NoName, BeginsWithPart, NoPart, AreAllParts, IsParts, NoParts}
 use Rattle.lurette.specs.declared.form.FormRefusal.{FormRefusal}

@@ -7,7 +7,7 @@ use Rattle.std.specs.List.{list_all, list_any}
 use Rattle.std.specs.Str.{bytes_eq, IsAscii}
 use Rattle.std.proofs.lemmas.Slice.Eq.{bytes_eq-Decides}
 use Rattle.std.specs.Option.{MatchOption, ok_or}
-use Rattle.lt_ast.specs.Syntax.{ExprTree, flag, named, negated}
+use Rattle.lurette.specs.Node.{ExprTree, flag, named, negated}
 use Rattle.lurette.specs.Form.{is_letter, is_word_byte, Token, word, is_word, Divides, expr_tokens, keywords, is_name, count_nots, SpeaksOf}
 use Rattle.lurette.specs.Reading.{token_of, next_token, NoWord, Begins, NeverBegins, Reads, BeginsWithName, NoName, BeginsWithPart, NoPart}
 use Rattle.lurette.specs.declared.tokens.Token.{Token as CodeToken}

@@ -4,7 +4,7 @@ use Rattle.std.specs.Io.KnownBytes.{Keeps, Appends}
 use Rattle.std.specs.declared.option.Option.{Option}
 use Rattle.lt_io.specs.Causes.{Rose, WhereTold}
 use Rattle.lurette.specs.Writing.{AppendsFront}
-use Rattle.lt_ast.specs.Syntax.{NodeTree}
+use Rattle.lurette.specs.Node.{NodeTree}
 use Rattle.lurette.specs.Form.{Spells}
 use Rattle.lurette.specs.Words.{Request}
 use Rattle.lurette.specs.Prepared.{scene_of}

@@ -2,9 +2,9 @@
 use Rattle.std.specs.Prelude.{ℕ, ◌+◌, ◌<◌, ◌≤◌, ◌≡◌, Bool, true, false, not, ◌&&◌, ◌||◌, ◌==◌, nat_le, IsTrue, List, [], ◌∷◌, ◌++◌, length, codes, Result, Ok, Err}
 use Rattle.std.specs.List.{list_all, list_any}
 use Rattle.std.specs.Str.{bytes_eq}
-use Rattle.lt_ast.specs.declared.node.NodeDecl.{NodeDecl}
-use Rattle.lt_ast.specs.View.{node_tree}
-use Rattle.lt_ast.specs.Syntax.{ExprTree, flag, named, negated, NodeTree}
+use Rattle.lurette.specs.declared.node.NodeDecl.{NodeDecl}
+use Rattle.lurette.specs.NodeView.{node_tree}
+use Rattle.lurette.specs.Node.{ExprTree, flag, named, negated, NodeTree}
 use Rattle.lurette.specs.declared.form.FormRefusal.{FormRefusal}
 use Rattle.lurette.specs.declared.form.FormRefusal.TheVariants.{NotOfForm, Memory}
 

@@ -1,3 +1,5 @@
+pub mod Node
+pub mod NodeView
 pub mod Form
 pub mod Reading
 pub mod Words

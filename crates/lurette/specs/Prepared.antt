@@ -1,6 +1,6 @@
 -- The scenario that a node says.
 use Rattle.std.specs.Prelude.{◌≡◌, ℕ, ◌<◌, ◌≤◌, List, [], ◌∷◌, map}
-use Rattle.lt_ast.specs.Syntax.{ExprTree, flag, named, negated, NodeTree}
+use Rattle.lurette.specs.Node.{ExprTree, flag, named, negated, NodeTree}
 use Rattle.lt_term.specs.Expression as expression
 use Rattle.lt_term.specs.Expression.{Expression}
 use Rattle.lt_term.specs.Process.{Process, eps, con, seq}

@@ -1,7 +1,7 @@
 -- What each step of reading a text says.
 use Rattle.std.specs.Prelude.{ℕ, ◌==◌, ◌<◌, ◌≤◌, ◌≡◌, IsTrue, if◌then◌else◌, Option, Some, None, Result, Ok, Err, List, [], ◌∷◌, ◌++◌, take, drop, length}
 use Rattle.std.specs.List.{prefix_len}
-use Rattle.lt_ast.specs.Syntax.{ExprTree}
+use Rattle.lurette.specs.Node.{ExprTree}
 use Rattle.lurette.specs.declared.tokens.Sign.{Sign}
 use Rattle.lurette.specs.declared.tokens.Sign.TheVariants as s
 use Rattle.lurette.specs.declared.tokens.Token.{Token as CodeToken}

@@ -1,14 +1,14 @@
 //! The form of a text that is run: one node. `docs/LANGUAGE.md` has its rules.
 
 ghost use Rattle.std.specs.Prelude.{◌≡◌, ◌∷◌, [], ℕ, List, IfOk, IsTrue, MatchOption, map, string_bytes};
-ghost use Rattle.lt_ast.specs.Syntax.{NodeTree};
-ghost use Rattle.lt_ast.specs.View.{expr_tree, node_tree};
+ghost use Rattle.lurette.specs.Node.{NodeTree};
+ghost use Rattle.lurette.specs.NodeView.{expr_tree, node_tree};
 ghost use Rattle.lurette.specs.Form.{word, is_word, is_name, Spells, ReadsAs};
 ghost use Rattle.lurette.specs.Reading.{token_of, next_token, NoWord, Begins, NeverBegins, Reads, BeginsWithName, NoName, BeginsWithPart, NoPart, IsParts, NoParts};
 
 use crate::keywords::{BOOL, FALSE, FBY, NODE, NOT, RETURNS, TRUE, is_keyword};
+use crate::node::{Expr, NodeDecl};
 use crate::tokens::{Sign, Token, is_end, is_same, next_token};
-use lt_ast::{Expr, NodeDecl};
 use std::alloc::{AllocError, AllocFailed, Global};
 
 /// Why a text was not read.

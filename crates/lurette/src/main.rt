@@ -8,6 +8,7 @@
 mod ending;
 mod form;
 mod keywords;
+mod node;
 mod prepare;
 mod put;
 mod run;

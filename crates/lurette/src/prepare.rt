@@ -1,14 +1,14 @@
 //! The scenario of a node.
 
 ghost use Rattle.std.specs.Prelude.{◌≡◌, ◌<◌, map, IsTrue, IfOk, OnOk};
-ghost use Rattle.lt_ast.specs.View.{expr_tree, node_tree};
+ghost use Rattle.lurette.specs.NodeView.{expr_tree, node_tree};
 ghost use Rattle.lt_term.specs.Process.{is_within};
 ghost use Rattle.lt_term.specs.Table.{spelled};
 ghost use Rattle.lt_term.specs.View.{process, process_over, table_len, table_outputs, table_expressions};
 ghost use Rattle.lt_term.specs.SceneView.{scene};
 ghost use Rattle.lurette.specs.Prepared.{scene_of, expression_of, in_turn, Extends};
 
-use lt_ast::{Expr, NodeDecl};
+use crate::node::{Expr, NodeDecl};
 use lt_term::{ExpNode, Kind, Memory, Scenario, Table, Term, Var};
 use std::alloc::Global;
 

@@ -1,7 +1,7 @@
 //! Texts of every kind, with ample memory: no clause can promise that.
 
 use super::{FormRefusal, read_node};
-use lt_ast::Expr;
+use crate::node::Expr;
 use std::alloc::{AllocError, Global};
 use std::test::Fail;
 

@@ -1,7 +1,7 @@
 -- By which word stands first.
 use Rattle.std.proofs.Common.{◌∷◌, [], true, false, codes, ap, arith}
 use Rattle.std.proofs.lemmas.Result.{err_from_is_err_and}
-use Rattle.lt_ast.specs.View.{expr_tree}
+use Rattle.lurette.specs.NodeView.{expr_tree}
 use Rattle.lurette.specs.Form.{word}
 use Rattle.lurette.proofs.form.+read_part.Goals as goal
 use Rattle.lurette.proofs.form.+read_part.Goals.{else-eq-4-via-then-eq-4+else-nots-gt0, else-eq-4-via-else-eq-4}

@@ -2,8 +2,8 @@
 use Rattle.std.proofs.Common.{◌≡◌, ◌<◌, ◌∙◌, ◌∷◌, [], List, map, length, sym, ap, subst, arith}
 use Rattle.std.proofs.lemmas.List.{length-map, map-append}
 use Rattle.std.proofs.lemmas.Result.{err_from_is_err_and}
-use Rattle.lt_ast.specs.Syntax.{ExprTree}
-use Rattle.lt_ast.specs.View.{expr_tree}
+use Rattle.lurette.specs.Node.{ExprTree}
+use Rattle.lurette.specs.NodeView.{expr_tree}
 use Rattle.lurette.proofs.form.read_parts.Goals as goal
 use Rattle.lurette.proofs.Parts.{reads_err}
 use Rattle.lurette.proofs.Nodes.{PartsSoFar, no_parts_at_most, no_parts_at_further, no_parts_at_end, parts_at_end, parts_more}

@@ -1,6 +1,6 @@
 -- The text begins with the parts so far, which are at most 200.
 use Rattle.std.proofs.Common.{◌-◌, map, length}
-use Rattle.lt_ast.specs.View.{expr_tree}
+use Rattle.lurette.specs.NodeView.{expr_tree}
 use Rattle.lurette.proofs.Nodes.{PartsSoFar}
 use Rattle.lurette.proofs.form.read_parts.Given as goal
 

@@ -1,5 +1,5 @@
 use Rattle.std.proofs.Common.{ap, ◌∙◌}
-use Rattle.lt_ast.specs.View.{node_tree}
+use Rattle.lurette.specs.NodeView.{node_tree}
 use Rattle.lt_step.specs.Machine.{State}
 use Rattle.lt_step.specs.View.{machine_state}
 use Rattle.lurette.proofs.Calls.{run_tells}

@@ -1,6 +1,4 @@
-//! Nodes.
-
-use crate::expr::Expr;
+//! What a text that is run says, and nothing of how it is laid out.
 
 /// The declaration of a node with one Boolean output.
 #[derive(Debug, Drop)]
@@ -13,4 +11,17 @@ pub struct NodeDecl {
 
     /// What holds in each instant, one after another: the parts between the words `fby`.
     pub parts: Vec<Expr>,
+}
+
+/// A Boolean expression.
+#[derive(Debug, Drop)]
+pub enum Expr {
+    /// `true` or `false`.
+    Flag(bool),
+
+    /// A name.
+    Named(String),
+
+    /// `not` and what it turns round.
+    Not(Box<Expr>),
 }

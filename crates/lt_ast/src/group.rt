@@ -1,0 +1,77 @@
+//! Groups of variables or parameters.
+
+ghost use Rattle.std.specs.Prelude.{◌≡◌};
+
+use crate::expr::Expr;
+use crate::name::{Literal, Names};
+use crate::sign::Sign;
+
+/// The name of a type.
+#[derive(Clone, Copy, Debug, PartialEq, Eq)]
+pub enum TypeName {
+    /// `bool`.
+    Bool,
+
+    /// `int`.
+    Int,
+
+    /// `real`.
+    Real,
+
+    /// `trace`.
+    Trace,
+}
+
+impl TypeName {
+    ghost use Rattle.lt_ast.specs.Tokens.{type_sign};
+
+    /// The sign that it is written as.
+    pub fn sign(self) -> Sign
+        ensures { result ≡ type_sign self }
+    {
+        match self {
+            TypeName::Bool => Sign::Bool,
+            TypeName::Int => Sign::Int,
+            TypeName::Real => Sign::Real,
+            TypeName::Trace => Sign::Trace,
+        }
+    }
+}
+
+/// A range.
+#[derive(Debug, Drop)]
+pub struct Range {
+    /// Its low end.
+    pub low: Literal,
+
+    /// Its high end.
+    pub high: Literal,
+}
+
+/// Names of one type.
+#[cycle(ast)]
+#[derive(Debug, Drop)]
+pub struct Group {
+    /// The names.
+    pub names: Names,
+
+    /// Their type.
+    pub kind: TypeName,
+
+    /// Whether `ref` is written.
+    pub by_ref: bool,
+
+    /// Their range, if one is written.
+    pub range: Option<Range>,
+
+    /// Their first value, if one is written.
+    pub first: Option<Expr>,
+}
+
+/// Groups, in order.
+#[cycle(ast)]
+#[derive(Debug, Drop)]
+pub struct Groups {
+    /// The groups.
+    pub items: Vec<Group>,
+}

@@ -1,0 +1,41 @@
+//! Programs.
+
+use crate::group::Groups;
+use crate::name::{Name, Names};
+use crate::trace::{MacroDecl, TraceExpr};
+
+/// The declarations of a text, in order.
+#[derive(Debug, Drop)]
+pub struct Program {
+    /// The declarations.
+    pub decls: Vec<Decl>,
+}
+
+/// A declaration.
+#[derive(Debug, Drop)]
+pub enum Decl {
+    /// A node.
+    Node(NodeDecl),
+
+    /// A macro.
+    Macro(MacroDecl),
+
+    /// Exceptions.
+    Exceptions(Names),
+}
+
+/// A node.
+#[derive(Debug, Drop)]
+pub struct NodeDecl {
+    /// Its name.
+    pub name: Name,
+
+    /// What it is given.
+    pub inputs: Groups,
+
+    /// What it gives.
+    pub outputs: Groups,
+
+    /// What it does.
+    pub body: TraceExpr,
+}
