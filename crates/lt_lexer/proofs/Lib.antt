@@ -11,5 +11,6 @@ pub mod Pieces
 pub mod Divisions
 pub mod Progress
 pub mod Answering
-pub mod Keywords
+pub mod Letters
 pub mod Places
+pub mod Apart

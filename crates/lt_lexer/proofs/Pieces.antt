@@ -4,19 +4,19 @@ use Rattle.std.specs.declared.option.Option.{Option}
 use Rattle.std.specs.Char.{is_ascii_digit, is_ascii_alphabetic}
 use Rattle.std.proofs.lemmas.Bool.{cond_both, cond-true, cond-false, leb-true, leb-false}
 use Rattle.std.proofs.lemmas.List.{take_at, drop_at, append_cancel_left}
+use Rattle.lt_ast.specs.Signs.{spelled}
+use Rattle.lt_ast.specs.declared.sign.Sign.{Sign}
 use Rattle.lt_lexer.specs.Byte.{is_blank, is_word_byte, is_in_line, begins_with}
-use Rattle.lt_lexer.specs.Symbol.{symbol_bytes}
 use Rattle.lt_lexer.specs.Piece.{Piece, blank, line_comment, block_comment, token, bytes_of, IsPiece, IsTaken, IsToken, IsLongest, IsShort, HasClose, begins_line_comment, begins_block_comment, begins_comment, most_digits}
 use Rattle.lt_lexer.specs.Tokenization.{Fault, bad_byte, open_comment, number_too_long, Fails, IsOpen, IsTooLong}
 use Rattle.lt_lexer.specs.Reading.{leading, behind, Parts, closed, behind_fraction, number_bytes, first_symbol, Next, done, next, fails, next_comment, next_number, next_symbol, next_of}
 use Rattle.lt_lexer.specs.declared.token.TokenKind.{TokenKind}
 use Rattle.lt_lexer.specs.declared.token.TokenKind.TheVariants.{Word, Number, Symbol}
-use Rattle.lt_lexer.specs.declared.symbol.Symbol as sign
 use Rattle.lt_lexer.proofs.Bools.{both, neither, left_neither, right_neither, is_false}
 use Rattle.lt_lexer.proofs.Runs.{leading-behind, leading-passes}
 use Rattle.lt_lexer.proofs.Starts.{begins_two, Starts, token_start, same_kind, longest_of, word_longest, digit-blank}
 use Rattle.lt_lexer.proofs.Numbers.{number_bytes-behind, is_number-number_bytes, number_longest}
-use Rattle.lt_lexer.proofs.Symbols.{first_symbol-bytes, found}
+use Rattle.lt_lexer.proofs.Symbols.{first_symbol-spelled, found}
 use Rattle.lt_lexer.proofs.Comments.{line_end, leading-line, ClosedIs, closed-is, closed-at}
 
 -- what the rules say of a first piece
@@ -58,14 +58,14 @@ number_holds b bs plain letter digit =
     })
 
 -- no longer front is a symbol
-symbol_bound : (text front rest : List ℕ) (s : sign.Symbol) → first_symbol text ≡ Some s → text ≡ front ++ rest → IsToken Symbol front → length front ≤ length (symbol_bytes s)
-symbol_bound text front rest s e f t =
-    let it = found text rest t.0 (f ∙ ap (λ l. l ++ rest) t.1) in
-    let same : it.symbol ≡ s = cc (it.is, e) in
-    omega (arith, it.longer, ap length t.1, ap (λ s. length (symbol_bytes s)) same)
+symbol_bound : (text front rest : List ℕ) (sign : Sign) → first_symbol text ≡ Some sign → text ≡ front ++ rest → IsToken Symbol front → length front ≤ length (spelled sign)
+symbol_bound text front rest sign e f t =
+    let it = found text rest t.0 t.1 (f ∙ ap (λ l. l ++ rest) t.2) in
+    let same : it.symbol ≡ sign = cc (it.is, e) in
+    omega (arith, it.longer, ap length t.2, ap (λ x. length (spelled x)) same)
 
 no_symbol : (text front rest : List ℕ) → first_symbol text ≡ None → text ≡ front ++ rest → IsToken Symbol front → ⊥
-no_symbol text front rest e f t = let it = found text rest t.0 (f ∙ ap (λ l. l ++ rest) t.1) in cc (it.is, e)
+no_symbol text front rest e f t = let it = found text rest t.0 t.1 (f ∙ ap (λ l. l ++ rest) t.2) in cc (it.is, e)
 
 -- a token at the front begins with the first byte
 front_start : (b : ℕ) (bs front rest : List ℕ) (kind : TokenKind) → b ∷ bs ≡ front ++ rest → IsToken kind front → Starts kind b
@@ -81,7 +81,7 @@ no_token b bs front rest Word none letter digit e t = let s = front_start b bs f
 no_token b bs front rest Number none letter digit e t = let s = front_start b bs front rest Number e t in cc (s.1, digit)
 no_token b bs front rest Symbol none letter digit e t = no_symbol (b ∷ bs) front rest none e t
 
-symbol_holds : (b : ℕ) (bs : List ℕ) (o : Option sign.Symbol) → first_symbol (b ∷ bs) ≡ o → begins_comment (b ∷ bs) ≡ false → is_blank b ≡ false → is_ascii_alphabetic b ≡ false → is_ascii_digit b ≡ false → Holds (b ∷ bs) (next_symbol (b ∷ bs) o)
+symbol_holds : (b : ℕ) (bs : List ℕ) (o : Option Sign) → first_symbol (b ∷ bs) ≡ o → begins_comment (b ∷ bs) ≡ false → is_blank b ≡ false → is_ascii_alphabetic b ≡ false → is_ascii_digit b ≡ false → Holds (b ∷ bs) (next_symbol (b ∷ bs) o)
 symbol_holds b bs None e plain no_blank letter digit = record {
   byte = b;
   behind = bs;
@@ -90,13 +90,13 @@ symbol_holds b bs None e plain no_blank letter digit = record {
   no_comment = plain;
   no_token = λ kind front rest f t. no_token b bs front rest kind e letter digit f t;
 }
-symbol_holds b bs (Some s) e plain no_blank letter digit =
-    let parts = first_symbol-bytes (b ∷ bs) s e in (
-      parts,
+symbol_holds b bs (Some sign) e plain no_blank letter digit =
+    let it = first_symbol-spelled (b ∷ bs) sign e in (
+      it.1,
       record {
-        is_token = (s, refl);
-        longest = longest_of Symbol (symbol_bytes s) (drop (length (symbol_bytes s)) (b ∷ bs)) b bs (sym parts) (letter, digit) (λ front rest f t. symbol_bound (b ∷ bs) front rest s e f t);
-        no_comment = ap begins_comment (sym parts) ∙ plain;
+        is_token = (sign, it.0, refl);
+        longest = longest_of Symbol (spelled sign) (drop (length (spelled sign)) (b ∷ bs)) b bs (sym it.1) (letter, digit) (λ front rest f t. symbol_bound (b ∷ bs) front rest sign e f t);
+        no_comment = ap begins_comment (sym it.1) ∙ plain;
         short = tt;
       },
     )

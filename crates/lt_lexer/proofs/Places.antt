@@ -7,9 +7,9 @@ use Rattle.std.specs.declared.alloc.Global.{Global}
 use Rattle.std.proofs.lemmas.List.Elements.{All-from_recursion}
 use Rattle.std.specs.List.{AllByRecursion}
 use Rattle.std.proofs.lemmas.List.{drop_at, take_at, drop-drop}
-use Rattle.lt_lexer.specs.Piece.{Piece, token, bytes_of, kind_of, IsTaken}
+use Rattle.lt_lexer.specs.Piece.{Piece, token, bytes_of, kind_of, IsToken, IsTaken}
 use Rattle.lt_lexer.specs.Tokenization.{Divides, tokens_from, IsTokenization}
-use Rattle.lt_lexer.specs.Source.{IsInside, IsGap, StandInTurn}
+use Rattle.lt_lexer.specs.Source.{IsTokenOf, IsGap, StandInTurn}
 use Rattle.lt_lexer.specs.declared.token.Token.{Token}
 use Rattle.lt_lexer.specs.declared.refusal.LexRefusal.{LexRefusal}
 use Rattle.lt_lexer.proofs.Divisions.{bytes_some, divides_more}
@@ -60,7 +60,7 @@ stand (token kind bytes ∷ ps) text from gs rest n h k d place whole =
     let Q : List ℕ → Type 0 = λ l. IsTaken kind l (drop (n + length bytes) text) in (
       omega arith,
       gap text from n gs rest h k here,
-      record { ordered = omega arith; within = omega arith },
+      record { ordered = omega arith; within = omega arith; is_token = subst (IsToken kind) own d.2.is_token },
       subst Q own (subst P (sym behind) d.2),
       stand ps text (n + length bytes) [] d.0 (n + length bytes) behind tt d.3 (omega arith) (omega arith),
     )
@@ -73,14 +73,16 @@ stand (p ∷ ps) text from gs rest n h k d place whole =
 pub stand_in_turn : (text : List ℕ) (ts : List Token) → IsTokenization text ts → StandInTurn text 0 ts
 stand_in_turn text ts h = let P : List Token → Type 0 = StandInTurn text 0 in subst P (sym h.are) (stand h.pieces text 0 [] text 0 refl tt h.divides refl (omega arith))
 
-inside-each : (text : List ℕ) (from : ℕ) (ts : List Token) → StandInTurn text from ts → AllByRecursion (IsInside text) ts
-inside-each text from [] h = tt
-inside-each text from (t ∷ ts) h = (h.2, inside-each text t.span.end ts h.4)
+-- one by one
+token_of-each : (text : List ℕ) (from : ℕ) (ts : List Token) → StandInTurn text from ts → AllByRecursion (IsTokenOf text) ts
+token_of-each text from [] h = tt
+token_of-each text from (t ∷ ts) h = (h.2, token_of-each text t.span.end ts h.4)
 
--- each of them stands in the text
-pub inside : (text : List ℕ) (ts : List Token) → IsTokenization text ts → All (IsInside text) ts
-inside text ts h = All-from_recursion (IsInside text) ts (inside-each text 0 ts (stand_in_turn text ts h))
+-- each of them stands in the text, as a token of its kind
+pub inside : (text : List ℕ) (ts : List Token) → IsTokenization text ts → All (IsTokenOf text) ts
+inside text ts h = All-from_recursion (IsTokenOf text) ts (token_of-each text 0 ts (stand_in_turn text ts h))
 
-pub inside_of : (result : Result (Vec Token Global) LexRefusal) (text : List ℕ) → IfOk result (λ v. IsTokenization text v.items) → IfOk result (λ v. All (IsInside text) v.items)
+-- and so do those that are answered
+pub inside_of : (result : Result (Vec Token Global) LexRefusal) (text : List ℕ) → IfOk result (λ v. IsTokenization text v.items) → IfOk result (λ v. All (IsTokenOf text) v.items)
 inside_of (Ok v) text h = inside text v.items h
 inside_of (Err refusal) text h = tt

@@ -4,16 +4,17 @@ use Rattle.std.specs.List.{list_all}
 use Rattle.std.specs.Char.{is_ascii_digit, is_ascii_alphabetic}
 use Rattle.std.proofs.lemmas.Bool.{eqb-true}
 use Rattle.std.proofs.lemmas.Bool.Decides.{nat_tests}
+use Rattle.lt_ast.specs.Signs.{spelled}
+use Rattle.lt_ast.specs.declared.sign.Sign.{Sign}
+use Rattle.lt_ast.specs.declared.sign.Sign.TheVariants as s
 use Rattle.lt_lexer.specs.Byte.{is_blank, is_word_byte, begins_with}
-use Rattle.lt_lexer.specs.Symbol.{symbol_bytes}
 use Rattle.lt_lexer.specs.Piece.{IsToken, IsLongest, continues_number}
 use Rattle.lt_lexer.specs.declared.token.TokenKind.{TokenKind}
 use Rattle.lt_lexer.specs.declared.token.TokenKind.TheVariants.{Word, Number, Symbol}
-use Rattle.lt_lexer.specs.declared.symbol.Symbol as sign
-use Rattle.lt_lexer.specs.declared.symbol.Symbol.TheVariants.{OpenParen}
 use Rattle.lt_lexer.specs.Reading.{leading, behind}
 use Rattle.lt_lexer.proofs.Bools.{left_of, right_of}
 use Rattle.lt_lexer.proofs.Runs.{leading-longest, leading-behind}
+use Rattle.lt_lexer.proofs.Symbols.{as_symbol, each_symbol}
 
 -- the two bytes that a text begins with
 pub begins_two : (x y b : ℕ) (bs : List ℕ) → begins_with (x ∷ y ∷ []) (b ∷ bs) ≡ true → (b ≡ x) × (bs ≡ y ∷ drop 1 bs)
@@ -44,10 +45,10 @@ pub record Start (kind : TokenKind) (bytes : List ℕ) : Type 0 where
   pub starts : Starts kind byte
   pub no_blank : is_blank byte ≡ false
 
--- by cases
-symbol_start : (s : sign.Symbol) → Start Symbol (symbol_bytes s)
-symbol_start OpenParen = record { byte = 40; behind = []; parts = refl; starts = (refl, refl); no_blank = refl }
-symbol_start s = record { byte = get_or (symbol_bytes s) 0 0; behind = drop 1 (symbol_bytes s); parts = refl; starts = (refl, refl); no_blank = refl }
+-- a symbol begins with a byte that no word and no number begins with, by cases
+symbol_start-each : (sign : Sign) → Start Symbol (spelled (as_symbol sign))
+symbol_start-each s.Open = record { byte = 40; behind = []; parts = refl; starts = (refl, refl); no_blank = refl }
+symbol_start-each sign = record { byte = get_or (spelled (as_symbol sign)) 0 0; behind = drop 1 (spelled (as_symbol sign)); parts = refl; starts = (refl, refl); no_blank = refl }
 
 -- a token begins with a byte of its kind, and not with a blank
 pub token_start : (kind : TokenKind) (bytes : List ℕ) → IsToken kind bytes → Start kind bytes
@@ -55,7 +56,7 @@ token_start Word [] h = absurd (cc)
 token_start Word (b ∷ bs) h = let letter = left_of (is_ascii_alphabetic b) (list_all is_word_byte bs) h in record { byte = b; behind = bs; parts = refl; starts = letter; no_blank = letter-blank b letter }
 token_start Number [] h = absurd (cc)
 token_start Number (b ∷ bs) h = let digit = left_of (is_ascii_digit b) (continues_number bs) h in record { byte = b; behind = bs; parts = refl; starts = (digit-letter b digit, digit); no_blank = digit-blank b digit }
-token_start Symbol bytes h = subst (Start Symbol) (sym h.1) (symbol_start h.0)
+token_start Symbol bytes h = subst (Start Symbol) (sym h.2) (each_symbol (λ sign. Start Symbol (spelled sign)) symbol_start-each h.0 h.1)
 
 -- which kind the first byte tells
 pub same_kind : (k j : TokenKind) (b : ℕ) → Starts k b → Starts j b → k ≡ j

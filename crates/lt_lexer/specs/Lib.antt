@@ -1,7 +1,7 @@
 pub mod Byte
 pub mod Symbol
-pub mod Keyword
 pub mod Piece
 pub mod Tokenization
 pub mod Source
 pub mod Reading
+pub mod Apart

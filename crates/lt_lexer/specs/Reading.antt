@@ -5,13 +5,13 @@ use Rattle.std.specs.declared.result.Result.{Result}
 use Rattle.std.specs.Cmp.Lexicographic.{pointwise}
 use Rattle.std.specs.List.{find}
 use Rattle.std.specs.Char.{is_ascii_digit, is_ascii_alphabetic}
+use Rattle.lt_ast.specs.Signs.{spelled}
+use Rattle.lt_ast.specs.declared.sign.Sign.{Sign}
+use Rattle.lt_ast.specs.declared.sign.Sign.TheVariants as s
 use Rattle.lt_lexer.specs.Byte.{is_blank, is_word_byte, is_in_line, is_point, begins_with}
-use Rattle.lt_lexer.specs.Symbol.{symbol_bytes}
 use Rattle.lt_lexer.specs.Piece.{Piece, blank, line_comment, block_comment, token, bytes_of, begins_line_comment, begins_block_comment, most_digits, kind_of}
 use Rattle.lt_lexer.specs.Tokenization.{Fault, bad_byte, open_comment, number_too_long, refusal_at}
 use Rattle.lt_lexer.specs.declared.token.TokenKind.TheVariants.{Word, Number, Symbol}
-use Rattle.lt_lexer.specs.declared.symbol.Symbol as sign
-use Rattle.lt_lexer.specs.declared.symbol.Symbol.TheVariants.{OpenParen, CloseParen, OpenBrace, CloseBrace, OpenBracket, CloseBracket, Colon, Semicolon, Comma, Equal, NotEqual, Less, AtMost, Greater, AtLeast, Plus, Minus, Star, Slash, Implies, Bar, Priority, Parallel, Tilde}
 use Rattle.lt_lexer.specs.declared.refusal.LexRefusal.{LexRefusal}
 use Rattle.lt_lexer.specs.declared.piece.Piece as code
 
@@ -26,17 +26,17 @@ behind p [] = []
 behind p (b ∷ bs) = if p b then behind p bs else b ∷ bs
 
 -- every symbol
-abbrev pub symbols : List sign.Symbol
+abbrev pub symbols : List Sign
 symbols =
-    OpenParen ∷ CloseParen ∷ OpenBrace ∷ CloseBrace ∷ OpenBracket ∷ CloseBracket
-    ∷ Colon ∷ Semicolon ∷ Comma ∷ Equal ∷ NotEqual ∷ Less
-    ∷ AtMost ∷ Greater ∷ AtLeast ∷ Plus ∷ Minus ∷ Star
-    ∷ Slash ∷ Implies ∷ Bar ∷ Priority ∷ Parallel ∷ Tilde
+    s.Open ∷ s.Close ∷ s.OpenBrace ∷ s.CloseBrace ∷ s.OpenBracket ∷ s.CloseBracket
+    ∷ s.Colon ∷ s.Semicolon ∷ s.Comma ∷ s.Equal ∷ s.Unequal ∷ s.Less
+    ∷ s.LessEqual ∷ s.Greater ∷ s.GreaterEqual ∷ s.Plus ∷ s.Minus ∷ s.Star
+    ∷ s.Slash ∷ s.Implies ∷ s.Bar ∷ s.Priority ∷ s.Parallel ∷ s.Tilde
     ∷ []
 
 -- the symbol that is spelled so
-abbrev pub symbol_spelled : List ℕ → Option sign.Symbol
-symbol_spelled bytes = find (λ s. pointwise nat_eq (symbol_bytes s) bytes) symbols
+abbrev pub symbol_spelled : List ℕ → Option Sign
+symbol_spelled bytes = find (λ sign. pointwise nat_eq (spelled sign) bytes) symbols
 
 -- the first of two that is there
 abbrev pub or_else : {X : Type 0} → Option X → Option X → Option X
@@ -44,7 +44,7 @@ or_else None other = other
 or_else (Some x) other = Some x
 
 -- the longest symbol at the front
-abbrev pub first_symbol : List ℕ → Option sign.Symbol
+abbrev pub first_symbol : List ℕ → Option Sign
 first_symbol [] = None
 first_symbol (a ∷ []) = symbol_spelled (a ∷ [])
 first_symbol (a ∷ b ∷ bs) = or_else (symbol_spelled (a ∷ b ∷ [])) (symbol_spelled (a ∷ []))
@@ -99,9 +99,9 @@ next_number text =
     else fails number_too_long
 
 -- the symbol at the front as a piece, where there is one
-abbrev pub next_symbol : List ℕ → Option sign.Symbol → Next
+abbrev pub next_symbol : List ℕ → Option Sign → Next
 next_symbol text None = fails bad_byte
-next_symbol text (Some s) = next (token Symbol (symbol_bytes s)) (drop (length (symbol_bytes s)) text)
+next_symbol text (Some sign) = next (token Symbol (spelled sign)) (drop (length (spelled sign)) text)
 
 -- what is first in a text, by its first bytes
 abbrev pub next_of : List ℕ → Next

@@ -1,36 +1,30 @@
 -- What a token is in the text that it is a token of, and where the tokens of a text stand.
 use Rattle.std.specs.Prelude.{◌≡◌, ℕ, ◌≤◌, ◌<◌, List, [], ◌∷◌, None, drop, length, slice_range, Contains}
 use Rattle.std.specs.List.{AllByRecursion}
+use Rattle.lt_ast.specs.Signs.{spelled}
+use Rattle.lt_ast.specs.declared.sign.Sign.{Sign}
+use Rattle.lt_ast.specs.declared.sign.Sign.TheVariants as s
 use Rattle.lt_lexer.specs.Byte.{point}
-use Rattle.lt_lexer.specs.Symbol.{symbol_bytes}
-use Rattle.lt_lexer.specs.Keyword.{keyword_bytes, IsKeyword}
-use Rattle.lt_lexer.specs.Piece.{Piece, kind_of, IsTaken}
+use Rattle.lt_lexer.specs.Piece.{Piece, kind_of, IsToken, IsTaken}
 use Rattle.lt_lexer.specs.Tokenization.{Divides}
 use Rattle.lt_lexer.specs.declared.token.Token.{Token}
 use Rattle.lt_lexer.specs.declared.token.TokenKind.TheVariants as kind
-use Rattle.lt_lexer.specs.declared.symbol.Symbol.{Symbol}
-use Rattle.lt_lexer.specs.declared.keyword.Keyword.{Keyword}
-
--- a token stands in the text, and has some bytes
-pub record IsInside (text : List ℕ) (t : Token) : Type 0 where
-  pub ordered : t.span.start < t.span.end
-  pub within : t.span.end ≤ length text
 
 -- the bytes of a token
 abbrev pub token_bytes : List ℕ → Token → List ℕ
 token_bytes text t = slice_range text t.span.start t.span.end
 
--- the token is this symbol
-abbrev pub IsThisSymbol : List ℕ → Token → Symbol → Type 0
-IsThisSymbol text t s = (t.kind ≡ kind.Symbol) × (token_bytes text t ≡ symbol_bytes s)
+-- a token stands in the text, and its bytes are a token of its kind
+pub record IsTokenOf (text : List ℕ) (t : Token) : Type 0 where
+  pub ordered : t.span.start < t.span.end
+  pub within : t.span.end ≤ length text
+  pub is_token : IsToken t.kind (token_bytes text t)
 
--- the token is this keyword
-abbrev pub IsThisKeyword : List ℕ → Token → Keyword → Type 0
-IsThisKeyword text t keyword = (t.kind ≡ kind.Word) × (token_bytes text t ≡ keyword_bytes keyword)
-
--- the token is a word, and no keyword
-abbrev pub IsName : List ℕ → Token → Type 0
-IsName text t = (t.kind ≡ kind.Word) × (IsKeyword (token_bytes text t) → ⊥)
+-- Which sign a token is: a word that is no keyword is a name.
+abbrev pub IsSign : List ℕ → Token → Sign → Type 0
+IsSign text t s.Name = (t.kind ≡ kind.Word) × ((sign : Sign) → token_bytes text t ≡ spelled sign → ⊥)
+IsSign text t s.Number = t.kind ≡ kind.Number
+IsSign text t sign = token_bytes text t ≡ spelled sign
 
 -- the token is a number with a point
 abbrev pub IsReal : List ℕ → Token → Type 0
@@ -46,4 +40,4 @@ abbrev pub StandInTurn : List ℕ → ℕ → List Token → Type 0
 StandInTurn text from [] = IsGap text from (length text)
 StandInTurn text from (t ∷ ts) =
     (from ≤ t.span.start) × IsGap text from t.span.start
-    × IsInside text t × IsTaken t.kind (token_bytes text t) (drop t.span.end text) × StandInTurn text t.span.end ts
+    × IsTokenOf text t × IsTaken t.kind (token_bytes text t) (drop t.span.end text) × StandInTurn text t.span.end ts

@@ -1,35 +1,37 @@
--- The symbols and their spelling.
-use Rattle.std.specs.Prelude.{◌≡◌, ℕ, List, codes}
-use Rattle.lt_lexer.specs.declared.symbol.Symbol.{Symbol}
-use Rattle.lt_lexer.specs.declared.symbol.Symbol.TheVariants.{OpenParen, CloseParen, OpenBrace, CloseBrace, OpenBracket, CloseBracket, Colon, Semicolon, Comma, Equal, NotEqual, Less, AtMost, Greater, AtLeast, Plus, Minus, Star, Slash, Implies, Bar, Priority, Parallel, Tilde}
+-- Which signs are symbols.
+use Rattle.std.specs.Prelude.{◌≡◌, ℕ, Bool, true, false, IsTrue, List}
+use Rattle.lt_ast.specs.Signs.{spelled}
+use Rattle.lt_ast.specs.declared.sign.Sign.{Sign}
+use Rattle.lt_ast.specs.declared.sign.Sign.TheVariants as s
 
--- how each symbol is spelled
-abbrev pub symbol_bytes : Symbol → List ℕ
-symbol_bytes OpenParen = codes "("
-symbol_bytes CloseParen = codes ")"
-symbol_bytes OpenBrace = codes "{"
-symbol_bytes CloseBrace = codes "}"
-symbol_bytes OpenBracket = codes "["
-symbol_bytes CloseBracket = codes "]"
-symbol_bytes Colon = codes ":"
-symbol_bytes Semicolon = codes ";"
-symbol_bytes Comma = codes ","
-symbol_bytes Equal = codes "="
-symbol_bytes NotEqual = codes "<>"
-symbol_bytes Less = codes "<"
-symbol_bytes AtMost = codes "<="
-symbol_bytes Greater = codes ">"
-symbol_bytes AtLeast = codes ">="
-symbol_bytes Plus = codes "+"
-symbol_bytes Minus = codes "-"
-symbol_bytes Star = codes "*"
-symbol_bytes Slash = codes "/"
-symbol_bytes Implies = codes "=>"
-symbol_bytes Bar = codes "|"
-symbol_bytes Priority = codes "|>"
-symbol_bytes Parallel = codes "&>"
-symbol_bytes Tilde = codes "~"
+-- a sign is a symbol; each other one is a word, but for that of a number
+abbrev pub is_symbol : Sign → Bool
+is_symbol s.Open = true
+is_symbol s.Close = true
+is_symbol s.OpenBrace = true
+is_symbol s.CloseBrace = true
+is_symbol s.OpenBracket = true
+is_symbol s.CloseBracket = true
+is_symbol s.Colon = true
+is_symbol s.Semicolon = true
+is_symbol s.Comma = true
+is_symbol s.Equal = true
+is_symbol s.Unequal = true
+is_symbol s.Less = true
+is_symbol s.LessEqual = true
+is_symbol s.Greater = true
+is_symbol s.GreaterEqual = true
+is_symbol s.Plus = true
+is_symbol s.Minus = true
+is_symbol s.Star = true
+is_symbol s.Slash = true
+is_symbol s.Implies = true
+is_symbol s.Bar = true
+is_symbol s.Priority = true
+is_symbol s.Parallel = true
+is_symbol s.Tilde = true
+is_symbol sign = false
 
 -- some symbol is spelled so
 abbrev pub IsSymbol : List ℕ → Type 0
-IsSymbol bytes = (s : Symbol) × (bytes ≡ symbol_bytes s)
+IsSymbol bytes = (sign : Sign) × IsTrue (is_symbol sign) × (bytes ≡ spelled sign)

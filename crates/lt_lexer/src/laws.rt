@@ -3,6 +3,7 @@
 ghost use Rattle.std.specs.Prelude.{◌≡◌, ◌⊎◌, ℕ, List};
 ghost use Rattle.lt_lexer.specs.Tokenization.{IsTokenization, IsRefusal};
 ghost use Rattle.lt_lexer.specs.Source.{StandInTurn};
+ghost use Rattle.lt_lexer.specs.Apart.{ReadsApart};
 ghost use Rattle.lt_lexer.specs.declared.token.Token.{Token};
 ghost use Rattle.lt_lexer.specs.declared.refusal.LexRefusal.{LexRefusal};
 
@@ -24,4 +25,10 @@ pub fn one_answer_belongs_to_a_text()
 pub fn tokens_stand_in_turn()
     ensures { (text : List ℕ) (tokens : List Token) →
         IsTokenization text tokens → StandInTurn text 0 tokens }
+{}
+
+/// The tokens of a text, written one behind another with a blank byte behind each, are read as the
+/// same tokens.
+pub fn tokens_apart_are_the_same()
+    ensures { ReadsApart }
 {}

@@ -2,7 +2,7 @@
 
 ghost use Rattle.std.specs.Prelude.{◌≡◌, ◌⊎◌, List, All, IfOk, IfErr};
 ghost use Rattle.lt_lexer.specs.Tokenization.{IsTokenization, IsRefusal, AnswersTokens, AnswersRefusal};
-ghost use Rattle.lt_lexer.specs.Source.{IsInside};
+ghost use Rattle.lt_lexer.specs.Source.{IsTokenOf};
 ghost use Rattle.lt_lexer.specs.declared.token.Token.{Token};
 ghost use Rattle.lt_lexer.specs.declared.refusal.LexRefusal.{LexRefusal};
 
@@ -22,8 +22,8 @@ pub fn lex(alloc: Global, text: &[u8]) -> Result<Vec<Token>, LexRefusal>
     // .. and what are the text's tokens is answered, unless memory runs out.
     ensures only { (tokens : List Token) →
         IsTokenization text.now tokens → AnswersTokens tokens result }
-    // Each of them stands in the text.
-    ensures inside { IfOk result (λ v. All (IsInside text.now) v.items) }
+    // Each of them stands in the text, as a token of its kind.
+    ensures inside { IfOk result (λ v. All (IsTokenOf text.now) v.items) }
 
     // What is refused is refused rightly ..
     ensures refused { IfErr result (λ refusal.

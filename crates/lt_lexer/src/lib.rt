@@ -1,10 +1,11 @@
 //! Tokens: the words, numbers and symbols of a scenario's text, with their places.
 //!
 //! A text divides into blanks, comments and tokens, each token as long as it can be. [`lex`] answers a
-//! text's tokens, or why it has none; [`Token`] tells what a token is in its text.
+//! text's tokens, or why it has none; a [`Token`] tells which sign of the language it is, and its letters.
 //!
 //! The rules are in `docs/LANGUAGE.md`, under *Lexical rules*. `specs/Piece.antt` says what blanks,
-//! comments and tokens are, and `specs/Tokenization.antt` what tokens a text has and why a text has none.
+//! comments and tokens are, `specs/Tokenization.antt` what tokens a text has and why a text has none, and
+//! `specs/Source.antt` which sign a token is. How each sign is spelled, `spelled` of `lt_ast` says.
 #![tactic(auto)]
 
 mod byte;
@@ -16,11 +17,9 @@ mod refusal;
 mod symbol;
 mod token;
 
-pub use keyword::Keyword;
-pub use laws::{one_answer_belongs_to_a_text, tokens_stand_in_turn};
+pub use laws::{one_answer_belongs_to_a_text, tokens_apart_are_the_same, tokens_stand_in_turn};
 pub use lexer::lex;
 pub use refusal::LexRefusal;
-pub use symbol::Symbol;
 pub use token::{Token, TokenKind};
 
 #[cfg(test)]

@@ -6,7 +6,7 @@ ghost use Rattle.lt_lexer.specs.Reading.{closed, next_of, next_comment, next_num
 
 use crate::byte::{digits, is_blank, line_bytes, word_bytes};
 use crate::refusal::LexRefusal;
-use crate::symbol::Symbol;
+use crate::symbol::first_symbol;
 use crate::token::TokenKind;
 
 // How many digits a number may have.
@@ -123,8 +123,8 @@ fn fraction(text: &[u8]) -> usize
 fn symbol(text: &[u8], place: usize) -> Result<Piece, LexRefusal>
     ensures { Gives place result (next_symbol text.now (first_symbol text.now)) }
 {
-    match Symbol::first(text) {
-        Some(symbol) => Ok(Piece::token(TokenKind::Symbol, symbol.len())),
+    match first_symbol(text) {
+        Some(sign) => Ok(Piece::token(TokenKind::Symbol, sign.text().len())),
         None => Err(LexRefusal::BadByte(place)),
     }
 }

@@ -1,7 +1,7 @@
 //! Texts whose tokens follow from the rules.
 
 use super::*;
-use lt_ast::Span;
+use lt_ast::{Sign, Span};
 use std::test::Fail;
 
 const fn word(start: usize, end: usize) -> Token {
@@ -90,24 +90,22 @@ fn refusals(rt: HostRuntime) {
     }
 }
 
-// A token, and the questions that it says yes to.
+// A token, and what it answers.
 #[derive(Clone, Copy)]
 struct Asked {
     token: Token,
-    is_loop: bool,
-    is_name: bool,
+    sign: Sign,
+    letters: &'static str,
     is_real: bool,
-    is_implies: bool,
 }
 
-// A token that says no to all of them.
-const fn none(token: Token) -> Asked {
+// A token that is not the number of a real.
+const fn no_real(token: Token, sign: Sign, letters: &'static str) -> Asked {
     Asked {
         token,
-        is_loop: false,
-        is_name: false,
+        sign,
+        letters,
         is_real: false,
-        is_implies: false,
     }
 }
 
@@ -115,33 +113,24 @@ const fn none(token: Token) -> Asked {
 fn questions(rt: HostRuntime) -> Result<(), Fail> {
     let text = b"loop loops 2.0 3 => <";
     let expected = [
-        Asked {
-            is_loop: true,
-            ..none(word(0, 4))
-        },
-        Asked {
-            is_name: true,
-            ..none(word(5, 10))
-        },
+        no_real(word(0, 4), Sign::Loop, "loop"),
+        no_real(word(5, 10), Sign::Name, "loops"),
         Asked {
             is_real: true,
-            ..none(number(11, 14))
+            ..no_real(number(11, 14), Sign::Number, "2.0")
         },
-        none(number(15, 16)),
-        Asked {
-            is_implies: true,
-            ..none(symbol(17, 19))
-        },
-        none(symbol(20, 21)),
+        no_real(number(15, 16), Sign::Number, "3"),
+        no_real(symbol(17, 19), Sign::Implies, "=>"),
+        no_real(symbol(20, 21), Sign::Less, "<"),
     ];
     let tokens = lex(rt.alloc(), text)?;
     assert_eq!(rt; tokens.len(), expected.len());
     for (token, asked) in tokens.iter().zip(expected) {
         assert_eq!(rt; *token, asked.token);
-        assert_eq!(rt; token.is_keyword(text, Keyword::Loop), asked.is_loop);
-        assert_eq!(rt; token.is_name(text), asked.is_name);
+        assert_eq!(rt; token.sign(text), asked.sign);
+        assert_eq!(rt; token.bytes(text), asked.letters.as_bytes());
+        assert_eq!(rt; token.letters(text), asked.letters);
         assert_eq!(rt; token.is_real(text), asked.is_real);
-        assert_eq!(rt; token.is_symbol(text, Symbol::Implies), asked.is_implies);
     }
     Ok(())
 }

@@ -1,13 +1,12 @@
 //! Tokens.
 
-ghost use Rattle.std.specs.Prelude.{◌≡◌, ◌↔◌, IsTrue, MatchOption};
-ghost use Rattle.lt_lexer.specs.declared.symbol.Symbol.{Symbol};
-ghost use Rattle.lt_lexer.specs.declared.keyword.Keyword.{Keyword};
-ghost use Rattle.lt_lexer.specs.Source.{IsInside, token_bytes, IsThisSymbol, IsThisKeyword, IsName, IsReal};
+ghost use Rattle.std.specs.Prelude.{◌≡◌, ◌↔◌, IsTrue};
+ghost use Rattle.lt_lexer.specs.Source.{IsTokenOf, token_bytes, IsSign, IsReal};
 
-use crate::keyword::Keyword;
-use crate::symbol::Symbol;
-use lt_ast::Span;
+use crate::keyword::keyword;
+use crate::symbol::first_symbol;
+use lt_ast::{Sign, Span};
+use std::str;
 
 /// What a token is.
 #[derive(Clone, Copy, Debug, PartialEq, Eq)]
@@ -18,7 +17,7 @@ pub enum TokenKind {
     /// Digits, and maybe a point behind them, with or without digits after it.
     Number,
 
-    /// One of the signs that [`Symbol`](crate::Symbol) lists.
+    /// A [`Sign`] that is no word and no number.
     Symbol,
 }
 
@@ -35,63 +34,35 @@ pub struct Token {
 impl Token {
     /// Its bytes, in the text that it is a token of.
     pub fn bytes<'a>(&self, text: &'a [u8]) -> &'a [u8]
-        requires { IsInside text.now self.now }
+        requires { IsTokenOf text.now self.now }
         ensures { result.now ≡ token_bytes text.now self.now }
     {
         &text[self.span.start..self.span.end]
     }
 
-    /// Which symbol it is, if it is one.
-    pub fn symbol(&self, text: &[u8]) -> Option<Symbol>
-        requires { IsInside text.now self.now }
-        ensures { MatchOption result ((s : Symbol) → IsThisSymbol text.now self.now s → ⊥)
-            (IsThisSymbol text.now self.now) }
+    /// The same as letters.
+    pub fn letters<'a>(&self, text: &'a [u8]) -> &'a str
+        requires { IsTokenOf text.now self.now }
+        ensures { result.now ≡ token_bytes text.now self.now }
+    {
+        str::from_utf8(self.bytes(text)).unwrap()
+    }
+
+    /// Which sign it is.
+    pub fn sign(&self, text: &[u8]) -> Sign
+        requires { IsTokenOf text.now self.now }
+        ensures { IsSign text.now self.now result }
     {
         match self.kind {
-            TokenKind::Symbol => Symbol::of(self.bytes(text)),
-            TokenKind::Word | TokenKind::Number => None,
+            TokenKind::Word => keyword(self.bytes(text)).unwrap_or(Sign::Name),
+            TokenKind::Number => Sign::Number,
+            TokenKind::Symbol => first_symbol(self.bytes(text)).unwrap(),
         }
-    }
-
-    /// Whether it is this symbol.
-    pub fn is_symbol(&self, text: &[u8], symbol: Symbol) -> bool
-        requires { IsInside text.now self.now }
-        ensures { IsTrue result ↔ IsThisSymbol text.now self.now symbol }
-    {
-        self.symbol(text) == Some(symbol)
-    }
-
-    /// Which keyword it is, if it is one.
-    pub fn keyword(&self, text: &[u8]) -> Option<Keyword>
-        requires { IsInside text.now self.now }
-        ensures { MatchOption result ((k : Keyword) → IsThisKeyword text.now self.now k → ⊥)
-            (IsThisKeyword text.now self.now) }
-    {
-        match self.kind {
-            TokenKind::Word => Keyword::of(self.bytes(text)),
-            TokenKind::Number | TokenKind::Symbol => None,
-        }
-    }
-
-    /// Whether it is this keyword.
-    pub fn is_keyword(&self, text: &[u8], keyword: Keyword) -> bool
-        requires { IsInside text.now self.now }
-        ensures { IsTrue result ↔ IsThisKeyword text.now self.now keyword }
-    {
-        self.kind == TokenKind::Word && self.bytes(text) == keyword.bytes()
-    }
-
-    /// Whether it is a name: a word that is no keyword.
-    pub fn is_name(&self, text: &[u8]) -> bool
-        requires { IsInside text.now self.now }
-        ensures { IsTrue result ↔ IsName text.now self.now }
-    {
-        self.kind == TokenKind::Word && Keyword::of(self.bytes(text)).is_none()
     }
 
     /// Whether it is the number of a real: one with a point.
     pub fn is_real(&self, text: &[u8]) -> bool
-        requires { IsInside text.now self.now }
+        requires { IsTokenOf text.now self.now }
         ensures { IsTrue result ↔ IsReal text.now self.now }
     {
         self.kind == TokenKind::Number && self.bytes(text).contains(&b'.')
