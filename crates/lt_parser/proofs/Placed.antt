@@ -1,0 +1,86 @@
+-- The parser's tokens and refusals are those of the text.
+use Rattle.std.proofs.Common.{◌≡◌, ◌⊎◌, inl, inr, ℕ, zero, suc, ◌+◌, ◌<◌, List, [], ◌∷◌, ◌++◌, length, drop, take, get_or, refl, sym, ◌∙◌, ap, subst, Result, Ok, Err, IfOk, IfErr, arith}
+use Rattle.std.proofs.Math.Seq.{take-suc}
+use Rattle.lt_ast.specs.Syntax.{Declaration}
+use Rattle.lt_ast.specs.View.{program}
+use Rattle.lt_ast.specs.declared.program.Program.{Program}
+use Rattle.lt_lexer.specs.declared.token.Token.{Token}
+use Rattle.lt_parser.specs.Going.{ProgramGoes}
+use Rattle.lt_parser.specs.Lexemes.{Lexeme, Lexemes, lexeme_of, lexemes}
+use Rattle.lt_parser.specs.Placing.{IsPlaced, IsWithin}
+use Rattle.lt_parser.specs.Text.{AnswersProgram, AnswersRefusal, AreLexemesOf, HasLexemes, IsLexemeOf, IsProgramOf, IsRefusal, place_of}
+use Rattle.lt_parser.specs.declared.refusal.ParseRefusal.{ParseRefusal}
+use Rattle.lt_parser.specs.declared.refusal.ParseRefusal.TheVariants.{Memory}
+use Rattle.lt_parser.specs.declared.refusal.Refusal.{Refusal}
+use Rattle.lt_parser.specs.declared.refusal.Refusal.TheVariants as r
+use Rattle.lt_parser.specs.declared.token.Token as parser
+use Rattle.lt_parser.proofs.Texts.{one_program, one_refusal, program_or_refusal, read_is_program, too_deep_fits, too_deep_is_refusal, unexpected_fits, unexpected_is_refusal}
+
+-- TOKENS
+
+-- one more token, and one more lexeme
+pub more_lexemes : (text : List ℕ) (ts : List Token) (ls : Lexemes) (t : Token) (l : Lexeme) → AreLexemesOf text ts ls → IsLexemeOf text t l → AreLexemesOf text (ts ++ t ∷ []) (ls ++ l ∷ [])
+more_lexemes text [] [] t l h g = (g, tt)
+more_lexemes text (u ∷ us) (v ∷ vs) t l h g = (h.0, more_lexemes text us vs t l h.1 g)
+more_lexemes text [] (v ∷ vs) t l h g = absurd h
+more_lexemes text (u ∷ us) [] t l h g = absurd h
+
+-- the lexemes of one token more
+pub lexemes-push : (ts : List parser.Token) (t : parser.Token) → lexemes (ts ++ t ∷ []) ≡ lexemes ts ++ lexeme_of t ∷ []
+lexemes-push [] t = refl
+lexemes-push (u ∷ us) t = ap (λ ls. lexeme_of u ∷ ls) (lexemes-push us t)
+
+-- the loop over the lexer's tokens goes on to the next one
+pub next_lexeme : (text : List ℕ) (lexed : List Token) (i : ℕ) (d : Token) (ts new : List parser.Token) (t : parser.Token) → i < length lexed → AreLexemesOf text (take i lexed) (lexemes ts) → new ≡ ts ++ t ∷ []
+    → IsLexemeOf text (get_or lexed i d) (lexeme_of t) → AreLexemesOf text (take (i + 1) lexed) (lexemes new)
+next_lexeme text lexed i d ts new t le h e g =
+    let one : suc i ≡ i + 1 = omega arith in
+    subst (λ us. AreLexemesOf text us (lexemes new)) (sym (take-suc lexed i d le) ∙ ap (λ n. take n lexed) one)
+    (subst (AreLexemesOf text (take i lexed ++ get_or lexed i d ∷ [])) (sym (ap lexemes e ∙ lexemes-push ts t))
+    (more_lexemes text (take i lexed) (lexemes ts) (get_or lexed i d) (lexeme_of t) h g))
+
+-- there are as many
+pub length-lexemes : (ts : List parser.Token) → length (lexemes ts) ≡ length ts
+length-lexemes [] = refl
+length-lexemes (t ∷ ts) = ap suc (length-lexemes ts)
+
+-- PLACES
+
+-- the rest from a token on begins where that token stands
+pub place_at : (text : List ℕ) (ts : List parser.Token) (i : ℕ) (t : parser.Token) → i < length ts → t ≡ get_or ts i t → t.span.start ≡ place_of text (drop i (lexemes ts))
+place_at text [] i t le e = absurd (omega (arith, le))
+place_at text (u ∷ us) zero t le e = ap (λ v. v.span.start) e
+place_at text (u ∷ us) (suc i) t le e = place_at text us i t (omega (arith, le)) e
+
+-- No more tokens are left than there are.
+pub refused_within : (ls : Lexemes) (refusal : Refusal) → ProgramGoes ls (Err refusal) → IsWithin ls refusal
+refused_within ls (r.Unexpected left) h = unexpected_fits ls left h
+refused_within ls (r.TooDeep left) h = too_deep_fits ls left h
+refused_within ls r.Memory h = tt
+
+-- ANSWERS
+
+-- What is read is the text's program.
+pub read_program : (text : List ℕ) (ls : Lexemes) (p : Program) → HasLexemes text ls → ProgramGoes ls (Ok p) → IsProgramOf text (program p)
+read_program text ls p h g = read_is_program text ls (program p) h g
+
+-- What is refused is refused of the text.
+pub placed_refusal : (text : List ℕ) (ls : Lexemes) (refusal : Refusal) (answer : ParseRefusal) → HasLexemes text ls → ProgramGoes ls (Err refusal) → IsPlaced text ls refusal answer
+    → (answer ≡ Memory) ⊎ IsRefusal text answer
+placed_refusal text ls (r.Unexpected left) answer h g e = inr (subst (IsRefusal text) (sym e) (unexpected_is_refusal text ls left h g))
+placed_refusal text ls (r.TooDeep left) answer h g e = inr (subst (IsRefusal text) (sym e) (too_deep_is_refusal text ls left h g))
+placed_refusal text ls r.Memory answer h g e = inl e
+
+-- A text that spells a program is answered with it.
+pub answers_program : (text : List ℕ) (result : Result Program ParseRefusal) → IfOk result (λ p. IsProgramOf text (program p)) → IfErr result (λ refusal. (refusal ≡ Memory) ⊎ IsRefusal text refusal)
+    → (x : List Declaration) → IsProgramOf text x → AnswersProgram x result
+answers_program text (Ok p) f g x h = one_program text (program p) x f h
+answers_program text (Err answer) f (inl e) x h = e
+answers_program text (Err answer) f (inr q) x h = absurd (program_or_refusal text x answer h q)
+
+-- A text that is to be refused is refused so.
+pub answers_refusal : (text : List ℕ) (result : Result Program ParseRefusal) → IfOk result (λ p. IsProgramOf text (program p)) → IfErr result (λ refusal. (refusal ≡ Memory) ⊎ IsRefusal text refusal)
+    → (refusal : ParseRefusal) → IsRefusal text refusal → AnswersRefusal refusal result
+answers_refusal text (Ok p) f g refusal h = absurd (program_or_refusal text (program p) refusal f h)
+answers_refusal text (Err answer) f (inl e) refusal h = inr e
+answers_refusal text (Err answer) f (inr q) refusal h = inl (one_refusal text answer refusal q h)

@@ -1,0 +1,12 @@
+pub mod Going
+pub mod Grammar
+pub mod Lexemes
+pub mod Onto
+pub mod Placing
+pub mod Precedence
+pub mod PrintedText
+pub mod Program
+pub mod Reading
+pub mod Text
+pub mod Unplaced
+pub mod Written

@@ -1,0 +1,64 @@
+-- Lists that the code has, in front of the lists of a tree.
+use Rattle.std.specs.Prelude.{ℕ, List, [], ◌∷◌}
+use Rattle.lt_ast.specs.Rows.{weighed, group_of}
+use Rattle.lt_ast.specs.Syntax as s
+use Rattle.lt_ast.specs.Syntax.{Word, Arguments, Alternatives, Trace, Traces, Groupings, Declaration}
+use Rattle.lt_ast.specs.View.{word, argument, trace, declaration}
+use Rattle.lt_ast.specs.declared.sign.Sign.{Sign}
+use Rattle.lt_ast.specs.declared.span.Span.{Span}
+use Rattle.lt_parser.specs.Reading.{Goal, an_alternative, more_alternatives, a_trace, more_traces, an_item, more_items, declarations, done}
+use Rattle.lt_ast.specs.declared.name.Name.{Name}
+use Rattle.lt_ast.specs.declared.expr.Arg.{Arg}
+use Rattle.lt_ast.specs.declared.trace.Part.{Part}
+use Rattle.lt_ast.specs.declared.trace.TraceExpr.{TraceExpr}
+use Rattle.lt_ast.specs.declared.group.Group.{Group}
+use Rattle.lt_ast.specs.declared.program.Decl.{Decl}
+
+-- parts in front of others, each put there by f
+abbrev pub onto : {X L : Type 0} → (X → L → L) → List X → L → L
+onto f [] more = more
+onto f (x ∷ xs) more = f x (onto f xs more)
+
+-- arguments
+abbrev pub arguments_onto : List Arg → Arguments → Arguments
+arguments_onto xs more = onto (λ x. s.argument (argument x)) xs more
+
+-- alternatives
+abbrev pub alternatives_onto : List Part → Alternatives → Alternatives
+alternatives_onto xs more = onto (λ x. s.alternative (weighed x.weight x.body)) xs more
+
+-- traces
+abbrev pub traces_onto : List TraceExpr → Traces → Traces
+traces_onto xs more = onto (λ x. s.one_trace (trace x)) xs more
+
+-- groups
+abbrev pub groups_onto : List Group → Groupings → Groupings
+groups_onto xs more = onto (λ x. s.one_group (group_of x)) xs more
+
+-- names
+abbrev pub words_onto : List Name → List Word → List Word
+words_onto xs more = onto (λ x ws. word x ∷ ws) xs more
+
+-- declarations
+abbrev pub declarations_onto : List Decl → List Declaration → List Declaration
+declarations_onto xs more = onto (λ x ds. declaration x ∷ ds) xs more
+
+-- What is wanted where parts are read already: an alternative and more of them ..
+abbrev pub alternatives_behind : ℕ → List Part → (Alternatives → Span → Goal) → Goal
+alternatives_behind d before k = an_alternative d (λ p. more_alternatives d (λ more. k (alternatives_onto before (s.alternative p more))))
+
+-- .. a trace and more of them behind a sign ..
+abbrev pub traces_behind : ℕ → Sign → List TraceExpr → (Traces → Span → Goal) → Goal
+traces_behind d sign before k = a_trace d (λ x. more_traces d sign (λ more. k (traces_onto before (s.one_trace x more))))
+
+-- .. an item and more of them of a sequence ..
+abbrev pub items_behind : ℕ → List TraceExpr → (Trace → Goal) → Goal
+items_behind d before k = an_item d (λ x. more_items d (λ more. k (s.sequence (traces_onto before (s.one_trace x more)))))
+
+-- .. declarations up to the end ..
+abbrev pub declarations_behind : List Decl → Goal
+declarations_behind before = declarations (λ xs. done (declarations_onto before xs))
+
+-- .. and the same with one more that is read already
+abbrev pub declarations_more : List Decl → Declaration → Goal
+declarations_more before x = declarations (λ xs. done (declarations_onto before (x ∷ xs)))

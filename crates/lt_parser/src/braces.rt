@@ -1,0 +1,197 @@
+//! What stands in braces.
+
+ghost use Rattle.std.specs.Prelude.{◌≢◌, ◌<◌, ◌≤◌, length, IfOk};
+ghost use Rattle.lt_ast.specs.Rows.{weighed};
+ghost use Rattle.lt_ast.specs.Syntax as syntax;
+ghost use Rattle.lt_ast.specs.View.{braced, trace};
+ghost use Rattle.lt_ast.specs.View as view;
+ghost use Rattle.lt_parser.specs.Going.{BeginsItem, Goes, GoesTo};
+ghost use Rattle.lt_parser.specs.Lexemes.{lexemes};
+ghost use Rattle.lt_parser.specs.Onto.{alternatives_behind, traces_behind, traces_onto};
+ghost use Rattle.lt_parser.specs.Reading.{after_first, an_alternative, some_braced};
+
+use crate::atoms::{MOST, Parsed, after, expect};
+use crate::expressions::expr;
+use crate::refusal::Refusal;
+use crate::token::Token;
+use crate::traces::{sequence, trace};
+use lt_ast::{Braced, Part, Parts, Sign, Span, TraceExpr, Traces};
+use std::alloc::Global;
+
+/// What stands in braces, and the place of the brace behind it.
+#[cycle(parser)]
+#[tactic(auto, using(crate::proofs::Steps::a_trace_first))]
+pub(crate) fn braced<'a>(
+    alloc: Global,
+    depth: u32,
+    tokens: &'a [Token<'a>],
+) -> Result<(Braced, Span, &'a [Token<'a>]), Refusal>
+    requires { depth ≤ MOST }
+    ensures goes { GoesTo (λ x k. k (braced x.0) x.1) (λ x. lexemes x.2.now) (some_braced depth) (lexemes tokens.now) result }
+    ensures shorter { IfOk result (λ x. length x.2.now < length tokens.now) }
+{
+    if let Some((_, rest)) = after(tokens, Sign::Bar) {
+        let (parts, end, rest) = alternatives(alloc, depth, Vec::new(alloc), rest)?;
+        return Ok((Braced::Choice { lead: true, parts }, end, rest));
+    }
+    if let Some((_, rest)) = after(tokens, Sign::Priority) {
+        let (parts, end, rest) = traces(alloc, depth, Sign::Priority, Vec::new(alloc), rest)?;
+        return Ok((Braced::Priority { lead: true, parts }, end, rest));
+    }
+    if let Some((_, rest)) = after(tokens, Sign::Parallel) {
+        let (parts, end, rest) = traces(alloc, depth, Sign::Parallel, Vec::new(alloc), rest)?;
+        return Ok((Braced::Parallel { lead: true, parts }, end, rest));
+    }
+    let (first, rest) = trace(alloc, depth, tokens)?;
+    unled(alloc, depth, first, rest)
+}
+
+// What follows a first trace that no sign leads.
+#[cycle(parser)]
+#[tactic(auto, using(crate::proofs::Steps::a_plain_end))]
+fn unled<'a>(
+    alloc: Global,
+    depth: u32,
+    first: TraceExpr,
+    tokens: &'a [Token<'a>],
+) -> Result<(Braced, Span, &'a [Token<'a>]), Refusal>
+    requires { depth ≤ MOST }
+    ensures goes { GoesTo (λ x k. k (braced x.0) x.1) (λ x. lexemes x.2.now) (after_first depth (trace first)) (lexemes tokens.now) result }
+    ensures shorter { IfOk result (λ x. length x.2.now < length tokens.now) }
+{
+    if let Some((_, rest)) = after(tokens, Sign::Bar) {
+        let first = Part {
+            weight: None,
+            body: first,
+        };
+        let (parts, end, rest) = alternatives(alloc, depth, vec![in alloc; first]?, rest)?;
+        return Ok((Braced::Choice { lead: false, parts }, end, rest));
+    }
+    if let Some((_, rest)) = after(tokens, Sign::Priority) {
+        let (parts, end, rest) = traces(
+            alloc,
+            depth,
+            Sign::Priority,
+            vec![in alloc; first]?,
+            rest,
+        )?;
+        return Ok((Braced::Priority { lead: false, parts }, end, rest));
+    }
+    if let Some((_, rest)) = after(tokens, Sign::Parallel) {
+        let (parts, end, rest) = traces(
+            alloc,
+            depth,
+            Sign::Parallel,
+            vec![in alloc; first]?,
+            rest,
+        )?;
+        return Ok((Braced::Parallel { lead: false, parts }, end, rest));
+    }
+    let (end, rest) = expect(tokens, Sign::CloseBrace)?;
+    Ok((Braced::Plain(Box::new(alloc, first)?), end, rest))
+}
+
+// The alternatives from here on, behind others, and the place of the brace behind them.
+#[cycle(parser)]
+#[tactic(auto, using(crate::proofs::Steps::alternatives_end))]
+fn alternatives<'a>(
+    alloc: Global,
+    depth: u32,
+    before: Vec<Part>,
+    tokens: &'a [Token<'a>],
+) -> Result<(Parts, Span, &'a [Token<'a>]), Refusal>
+    requires { depth ≤ MOST }
+    ensures goes { GoesTo (λ x k. k (view.alternatives x.0) x.1) (λ x. lexemes x.2.now) (alternatives_behind depth before.items) (lexemes tokens.now) result }
+    ensures shorter { IfOk result (λ x. length x.2.now < length tokens.now) }
+{
+    let (first, mut rest) = alternative(alloc, depth, tokens)?;
+    let mut items = before;
+    items.push(first)?;
+    while let Some((_, next)) = after(rest, Sign::Bar) {
+        let (another, behind) = alternative(alloc, depth, next)?;
+        items.push(another)?;
+        rest = behind;
+    }
+    let (end, rest) = expect(rest, Sign::CloseBrace)?;
+    Ok((Parts { items }, end, rest))
+}
+
+// The traces from here on, behind others, with this sign between two, and the place of the brace behind them.
+#[cycle(parser)]
+#[tactic(auto, using(crate::proofs::Steps::traces_end))]
+fn traces<'a>(
+    alloc: Global,
+    depth: u32,
+    sign: Sign,
+    before: Vec<TraceExpr>,
+    tokens: &'a [Token<'a>],
+) -> Result<(Traces, Span, &'a [Token<'a>]), Refusal>
+    requires open { depth ≤ MOST }
+    requires between { sign ≢ Sign.CloseBrace }
+    ensures goes { GoesTo (λ x k. k (traces_onto x.0.items.items syntax.no_traces) x.1) (λ x. lexemes x.2.now) (traces_behind depth sign before.items) (lexemes tokens.now) result }
+    ensures shorter { IfOk result (λ x. length x.2.now < length tokens.now) }
+{
+    let (first, mut rest) = trace(alloc, depth, tokens)?;
+    let mut items = before;
+    items.push(first)?;
+    while let Some((_, next)) = after(rest, sign) {
+        let (another, behind) = trace(alloc, depth, next)?;
+        items.push(another)?;
+        rest = behind;
+    }
+    let (end, rest) = expect(rest, Sign::CloseBrace)?;
+    Ok((Traces { items }, end, rest))
+}
+
+// An alternative: an expression followed by a colon is its weight.
+#[cycle(parser)]
+#[tactic(auto, using(crate::proofs::Begins::no_weight))]
+fn alternative<'a>(alloc: Global, depth: u32, tokens: &'a [Token<'a>]) -> Parsed<'a, Part>
+    requires { depth ≤ MOST }
+    ensures goes { Goes (λ x. weighed x.0.weight x.0.body) (λ x. lexemes x.1.now) (an_alternative depth) (lexemes tokens.now) result }
+    ensures shorter { IfOk result (λ x. length x.1.now < length tokens.now) }
+{
+    if begins_item(tokens) {
+        let (body, rest) = trace(alloc, depth, tokens)?;
+        return Ok((Part { weight: None, body }, rest));
+    }
+    let (value, rest) = expr(alloc, depth, 0, tokens)?;
+    match after(rest, Sign::Colon) {
+        Some((_, rest)) => {
+            let (body, rest) = trace(alloc, depth, rest)?;
+            Ok((
+                Part {
+                    weight: Some(value),
+                    body,
+                },
+                rest,
+            ))
+        }
+        None => {
+            let (body, rest) = sequence(alloc, depth, TraceExpr::Value(value), rest)?;
+            Ok((Part { weight: None, body }, rest))
+        }
+    }
+}
+
+// Whether a trace begins here that begins with no expression.
+fn begins_item(tokens: &[Token<'_>]) -> bool
+    ensures { BeginsItem result (lexemes tokens.now) }
+{
+    match tokens.first() {
+        None => false,
+        Some(first) => matches!(
+            first.sign,
+            Sign::OpenBrace
+                | Sign::Loop
+                | Sign::Raise
+                | Sign::Assert
+                | Sign::Exist
+                | Sign::Let
+                | Sign::Exception
+                | Sign::Catch
+                | Sign::Trap
+                | Sign::Try
+        ),
+    }
+}

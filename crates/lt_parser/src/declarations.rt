@@ -1,0 +1,95 @@
+//! Declarations, and whole programs.
+
+ghost use Rattle.std.specs.Prelude.{◌≡◌, ◌<◌, ◌∷◌, length, IfOk};
+ghost use Rattle.lt_ast.specs.View.{groupings};
+ghost use Rattle.lt_ast.specs.View as view;
+ghost use Rattle.lt_parser.specs.Going.{Goes, GoesTo, ProgramGoes};
+ghost use Rattle.lt_parser.specs.Lexemes.{lexemes};
+ghost use Rattle.lt_parser.specs.Onto.{declarations_behind, declarations_more};
+ghost use Rattle.lt_parser.specs.Reading.{a_list, node_goal};
+
+use crate::atoms::{Parsed, after, expect, name, names};
+use crate::groups::{listed, macro_decl};
+use crate::refusal::Refusal;
+use crate::token::Token;
+use crate::traces::trace;
+use lt_ast::{Decl, Groups, NodeDecl, Program, Sign};
+use std::alloc::Global;
+
+/// Declarations up to the end of the tokens.
+pub(crate) fn program<'a>(alloc: Global, tokens: &'a [Token<'a>]) -> Result<Program, Refusal>
+    ensures { ProgramGoes (lexemes tokens.now) result }
+{
+    let mut decls = Vec::new(alloc);
+    if tokens.is_empty() {
+        return Ok(Program { decls });
+    }
+    let (first, mut rest) = declaration(alloc, tokens)?;
+    decls.push(first)?;
+    while !rest.is_empty() {
+        let (declared, behind) = declaration(alloc, rest)?;
+        decls.push(declared)?;
+        rest = behind;
+    }
+    Ok(Program { decls })
+}
+
+// A declaration, behind others.
+fn declaration<'a>(alloc: Global, tokens: &'a [Token<'a>]) -> Parsed<'a, Decl>
+    requires { 0 < length tokens.now }
+    ensures goes { GoesTo (λ x before. declarations_more before (view.declaration x.0)) (λ x. lexemes x.1.now) declarations_behind (lexemes tokens.now) result }
+    ensures shorter { IfOk result (λ x. length x.1.now < length tokens.now) }
+{
+    let Some((first, rest)) = tokens.split_first() else {
+        return Err(Refusal::Unexpected(0));
+    };
+    match first.sign {
+        Sign::Node => {
+            let (declared, rest) = node(alloc, rest)?;
+            Ok((Decl::Node(declared), rest))
+        }
+        Sign::Let => {
+            let (declared, rest) = macro_decl(alloc, 0, rest)?;
+            Ok((Decl::Macro(declared), rest))
+        }
+        Sign::Exception => {
+            let (names, rest) = names(alloc, rest)?;
+            Ok((Decl::Exceptions(names), rest))
+        }
+        _ => Err(Refusal::Unexpected(tokens.len())),
+    }
+}
+
+// A node, behind its `node`.
+fn node<'a>(alloc: Global, tokens: &'a [Token<'a>]) -> Parsed<'a, NodeDecl>
+    ensures goes { Goes (λ x. view.declaration (Decl.Node x.0)) (λ x. lexemes x.1.now) node_goal (lexemes tokens.now) result }
+    ensures shorter { IfOk result (λ x. length x.1.now < length tokens.now) }
+{
+    let (name, rest) = name(alloc, tokens)?;
+    let (inputs, rest) = list(alloc, rest)?;
+    let (_, rest) = expect(rest, Sign::Returns)?;
+    let (outputs, rest) = list(alloc, rest)?;
+    let (_, rest) = expect(rest, Sign::Equal)?;
+    let (body, rest) = trace(alloc, 0, rest)?;
+    Ok((
+        NodeDecl {
+            name,
+            inputs,
+            outputs,
+            body,
+        },
+        rest,
+    ))
+}
+
+// Groups in parentheses.
+#[tactic(auto, using(crate::proofs::Steps::no_list))]
+fn list<'a>(alloc: Global, tokens: &'a [Token<'a>]) -> Parsed<'a, Groups>
+    ensures goes { Goes (λ x. groupings x.0) (λ x. lexemes x.1.now) (a_list 0) (lexemes tokens.now) result }
+    ensures shorter { IfOk result (λ x. length x.1.now < length tokens.now) }
+{
+    match after(tokens, Sign::Open) {
+        Some((_, rest)) => listed(alloc, 1, rest),
+        None => Err(Refusal::Unexpected(tokens.len())),
+    }
+}

@@ -1,0 +1,310 @@
+//! Expressions.
+
+ghost use Rattle.std.specs.Prelude.{◌≡◌, ◌<◌, ◌≤◌, suc, length, IfOk, MatchOption};
+ghost use Rattle.lt_ast.specs.Syntax as syntax;
+ghost use Rattle.lt_ast.specs.View.{argument, exp, word};
+ghost use Rattle.lt_parser.specs.Going.{Goes, GoesTo, IsExtended, IsNotExtended, OperandGoes};
+ghost use Rattle.lt_parser.specs.Precedence as places;
+ghost use Rattle.lt_parser.specs.Lexemes.{lexemes};
+ghost use Rattle.lt_parser.specs.Onto.{arguments_onto};
+ghost use Rattle.lt_parser.specs.Reading.{a_right_side, after_name, an_argument, an_exp, if_goal, more_exp, paren_goal, some_arguments, unary_goal};
+
+use crate::atoms::{MOST, Parsed, after, deeper, expect, name};
+use crate::braces::braced;
+use crate::precedence::{across, operator, rank, span_of, top};
+use crate::refusal::Refusal;
+use crate::token::Token;
+use lt_ast::{Arg, Args, BinOp, Expr, Literal, Name, Sign, Span, UnOp};
+use std::alloc::{AllocError, Global};
+
+/// An expression that binds at least so tightly.
+#[cycle(parser)]
+pub(crate) fn expr<'a>(
+    alloc: Global,
+    depth: u32,
+    low: u32,
+    tokens: &'a [Token<'a>],
+) -> Parsed<'a, Expr>
+    requires { depth ≤ MOST }
+    ensures goes { Goes (λ x. exp x.0) (λ x. lexemes x.1.now) (an_exp depth low) (lexemes tokens.now) result }
+    ensures shorter { IfOk result (λ x. length x.1.now < length tokens.now) }
+{
+    let (mut left, mut rest) = prefix(alloc, depth, low, tokens)?;
+    while let Some((operator, next)) = operation(rest, low) {
+        if rank(operator) > top(&left) {
+            return Err(Refusal::Unexpected(rest.len()));
+        }
+        let (right, behind) = operand(alloc, depth, operator, rest.len(), next)?;
+        left = joined(alloc, operator, left, right)?;
+        rest = behind;
+    }
+    Ok((left, rest))
+}
+
+// An operator that binds at least so tightly, and the tokens behind it.
+fn operation<'a>(tokens: &'a [Token<'a>], low: u32) -> Option<(BinOp, &'a [Token<'a>])>
+    ensures found { MatchOption result (IsNotExtended low (lexemes tokens.now)) (λ r. IsExtended low r.0 (lexemes tokens.now) (lexemes r.1.now)) }
+    ensures shorter { MatchOption result (length tokens.now ≡ length tokens.now) (λ r. length tokens.now ≡ suc (length r.1.now)) }
+{
+    match tokens.split_first() {
+        None => None,
+        Some((first, rest)) => match operator(first.sign) {
+            Some(operator) if rank(operator) >= low => Some((operator, rest)),
+            _ => None,
+        },
+    }
+}
+
+// The right side of an operator.
+#[cycle(parser)]
+fn operand<'a>(
+    alloc: Global,
+    depth: u32,
+    operator: BinOp,
+    left: usize,
+    tokens: &'a [Token<'a>],
+) -> Parsed<'a, Expr>
+    requires open { depth ≤ MOST }
+    requires left { left ≡ suc (length tokens.now) }
+    ensures goes { OperandGoes (λ x. exp x.0) (λ x. lexemes x.1.now) depth operator (lexemes tokens.now) result }
+    ensures shorter { IfOk result (λ x. length x.1.now < length tokens.now) }
+{
+    match operator {
+        BinOp::Implies => {
+            let inside = deeper(depth, left)?;
+            expr(alloc, inside, 1, tokens)
+        }
+        BinOp::Or | BinOp::Xor => expr(alloc, depth, 3, tokens),
+        BinOp::And => expr(alloc, depth, 4, tokens),
+        BinOp::Eq | BinOp::Ne | BinOp::Lt | BinOp::Le | BinOp::Gt | BinOp::Ge => side(
+            alloc, depth, tokens,
+        ),
+        BinOp::Add | BinOp::Sub => expr(alloc, depth, 7, tokens),
+        BinOp::Mul | BinOp::Div | BinOp::DivWord | BinOp::Mod => expr(alloc, depth, 8, tokens),
+    }
+}
+
+// The right side of a comparison: it begins with `not`, or is a sum.
+#[cycle(parser)]
+#[tactic(auto, using(crate::proofs::Steps::a_sum, crate::proofs::Steps::a_negation))]
+fn side<'a>(alloc: Global, depth: u32, tokens: &'a [Token<'a>]) -> Parsed<'a, Expr>
+    requires { depth ≤ MOST }
+    ensures goes { Goes (λ x. exp x.0) (λ x. lexemes x.1.now) (a_right_side depth) (lexemes tokens.now) result }
+    ensures shorter { IfOk result (λ x. length x.1.now < length tokens.now) }
+{
+    match after(tokens, Sign::Not) {
+        Some(_) => expr(alloc, depth, 4, tokens),
+        None => expr(alloc, depth, 6, tokens),
+    }
+}
+
+// An operator between its operands.
+fn joined(alloc: Global, operator: BinOp, left: Expr, right: Expr) -> Result<Expr, AllocError>
+    ensures { IfOk result (λ e. exp e ≡ syntax.binary operator (exp left) (exp right) (places.across (places.span_of (exp left)) (places.span_of (exp right)))) }
+{
+    let span = across(span_of(&left), span_of(&right));
+    Ok(Expr::Binary(
+        operator,
+        Box::new(alloc, left)?,
+        Box::new(alloc, right)?,
+        span,
+    ))
+}
+
+// The first operand, with the operator before it.
+#[cycle(parser)]
+fn prefix<'a>(alloc: Global, depth: u32, low: u32, tokens: &'a [Token<'a>]) -> Parsed<'a, Expr>
+    requires { depth ≤ MOST }
+    ensures goes { GoesTo (λ x k. more_exp depth low (exp x.0) k) (λ x. lexemes x.1.now) (an_exp depth low) (lexemes tokens.now) result }
+    ensures shorter { IfOk result (λ x. length x.1.now < length tokens.now) }
+{
+    let Some((first, rest)) = tokens.split_first() else {
+        return Err(Refusal::Unexpected(tokens.len()));
+    };
+    match first.sign {
+        Sign::Minus if low <= 8 => unary(
+            alloc,
+            deeper(depth, tokens.len())?,
+            UnOp::Neg,
+            first.span,
+            rest,
+        ),
+        Sign::Not if low <= 4 => unary(
+            alloc,
+            deeper(depth, tokens.len())?,
+            UnOp::Not,
+            first.span,
+            rest,
+        ),
+        Sign::If if low == 0 => conditional(alloc, deeper(depth, tokens.len())?, first.span, rest),
+        Sign::Open => paren(alloc, deeper(depth, tokens.len())?, first.span, rest),
+        Sign::Name => {
+            let text = String::from_str(alloc, first.text)?;
+            named(
+                alloc,
+                depth,
+                Name {
+                    text,
+                    span: first.span,
+                },
+                rest,
+            )
+        }
+        Sign::Pre => {
+            let (name, rest) = name(alloc, rest)?;
+            let span = across(first.span, name.span);
+            Ok((Expr::Pre(name, span), rest))
+        }
+        Sign::Number => {
+            let text = String::from_str(alloc, first.text)?;
+            Ok((
+                Expr::Number(Literal {
+                    minus: false,
+                    text,
+                    span: first.span,
+                }),
+                rest,
+            ))
+        }
+        Sign::True => Ok((Expr::Flag(true, first.span), rest)),
+        Sign::False => Ok((Expr::Flag(false, first.span), rest)),
+        _ => Err(Refusal::Unexpected(tokens.len())),
+    }
+}
+
+// An operator, behind its sign, and its operand.
+#[cycle(parser)]
+fn unary<'a>(
+    alloc: Global,
+    inside: u32,
+    operator: UnOp,
+    start: Span,
+    tokens: &'a [Token<'a>],
+) -> Parsed<'a, Expr>
+    requires { inside ≤ MOST }
+    ensures goes { Goes (λ x. exp x.0) (λ x. lexemes x.1.now) (unary_goal inside operator start) (lexemes tokens.now) result }
+    ensures shorter { IfOk result (λ x. length x.1.now < length tokens.now) }
+{
+    let least = match operator {
+        UnOp::Neg => 8,
+        UnOp::Not => 4,
+    };
+    let (inner, rest) = expr(alloc, inside, least, tokens)?;
+    let span = across(start, span_of(&inner));
+    Ok((Expr::Unary(operator, Box::new(alloc, inner)?, span), rest))
+}
+
+/// An expression in parentheses, behind the first one.
+#[cycle(parser)]
+pub(crate) fn paren<'a>(
+    alloc: Global,
+    inside: u32,
+    start: Span,
+    tokens: &'a [Token<'a>],
+) -> Parsed<'a, Expr>
+    requires { inside ≤ MOST }
+    ensures goes { Goes (λ x. exp x.0) (λ x. lexemes x.1.now) (paren_goal inside start) (lexemes tokens.now) result }
+    ensures shorter { IfOk result (λ x. length x.1.now < length tokens.now) }
+{
+    let (inner, rest) = expr(alloc, inside, 0, tokens)?;
+    let (end, rest) = expect(rest, Sign::Close)?;
+    Ok((
+        Expr::Paren(Box::new(alloc, inner)?, across(start, end)),
+        rest,
+    ))
+}
+
+// What follows an `if`.
+#[cycle(parser)]
+fn conditional<'a>(
+    alloc: Global,
+    inside: u32,
+    start: Span,
+    tokens: &'a [Token<'a>],
+) -> Parsed<'a, Expr>
+    requires { inside ≤ MOST }
+    ensures goes { Goes (λ x. exp x.0) (λ x. lexemes x.1.now) (if_goal inside start) (lexemes tokens.now) result }
+    ensures shorter { IfOk result (λ x. length x.1.now < length tokens.now) }
+{
+    let (condition, rest) = expr(alloc, inside, 0, tokens)?;
+    let (_, rest) = expect(rest, Sign::Then)?;
+    let (holds, rest) = expr(alloc, inside, 0, rest)?;
+    let (_, rest) = expect(rest, Sign::Else)?;
+    let (otherwise, rest) = expr(alloc, inside, 0, rest)?;
+    let span = across(start, span_of(&otherwise));
+    Ok((
+        Expr::If(
+            Box::new(alloc, condition)?,
+            Box::new(alloc, holds)?,
+            Box::new(alloc, otherwise)?,
+            span,
+        ),
+        rest,
+    ))
+}
+
+// What follows a name in an expression.
+#[cycle(parser)]
+#[tactic(auto, using(crate::proofs::Skips::no_call, crate::proofs::Steps::exp_called))]
+fn named<'a>(alloc: Global, depth: u32, name: Name, tokens: &'a [Token<'a>]) -> Parsed<'a, Expr>
+    requires { depth ≤ MOST }
+    ensures goes { Goes (λ x. exp x.0) (λ x. lexemes x.1.now) (after_name depth (word name)) (lexemes tokens.now) result }
+    ensures shorter { IfOk result (λ x. length x.1.now ≤ length tokens.now) }
+{
+    match after(tokens, Sign::Open) {
+        None => Ok((Expr::Named(name, None), tokens)),
+        Some((_, rest)) => {
+            let inside = deeper(depth, tokens.len())?;
+            let (args, rest) = args(alloc, inside, rest)?;
+            Ok((Expr::Named(name, Some(args)), rest))
+        }
+    }
+}
+
+// Arguments, and the parenthesis behind them.
+#[cycle(parser)]
+#[tactic(auto, using(crate::proofs::Steps::an_argument_first, crate::proofs::Steps::arguments_end))]
+fn args<'a>(alloc: Global, depth: u32, tokens: &'a [Token<'a>]) -> Parsed<'a, Args>
+    requires { depth ≤ MOST }
+    ensures goes { Goes (λ x. arguments_onto x.0.items.items syntax.no_arguments) (λ x. lexemes x.1.now) (some_arguments depth) (lexemes tokens.now) result }
+    ensures shorter { IfOk result (λ x. length x.1.now < length tokens.now) }
+{
+    if let Some((_, rest)) = after(tokens, Sign::Close) {
+        return Ok((
+            Args {
+                items: Vec::new(alloc),
+            },
+            rest,
+        ));
+    }
+    let (first, mut rest) = arg(alloc, depth, tokens)?;
+    let mut items = vec![in alloc; first]?;
+    while let Some((_, next)) = after(rest, Sign::Comma) {
+        let (another, behind) = arg(alloc, depth, next)?;
+        items.push(another)?;
+        rest = behind;
+    }
+    let (_, rest) = expect(rest, Sign::Close)?;
+    Ok((Args { items }, rest))
+}
+
+// An argument: an expression, or a trace in braces.
+#[cycle(parser)]
+#[tactic(auto, using(crate::proofs::Steps::an_argument_value))]
+fn arg<'a>(alloc: Global, depth: u32, tokens: &'a [Token<'a>]) -> Parsed<'a, Arg>
+    requires { depth ≤ MOST }
+    ensures goes { Goes (λ x. argument x.0) (λ x. lexemes x.1.now) (an_argument depth) (lexemes tokens.now) result }
+    ensures shorter { IfOk result (λ x. length x.1.now < length tokens.now) }
+{
+    match after(tokens, Sign::OpenBrace) {
+        Some((start, rest)) => {
+            let inside = deeper(depth, tokens.len())?;
+            let (found, end, rest) = braced(alloc, inside, rest)?;
+            Ok((Arg::Trace(found, across(start, end)), rest))
+        }
+        None => {
+            let (value, rest) = expr(alloc, depth, 0, tokens)?;
+            Ok((Arg::Value(value), rest))
+        }
+    }
+}

@@ -1,0 +1,166 @@
+//! Groups of names, and macros.
+
+ghost use Rattle.std.specs.Prelude.{◌<◌, ◌≤◌, length, IfOk};
+ghost use Rattle.lt_ast.specs.Rows.{group_of, maybe_exp};
+ghost use Rattle.lt_ast.specs.View.{groupings, macro, meaning};
+ghost use Rattle.lt_parser.specs.Going.{Goes, parameters_of};
+ghost use Rattle.lt_parser.specs.Lexemes.{lexemes};
+ghost use Rattle.lt_parser.specs.Reading.{a_first, a_group, a_macro, a_meaning, some_groups, some_parameters};
+ghost use Rattle.lt_parser.specs.Reading as reading;
+
+use crate::atoms::{MOST, Parsed, after, by_ref, deeper, expect, name, names, range, type_name};
+use crate::expressions::expr;
+use crate::refusal::Refusal;
+use crate::token::Token;
+use crate::traces::trace;
+use lt_ast::{Body, Expr, Group, Groups, MacroDecl, Sign, TypeName};
+use std::alloc::Global;
+
+// A first value, where it is there.
+#[cycle(parser)]
+#[tactic(auto, using(crate::proofs::Skips::no_first))]
+fn first_value<'a>(alloc: Global, depth: u32, tokens: &'a [Token<'a>]) -> Parsed<'a, Option<Expr>>
+    requires { depth ≤ MOST }
+    ensures goes { Goes (λ x. maybe_exp x.0) (λ x. lexemes x.1.now) (a_first depth) (lexemes tokens.now) result }
+    ensures shorter { IfOk result (λ x. length x.1.now ≤ length tokens.now) }
+{
+    match after(tokens, Sign::Equal) {
+        None => Ok((None, tokens)),
+        Some((_, rest)) => {
+            let (value, rest) = expr(alloc, depth, 0, rest)?;
+            Ok((Some(value), rest))
+        }
+    }
+}
+
+// Names of one type.
+#[cycle(parser)]
+fn group<'a>(alloc: Global, depth: u32, tokens: &'a [Token<'a>]) -> Parsed<'a, Group>
+    requires { depth ≤ MOST }
+    ensures goes { Goes (λ x. group_of x.0) (λ x. lexemes x.1.now) (a_group depth) (lexemes tokens.now) result }
+    ensures shorter { IfOk result (λ x. length x.1.now < length tokens.now) }
+{
+    let (names, rest) = names(alloc, tokens)?;
+    let (_, rest) = expect(rest, Sign::Colon)?;
+    let (kind, rest) = type_name(rest)?;
+    let (by_ref, rest) = by_ref(rest);
+    let (range, rest) = range(alloc, rest)?;
+    let (first, rest) = first_value(alloc, depth, rest)?;
+    Ok((
+        Group {
+            names,
+            kind,
+            by_ref,
+            range,
+            first,
+        },
+        rest,
+    ))
+}
+
+/// One group or more, and the sign that ends them.
+#[cycle(parser)]
+#[tactic(auto, using(crate::proofs::Steps::groups_end))]
+pub(crate) fn groups<'a>(
+    alloc: Global,
+    depth: u32,
+    end: Sign,
+    tokens: &'a [Token<'a>],
+) -> Parsed<'a, Groups>
+    requires { depth ≤ MOST }
+    ensures goes { Goes (λ x. groupings x.0) (λ x. lexemes x.1.now) (reading.groups depth end) (lexemes tokens.now) result }
+    ensures shorter { IfOk result (λ x. length x.1.now < length tokens.now) }
+{
+    let (first, mut rest) = group(alloc, depth, tokens)?;
+    let mut items = vec![in alloc; first]?;
+    while let Some((_, next)) = after(rest, Sign::Semicolon) {
+        let (another, behind) = group(alloc, depth, next)?;
+        items.push(another)?;
+        rest = behind;
+    }
+    let (_, rest) = expect(rest, end)?;
+    Ok((Groups { items }, rest))
+}
+
+/// Groups, if any, and the parenthesis behind them.
+#[cycle(parser)]
+#[tactic(auto, using(crate::proofs::Steps::a_group_first))]
+pub(crate) fn listed<'a>(alloc: Global, inside: u32, tokens: &'a [Token<'a>]) -> Parsed<'a, Groups>
+    requires { inside ≤ MOST }
+    ensures goes { Goes (λ x. groupings x.0) (λ x. lexemes x.1.now) (some_groups inside) (lexemes tokens.now) result }
+    ensures shorter { IfOk result (λ x. length x.1.now < length tokens.now) }
+{
+    if let Some((_, rest)) = after(tokens, Sign::Close) {
+        return Ok((
+            Groups {
+                items: Vec::new(alloc),
+            },
+            rest,
+        ));
+    }
+    groups(alloc, inside, Sign::Close, tokens)
+}
+
+// The parameters of a macro, where they are there.
+#[cycle(parser)]
+#[tactic(auto, using(crate::proofs::Skips::no_parameters))]
+fn params<'a>(alloc: Global, depth: u32, tokens: &'a [Token<'a>]) -> Parsed<'a, Option<Groups>>
+    requires { depth ≤ MOST }
+    ensures goes { Goes (λ x. parameters_of x.0) (λ x. lexemes x.1.now) (some_parameters depth) (lexemes tokens.now) result }
+    ensures shorter { IfOk result (λ x. length x.1.now ≤ length tokens.now) }
+{
+    match after(tokens, Sign::Open) {
+        None => Ok((None, tokens)),
+        Some((_, rest)) => {
+            let (groups, rest) = listed(alloc, deeper(depth, tokens.len())?, rest)?;
+            Ok((Some(groups), rest))
+        }
+    }
+}
+
+/// A macro, behind its `let`.
+#[cycle(parser)]
+pub(crate) fn macro_decl<'a>(
+    alloc: Global,
+    depth: u32,
+    tokens: &'a [Token<'a>],
+) -> Parsed<'a, MacroDecl>
+    requires { depth ≤ MOST }
+    ensures goes { Goes (λ x. macro x.0) (λ x. lexemes x.1.now) (a_macro depth) (lexemes tokens.now) result }
+    ensures shorter { IfOk result (λ x. length x.1.now < length tokens.now) }
+{
+    let (name, rest) = name(alloc, tokens)?;
+    let (params, rest) = params(alloc, depth, rest)?;
+    let (_, rest) = expect(rest, Sign::Colon)?;
+    let (result, rest) = type_name(rest)?;
+    let (_, rest) = expect(rest, Sign::Equal)?;
+    let (body, rest) = body(alloc, depth, result, rest)?;
+    Ok((
+        MacroDecl {
+            name,
+            params,
+            result,
+            body,
+        },
+        rest,
+    ))
+}
+
+// What a macro of this type stands for.
+#[cycle(parser)]
+fn body<'a>(alloc: Global, depth: u32, kind: TypeName, tokens: &'a [Token<'a>]) -> Parsed<'a, Body>
+    requires { depth ≤ MOST }
+    ensures goes { Goes (λ x. meaning x.0) (λ x. lexemes x.1.now) (a_meaning depth kind) (lexemes tokens.now) result }
+    ensures shorter { IfOk result (λ x. length x.1.now < length tokens.now) }
+{
+    match kind {
+        TypeName::Trace => {
+            let (body, rest) = trace(alloc, depth, tokens)?;
+            Ok((Body::Trace(body), rest))
+        }
+        TypeName::Bool | TypeName::Int | TypeName::Real => {
+            let (value, rest) = expr(alloc, depth, 0, tokens)?;
+            Ok((Body::Value(value), rest))
+        }
+    }
+}

@@ -1,0 +1,32 @@
+//! From a text to its program.
+//!
+//! [`parse`] answers the program that a text spells, or why it spells none: which token is the first after which no
+//! program goes on, or which one opens a level of nesting too many.
+//!
+//! The rules are in `docs/LANGUAGE.md`, under *Grammar*. `specs/Grammar.antt` says which tokens are which program,
+//! `specs/Program.antt` what it means that tokens go on to one, and `specs/Text.antt` what all that means of a text.
+//! `specs/Reading.antt` reads one token a step, by what is still wanted: the functions of the parser go as it goes, and
+//! laws tie it to the grammar.
+#![tactic(auto)]
+
+mod atoms;
+mod braces;
+mod declarations;
+mod expressions;
+mod groups;
+mod laws;
+mod precedence;
+mod refusal;
+#[cfg(test)]
+mod tests;
+mod text;
+mod token;
+mod traces;
+
+pub use laws::{
+    at_most_one_program, one_answer_belongs_to_a_text, printed_text_reads_back,
+    program_is_written_as_spelled, read_is_spelled, spelled_elsewhere, spelled_is_read,
+    too_deep_is_exact, unexpected_is_exact,
+};
+pub use refusal::ParseRefusal;
+pub use text::parse;

@@ -1,0 +1,93 @@
+//! From a text to its program.
+
+ghost use Rattle.std.specs.Prelude.{◌≡◌, ◌≤◌, ◌⊎◌, List, All, IfErr, IfOk, length};
+ghost use Rattle.lt_ast.specs.Syntax.{Declaration};
+ghost use Rattle.lt_ast.specs.View.{program};
+ghost use Rattle.lt_lexer.specs.Source.{IsTokenOf};
+ghost use Rattle.lt_parser.specs.Lexemes.{lexemes};
+ghost use Rattle.lt_parser.specs.Placing.{IsPlaced, IsWithin, last_of};
+ghost use Rattle.lt_parser.specs.Text.{AnswersProgram, AnswersRefusal, AreLexemesOf, IsProgramOf, IsRefusal, place_of};
+ghost use Rattle.lt_parser.specs.declared.refusal.ParseRefusal.{ParseRefusal};
+
+use crate::declarations::program;
+use crate::refusal::{ParseRefusal, Refusal};
+use crate::token::Token;
+use lt_ast::Program;
+use lt_lexer::lex;
+use std::alloc::Global;
+
+/// The program that a text spells.
+///
+/// A text that spells none is refused at the first token after which no program goes on, or at the one that opens a
+/// level of nesting too many, whichever comes first. The one answer that the text doesn't determine is
+/// [`ParseRefusal::Memory`].
+pub fn parse(alloc: Global, text: &[u8]) -> Result<Program, ParseRefusal>
+    // What is answered is the text's program ..
+    ensures found { IfOk result (λ p. IsProgramOf text.now (program p)) }
+    // .. and what is the text's program is answered, unless memory runs out.
+    ensures only { (x : List Declaration) → IsProgramOf text.now x → AnswersProgram x result }
+
+    // What is refused is refused rightly ..
+    ensures refused { IfErr result (λ refusal. (refusal ≡ ParseRefusal.Memory) ⊎ IsRefusal text.now refusal) }
+    // .. and what is to be refused is refused so, unless memory runs out.
+    ensures refuses { (refusal : ParseRefusal) → IsRefusal text.now refusal → AnswersRefusal refusal result }
+{
+    program_of(alloc, text)
+}
+
+// The program that a text's tokens spell.
+fn program_of(alloc: Global, text: &[u8]) -> Result<Program, ParseRefusal>
+    ensures found { IfOk result (λ p. IsProgramOf text.now (program p)) }
+    ensures refused { IfErr result (λ refusal. (refusal ≡ ParseRefusal.Memory) ⊎ IsRefusal text.now refusal) }
+{
+    let lexed = lex(alloc, text)?;
+    let tokens = tokens_of(alloc, text, &lexed)?;
+    match program(alloc, &tokens) {
+        Ok(program) => Ok(program),
+        Err(refusal) => Err(placed(text, &tokens, refusal)),
+    }
+}
+
+// The lexer's tokens as the grammar takes them.
+fn tokens_of<'a>(
+    alloc: Global,
+    text: &'a [u8],
+    lexed: &[lt_lexer::Token],
+) -> Result<Vec<Token<'a>>, ParseRefusal>
+    requires { All (IsTokenOf text.now) lexed.now }
+    ensures found { IfOk result (λ v. AreLexemesOf text.now lexed.now (lexemes v.items)) }
+    ensures refused { IfErr result (λ refusal. refusal ≡ ParseRefusal.Memory) }
+{
+    let mut tokens = Vec::with_capacity(alloc, lexed.len())?;
+    for token in lexed {
+        tokens.push(Token {
+            sign: token.sign(text),
+            text: token.letters(text),
+            span: token.span,
+        })?;
+    }
+    Ok(tokens)
+}
+
+// A refusal by its place in the text.
+fn placed(text: &[u8], tokens: &[Token<'_>], refusal: Refusal) -> ParseRefusal
+    requires { IsWithin (lexemes tokens.now) refusal }
+    ensures { IsPlaced text.now (lexemes tokens.now) refusal result }
+{
+    match refusal {
+        Refusal::Unexpected(left) => ParseRefusal::Unexpected(place(text, tokens, left)),
+        Refusal::TooDeep(left) => ParseRefusal::TooDeep(place(text, tokens, left)),
+        Refusal::Memory => ParseRefusal::Memory,
+    }
+}
+
+// Where the token stands from which on so many are left, or where the text ends.
+fn place(text: &[u8], tokens: &[Token<'_>], left: usize) -> usize
+    requires { left ≤ length (lexemes tokens.now) }
+    ensures { result ≡ place_of text.now (last_of (lexemes tokens.now) left) }
+{
+    match tokens.get(tokens.len() - left) {
+        Some(token) => token.span.start,
+        None => text.len(),
+    }
+}

@@ -1,0 +1,331 @@
+//! Traces, and the items of a sequence.
+
+ghost use Rattle.std.specs.Prelude.{◌<◌, ◌≤◌, length, IfOk};
+ghost use Rattle.lt_ast.specs.Rows.{maybe_trace};
+ghost use Rattle.lt_ast.specs.Syntax as syntax;
+ghost use Rattle.lt_ast.specs.View.{exp, limits, trace};
+ghost use Rattle.lt_parser.specs.Going.{Goes};
+ghost use Rattle.lt_parser.specs.Lexemes.{lexemes};
+ghost use Rattle.lt_parser.specs.Onto.{items_behind};
+ghost use Rattle.lt_parser.specs.Reading.{a_handler, a_name, a_bound, a_trace, an_item, assert_goal, braces_goal, catch_goal, define_goal, exceptions_goal, exist_goal, loop_goal, sequence_goal, trap_goal, try_goal, some_limits, value_goal};
+ghost use Rattle.lt_parser.specs.Reading as reading;
+
+use crate::atoms::{MOST, Parsed, after, deeper, expect, name, names};
+use crate::braces::braced;
+use crate::expressions::{expr, paren};
+use crate::groups::{groups, macro_decl};
+use crate::precedence::across;
+use crate::refusal::Refusal;
+use crate::token::Token;
+use lt_ast::{Bounds, Expr, Literal, Name, Sign, Span, TraceExpr, Traces};
+use std::alloc::Global;
+
+/// A trace: items with `fby` between them.
+#[cycle(parser)]
+pub(crate) fn trace<'a>(alloc: Global, depth: u32, tokens: &'a [Token<'a>]) -> Parsed<'a, TraceExpr>
+    requires { depth ≤ MOST }
+    ensures goes { Goes (λ x. trace x.0) (λ x. lexemes x.1.now) (a_trace depth) (lexemes tokens.now) result }
+    ensures shorter { IfOk result (λ x. length x.1.now < length tokens.now) }
+{
+    let (first, rest) = item(alloc, depth, tokens)?;
+    sequence(alloc, depth, first, rest)
+}
+
+/// A trace whose first item is read.
+#[cycle(parser)]
+#[tactic(auto, using(crate::proofs::Skips::no_item))]
+pub(crate) fn sequence<'a>(
+    alloc: Global,
+    depth: u32,
+    first: TraceExpr,
+    tokens: &'a [Token<'a>],
+) -> Parsed<'a, TraceExpr>
+    requires { depth ≤ MOST }
+    ensures goes { Goes (λ x. trace x.0) (λ x. lexemes x.1.now) (sequence_goal depth (trace first)) (lexemes tokens.now) result }
+    ensures shorter { IfOk result (λ x. length x.1.now ≤ length tokens.now) }
+{
+    match after(tokens, Sign::Fby) {
+        None => Ok((first, tokens)),
+        Some((_, rest)) => more_items(alloc, depth, vec![in alloc; first]?, rest),
+    }
+}
+
+// The items of a sequence from here on, behind others.
+#[cycle(parser)]
+#[tactic(auto, using(crate::proofs::Skips::no_item))]
+fn more_items<'a>(
+    alloc: Global,
+    depth: u32,
+    before: Vec<TraceExpr>,
+    tokens: &'a [Token<'a>],
+) -> Parsed<'a, TraceExpr>
+    requires { depth ≤ MOST }
+    ensures goes { Goes (λ x. trace x.0) (λ x. lexemes x.1.now) (items_behind depth before.items) (lexemes tokens.now) result }
+    ensures shorter { IfOk result (λ x. length x.1.now < length tokens.now) }
+{
+    let (first, mut rest) = item(alloc, depth, tokens)?;
+    let mut items = before;
+    items.push(first)?;
+    while let Some((_, next)) = after(rest, Sign::Fby) {
+        let (another, behind) = item(alloc, depth, next)?;
+        items.push(another)?;
+        rest = behind;
+    }
+    Ok((TraceExpr::Seq(Traces { items }), rest))
+}
+
+// An item of a sequence.
+#[cycle(parser)]
+fn item<'a>(alloc: Global, depth: u32, tokens: &'a [Token<'a>]) -> Parsed<'a, TraceExpr>
+    requires { depth ≤ MOST }
+    ensures goes { Goes (λ x. trace x.0) (λ x. lexemes x.1.now) (an_item depth) (lexemes tokens.now) result }
+    ensures shorter { IfOk result (λ x. length x.1.now < length tokens.now) }
+{
+    let Some((first, rest)) = tokens.split_first() else {
+        return Err(Refusal::Unexpected(0));
+    };
+    match first.sign {
+        Sign::OpenBrace => braces(alloc, deeper(depth, tokens.len())?, first.span, rest),
+        Sign::Loop => looped(alloc, deeper(depth, tokens.len())?, rest),
+        Sign::Raise => raised(alloc, rest),
+        Sign::Assert => asserted(alloc, deeper(depth, tokens.len())?, rest),
+        Sign::Exist => locals(alloc, deeper(depth, tokens.len())?, rest),
+        Sign::Let => defined(alloc, deeper(depth, tokens.len())?, rest),
+        Sign::Exception => exceptions(alloc, deeper(depth, tokens.len())?, rest),
+        Sign::Catch => caught(alloc, deeper(depth, tokens.len())?, rest),
+        Sign::Trap => trapped(alloc, deeper(depth, tokens.len())?, rest),
+        Sign::Try => tried(alloc, deeper(depth, tokens.len())?, rest),
+        _ => value(alloc, depth, tokens),
+    }
+}
+
+// An expression as an item.
+#[cycle(parser)]
+fn value<'a>(alloc: Global, depth: u32, tokens: &'a [Token<'a>]) -> Parsed<'a, TraceExpr>
+    requires { depth ≤ MOST }
+    ensures goes { Goes (λ x. trace x.0) (λ x. lexemes x.1.now) (value_goal depth) (lexemes tokens.now) result }
+    ensures shorter { IfOk result (λ x. length x.1.now < length tokens.now) }
+{
+    let (value, rest) = expr(alloc, depth, 0, tokens)?;
+    Ok((TraceExpr::Value(value), rest))
+}
+
+// A trace in braces, behind the first one.
+#[cycle(parser)]
+fn braces<'a>(
+    alloc: Global,
+    inside: u32,
+    start: Span,
+    tokens: &'a [Token<'a>],
+) -> Parsed<'a, TraceExpr>
+    requires { inside ≤ MOST }
+    ensures goes { Goes (λ x. trace x.0) (λ x. lexemes x.1.now) (braces_goal inside start) (lexemes tokens.now) result }
+    ensures shorter { IfOk result (λ x. length x.1.now < length tokens.now) }
+{
+    let (found, end, rest) = braced(alloc, inside, tokens)?;
+    Ok((TraceExpr::Braces(found, across(start, end)), rest))
+}
+
+// What follows `loop`.
+#[cycle(parser)]
+fn looped<'a>(alloc: Global, inside: u32, tokens: &'a [Token<'a>]) -> Parsed<'a, TraceExpr>
+    requires { inside ≤ MOST }
+    ensures goes { Goes (λ x. trace x.0) (λ x. lexemes x.1.now) (loop_goal inside) (lexemes tokens.now) result }
+    ensures shorter { IfOk result (λ x. length x.1.now < length tokens.now) }
+{
+    let (bounds, rest) = bounds(alloc, inside, tokens)?;
+    let (body, rest) = item(alloc, inside, rest)?;
+    Ok((TraceExpr::Loop(bounds, Box::new(alloc, body)?), rest))
+}
+
+// What follows `raise`.
+fn raised<'a>(alloc: Global, tokens: &'a [Token<'a>]) -> Parsed<'a, TraceExpr>
+    ensures goes { Goes (λ x. trace x.0) (λ x. lexemes x.1.now) (λ k. a_name (λ n. k (syntax.raise n))) (lexemes tokens.now) result }
+    ensures shorter { IfOk result (λ x. length x.1.now < length tokens.now) }
+{
+    let (name, rest) = name(alloc, tokens)?;
+    Ok((TraceExpr::Raise(name), rest))
+}
+
+// A trace behind `in`.
+#[cycle(parser)]
+fn in_trace<'a>(alloc: Global, inside: u32, tokens: &'a [Token<'a>]) -> Parsed<'a, Box<TraceExpr>>
+    requires { inside ≤ MOST }
+    ensures goes { Goes (λ x. trace x.0.value) (λ x. lexemes x.1.now) (reading.in_trace inside) (lexemes tokens.now) result }
+    ensures shorter { IfOk result (λ x. length x.1.now < length tokens.now) }
+{
+    let (_, rest) = expect(tokens, Sign::In)?;
+    let (body, rest) = trace(alloc, inside, rest)?;
+    Ok((Box::new(alloc, body)?, rest))
+}
+
+// What follows `assert`.
+#[cycle(parser)]
+fn asserted<'a>(alloc: Global, inside: u32, tokens: &'a [Token<'a>]) -> Parsed<'a, TraceExpr>
+    requires { inside ≤ MOST }
+    ensures goes { Goes (λ x. trace x.0) (λ x. lexemes x.1.now) (assert_goal inside) (lexemes tokens.now) result }
+    ensures shorter { IfOk result (λ x. length x.1.now < length tokens.now) }
+{
+    let (condition, rest) = expr(alloc, inside, 0, tokens)?;
+    let (body, rest) = in_trace(alloc, inside, rest)?;
+    Ok((TraceExpr::Assert(condition, body), rest))
+}
+
+// What follows `exist`.
+#[cycle(parser)]
+fn locals<'a>(alloc: Global, inside: u32, tokens: &'a [Token<'a>]) -> Parsed<'a, TraceExpr>
+    requires { inside ≤ MOST }
+    ensures goes { Goes (λ x. trace x.0) (λ x. lexemes x.1.now) (exist_goal inside) (lexemes tokens.now) result }
+    ensures shorter { IfOk result (λ x. length x.1.now < length tokens.now) }
+{
+    let (groups, rest) = groups(alloc, inside, Sign::In, tokens)?;
+    let (body, rest) = trace(alloc, inside, rest)?;
+    Ok((TraceExpr::Exist(groups, Box::new(alloc, body)?), rest))
+}
+
+// What follows a `let` that has an `in`.
+#[cycle(parser)]
+fn defined<'a>(alloc: Global, inside: u32, tokens: &'a [Token<'a>]) -> Parsed<'a, TraceExpr>
+    requires { inside ≤ MOST }
+    ensures goes { Goes (λ x. trace x.0) (λ x. lexemes x.1.now) (define_goal inside) (lexemes tokens.now) result }
+    ensures shorter { IfOk result (λ x. length x.1.now < length tokens.now) }
+{
+    let (declared, rest) = macro_decl(alloc, inside, tokens)?;
+    let (body, rest) = in_trace(alloc, inside, rest)?;
+    Ok((TraceExpr::Let(Box::new(alloc, declared)?, body), rest))
+}
+
+// What follows an `exception` that has an `in`.
+#[cycle(parser)]
+fn exceptions<'a>(alloc: Global, inside: u32, tokens: &'a [Token<'a>]) -> Parsed<'a, TraceExpr>
+    requires { inside ≤ MOST }
+    ensures goes { Goes (λ x. trace x.0) (λ x. lexemes x.1.now) (exceptions_goal inside) (lexemes tokens.now) result }
+    ensures shorter { IfOk result (λ x. length x.1.now < length tokens.now) }
+{
+    let (names, rest) = names(alloc, tokens)?;
+    let (body, rest) = in_trace(alloc, inside, rest)?;
+    Ok((TraceExpr::Exceptions(names, body), rest))
+}
+
+// What follows `catch`.
+#[cycle(parser)]
+fn caught<'a>(alloc: Global, inside: u32, tokens: &'a [Token<'a>]) -> Parsed<'a, TraceExpr>
+    requires { inside ≤ MOST }
+    ensures goes { Goes (λ x. trace x.0) (λ x. lexemes x.1.now) (catch_goal inside) (lexemes tokens.now) result }
+    ensures shorter { IfOk result (λ x. length x.1.now < length tokens.now) }
+{
+    let (name, rest) = name(alloc, tokens)?;
+    let (body, rest) = in_trace(alloc, inside, rest)?;
+    let (otherwise, rest) = handler(alloc, inside, rest)?;
+    Ok((TraceExpr::Catch(name, body, otherwise), rest))
+}
+
+// What follows `trap`.
+#[cycle(parser)]
+fn trapped<'a>(alloc: Global, inside: u32, tokens: &'a [Token<'a>]) -> Parsed<'a, TraceExpr>
+    requires { inside ≤ MOST }
+    ensures goes { Goes (λ x. trace x.0) (λ x. lexemes x.1.now) (trap_goal inside) (lexemes tokens.now) result }
+    ensures shorter { IfOk result (λ x. length x.1.now < length tokens.now) }
+{
+    let (name, rest) = name(alloc, tokens)?;
+    let (body, rest) = in_trace(alloc, inside, rest)?;
+    let (otherwise, rest) = handler(alloc, inside, rest)?;
+    Ok((TraceExpr::Trap(name, body, otherwise), rest))
+}
+
+// What follows `try`.
+#[cycle(parser)]
+fn tried<'a>(alloc: Global, inside: u32, tokens: &'a [Token<'a>]) -> Parsed<'a, TraceExpr>
+    requires { inside ≤ MOST }
+    ensures goes { Goes (λ x. trace x.0) (λ x. lexemes x.1.now) (try_goal inside) (lexemes tokens.now) result }
+    ensures shorter { IfOk result (λ x. length x.1.now < length tokens.now) }
+{
+    let (body, rest) = trace(alloc, inside, tokens)?;
+    let (otherwise, rest) = handler(alloc, inside, rest)?;
+    Ok((TraceExpr::Try(Box::new(alloc, body)?, otherwise), rest))
+}
+
+// What follows behind `do`, where it is there: the nearest form that may have it takes it.
+#[cycle(parser)]
+#[tactic(auto, using(crate::proofs::Skips::no_handler))]
+fn handler<'a>(
+    alloc: Global,
+    inside: u32,
+    tokens: &'a [Token<'a>],
+) -> Parsed<'a, Option<Box<TraceExpr>>>
+    requires { inside ≤ MOST }
+    ensures goes { Goes (λ x. maybe_trace x.0) (λ x. lexemes x.1.now) (a_handler inside) (lexemes tokens.now) result }
+    ensures shorter { IfOk result (λ x. length x.1.now ≤ length tokens.now) }
+{
+    match after(tokens, Sign::Do) {
+        None => Ok((None, tokens)),
+        Some((_, rest)) => {
+            let (body, rest) = trace(alloc, inside, rest)?;
+            Ok((Some(Box::new(alloc, body)?), rest))
+        }
+    }
+}
+
+// The bounds of a loop, where they are there.
+#[cycle(parser)]
+#[tactic(auto, using(crate::proofs::Skips::no_limits))]
+fn bounds<'a>(alloc: Global, inside: u32, tokens: &'a [Token<'a>]) -> Parsed<'a, Bounds>
+    requires { inside ≤ MOST }
+    ensures goes { Goes (λ x. limits x.0) (λ x. lexemes x.1.now) (some_limits inside) (lexemes tokens.now) result }
+    ensures shorter { IfOk result (λ x. length x.1.now ≤ length tokens.now) }
+{
+    if let Some((_, rest)) = after(tokens, Sign::OpenBracket) {
+        let (low, rest) = expr(alloc, inside, 0, rest)?;
+        let (_, rest) = expect(rest, Sign::Comma)?;
+        let (high, rest) = expr(alloc, inside, 0, rest)?;
+        let (_, rest) = expect(rest, Sign::CloseBracket)?;
+        return Ok((Bounds::Between(low, high), rest));
+    }
+    if let Some((_, rest)) = after(tokens, Sign::Tilde) {
+        let (average, rest) = bound(alloc, inside, rest)?;
+        let (_, rest) = expect(rest, Sign::Colon)?;
+        let (deviation, rest) = bound(alloc, inside, rest)?;
+        return Ok((Bounds::Around(average, deviation), rest));
+    }
+    Ok((Bounds::Forever, tokens))
+}
+
+// A number, a name without arguments, or an expression in parentheses.
+#[cycle(parser)]
+fn bound<'a>(alloc: Global, depth: u32, tokens: &'a [Token<'a>]) -> Parsed<'a, Expr>
+    requires { depth ≤ MOST }
+    ensures goes { Goes (λ x. exp x.0) (λ x. lexemes x.1.now) (a_bound depth) (lexemes tokens.now) result }
+    ensures shorter { IfOk result (λ x. length x.1.now < length tokens.now) }
+{
+    let Some((first, rest)) = tokens.split_first() else {
+        return Err(Refusal::Unexpected(0));
+    };
+    match first.sign {
+        Sign::Open => paren(alloc, deeper(depth, tokens.len())?, first.span, rest),
+        Sign::Number => {
+            let text = String::from_str(alloc, first.text)?;
+            Ok((
+                Expr::Number(Literal {
+                    minus: false,
+                    text,
+                    span: first.span,
+                }),
+                rest,
+            ))
+        }
+        Sign::Name => {
+            let text = String::from_str(alloc, first.text)?;
+            Ok((
+                Expr::Named(
+                    Name {
+                        text,
+                        span: first.span,
+                    },
+                    None,
+                ),
+                rest,
+            ))
+        }
+        _ => Err(Refusal::Unexpected(tokens.len())),
+    }
+}
