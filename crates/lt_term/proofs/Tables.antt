@@ -1,12 +1,12 @@
 -- The expressions of a table, and their numbers.
-use Rattle.std.proofs.Common.{◌≡◌, ℕ, zero, suc, ◌+◌, ◌<◌, Bool, true, false, ◌&&◌, IsTrue, List, [], ◌∷◌, ◌++◌, length, get_or, refl, ap, sym, ◌∙◌, arith, length-append, subst}
+use Rattle.std.proofs.Common.{◌≡◌, ℕ, zero, suc, ◌+◌, ◌<◌, Bool, true, false, ◌&&◌, nat_lt, IsTrue, List, [], ◌∷◌, ◌++◌, length, get_or, refl, ap, sym, ◌∙◌, arith, length-append, subst}
 use Rattle.std.proofs.lemmas.List.{get_or_append_left}
 use Rattle.std.proofs.lemmas.Bool.{ltb-true}
 use Rattle.std.proofs.Math.Seq.{get_or-append_seam}
-use Rattle.lt_term.specs.Expression.{Expression, flag, negation}
-use Rattle.lt_term.specs.Table.{spelled, expression_at, extended, expressions_of, fits, are_ordered}
+use Rattle.lt_term.specs.Expression.{Expression, flag, negation, conjunction, disjunction, exclusive_disjunction, implication}
+use Rattle.lt_term.specs.Table.{spelled, expression_at, extended, expressions_of, fits, are_ordered, HasPartsBelow}
 use Rattle.lt_term.specs.declared.table.ExpNode.{ExpNode}
-use Rattle.lt_term.specs.declared.table.ExpNode.TheVariants.{Flag, Output, Not}
+use Rattle.lt_term.specs.declared.table.ExpNode.TheVariants.{Flag, Output, Not, And, Or, Xor, Implies}
 
 pub both : (a b : Bool) → IsTrue a → IsTrue b → IsTrue (a && b)
 both true b h k = k
@@ -66,11 +66,21 @@ extended-keeps es (n ∷ ns) c h =
     extended-keeps (es ++ expression_at es n ∷ []) ns c (simp length-append (omega arith))
     ∙ get_or_append_left es (expression_at es n ∷ []) (flag false) c h
 
+left-keeps : (es : List Expression) (ns : List ExpNode) (left right : ℕ) → IsTrue (nat_lt left (length es) && nat_lt right (length es)) → spelled (extended es ns) left ≡ spelled es left
+left-keeps es ns left right h = extended-keeps es ns left (ltb-true _ _ (left_of _ _ h))
+
+right-keeps : (es : List Expression) (ns : List ExpNode) (left right : ℕ) → IsTrue (nat_lt left (length es) && nat_lt right (length es)) → spelled (extended es ns) right ≡ spelled es right
+right-keeps es ns left right h = extended-keeps es ns right (ltb-true _ _ (right_of (nat_lt left (length es)) _ h))
+
 -- a node's expression is the same over more expressions
 expression_at-keeps : (es : List Expression) (ns : List ExpNode) (n : ExpNode) (outputs : ℕ) → IsTrue (fits (length es) outputs n) → expression_at (extended es ns) n ≡ expression_at es n
 expression_at-keeps es ns (Flag b) outputs h = refl
 expression_at-keeps es ns (Output i) outputs h = refl
 expression_at-keeps es ns (Not part) outputs h = ap negation (extended-keeps es ns part (ltb-true _ _ h))
+expression_at-keeps es ns (And left right) outputs h = λ i. conjunction (left-keeps es ns left right h i) (right-keeps es ns left right h i)
+expression_at-keeps es ns (Or left right) outputs h = λ i. disjunction (left-keeps es ns left right h i) (right-keeps es ns left right h i)
+expression_at-keeps es ns (Xor left right) outputs h = λ i. exclusive_disjunction (left-keeps es ns left right h i) (right-keeps es ns left right h i)
+expression_at-keeps es ns (Implies left right) outputs h = λ i. implication (left-keeps es ns left right h i) (right-keeps es ns left right h i)
 
 length_more : (es : List Expression) (e : Expression) → length (es ++ e ∷ []) ≡ suc (length es)
 length_more es e = simp length-append (omega arith)
@@ -96,8 +106,19 @@ spelled-extended outputs es (m ∷ ns) before e h zero c n d at l is =
 spelled-extended outputs es (m ∷ ns) before e h (suc j) c n d at l is =
     spelled-extended outputs (es ++ expression_at es m ∷ []) ns (suc before) (length_more es _ ∙ ap suc e) (right_of (fits before outputs m) _ h) j c n d (omega arith) (omega arith) is
 
--- the expression of a number is that of its node, whose part has a smaller number
-pub spelled-at : (outputs : ℕ) (ns : List ExpNode) (c : ℕ) (n m : ExpNode) → IsTrue (are_ordered 0 outputs ns) → c < length ns → n ≡ get_or ns c n → n ≡ m → (spelled (expressions_of ns) c ≡ expression_at (expressions_of ns) m) × IsTrue (fits c outputs m)
-spelled-at outputs ns c n m h l is same =
-    let P : ExpNode → Type 0 = λ k. (spelled (expressions_of ns) c ≡ expression_at (expressions_of ns) k) × IsTrue (fits c outputs k) in
-    subst P same (spelled-extended outputs [] ns 0 refl h c c n n (omega arith) l is)
+two_below : (left right parts : ℕ) → IsTrue (nat_lt left parts && nat_lt right parts) → (left < parts) × (right < parts)
+two_below left right parts h = (ltb-true _ _ (left_of _ _ h), ltb-true _ _ (right_of (nat_lt left parts) _ h))
+
+parts_below : (parts outputs : ℕ) (n : ExpNode) → IsTrue (fits parts outputs n) → HasPartsBelow parts outputs n
+parts_below parts outputs (Flag b) h = tt
+parts_below parts outputs (Output i) h = ltb-true _ _ h
+parts_below parts outputs (Not part) h = ltb-true _ _ h
+parts_below parts outputs (And left right) h = two_below left right parts h
+parts_below parts outputs (Or left right) h = two_below left right parts h
+parts_below parts outputs (Xor left right) h = two_below left right parts h
+parts_below parts outputs (Implies left right) h = two_below left right parts h
+
+-- the expression of a number is that of its node, whose parts have smaller numbers
+pub spelled-at : (outputs : ℕ) (ns : List ExpNode) (c : ℕ) (n : ExpNode) → IsTrue (are_ordered 0 outputs ns) → c < length ns → n ≡ get_or ns c n → (spelled (expressions_of ns) c ≡ expression_at (expressions_of ns) n) × HasPartsBelow c outputs n
+spelled-at outputs ns c n h l is =
+    let at = spelled-extended outputs [] ns 0 refl h c c n n (omega arith) l is in (at.0, parts_below c outputs n at.1)

@@ -1,5 +1,5 @@
 -- Boolean expressions over the outputs of an instant, and their truth.
-use Rattle.std.specs.Prelude.{ℕ, Bool, false, not, List, slice_index_or}
+use Rattle.std.specs.Prelude.{ℕ, Bool, true, false, not, ◌&&◌, ◌||◌, List, slice_index_or}
 use Rattle.std.specs.List.{list_all}
 use Rattle.lt_term.specs.declared.value.Value.{Value}
 use Rattle.lt_term.specs.declared.value.Value.TheVariants as value
@@ -12,16 +12,33 @@ pub data Expression : Type 0 where
   output : ℕ → Expression
   -- not
   negation : Expression → Expression
+  -- both
+  conjunction : Expression → Expression → Expression
+  -- one or both
+  disjunction : Expression → Expression → Expression
+  -- exactly one
+  exclusive_disjunction : Expression → Expression → Expression
+  -- the second wherever the first
+  implication : Expression → Expression → Expression
 
 -- the truth of a value
 abbrev pub is_true : Value → Bool
 is_true (value.Bool b) = b
+
+-- whether exactly one of two is true
+abbrev pub exactly_one : Bool → Bool → Bool
+exactly_one true b = not b
+exactly_one false b = b
 
 -- the truth of an expression in an instant with these outputs
 abbrev pub truth_of : List Value → Expression → Bool
 truth_of outputs (flag b) = b
 truth_of outputs (output i) = is_true (slice_index_or outputs i (value.Bool false))
 truth_of outputs (negation e) = not (truth_of outputs e)
+truth_of outputs (conjunction d e) = truth_of outputs d && truth_of outputs e
+truth_of outputs (disjunction d e) = truth_of outputs d || truth_of outputs e
+truth_of outputs (exclusive_disjunction d e) = exactly_one (truth_of outputs d) (truth_of outputs e)
+truth_of outputs (implication d e) = not (truth_of outputs d) || truth_of outputs e
 
 -- whether all of these hold in an instant with these outputs
 abbrev pub all_hold : List Expression → List Value → Bool

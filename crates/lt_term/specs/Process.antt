@@ -9,15 +9,19 @@ pub data Process (C : Type 0) : Type 0 where
   con : C → Process C
   -- the first, and then the second
   seq : Process C → Process C → Process C
+  -- the same over and over, for as long as it takes instants
+  loop : Process C → Process C
 
 -- the same with other constraints
 abbrev pub with_constraints : {C D : Type 0} → (C → D) → Process C → Process D
 with_constraints f eps = eps
 with_constraints f (con c) = con (f c)
 with_constraints f (seq a b) = seq (with_constraints f a) (with_constraints f b)
+with_constraints f (loop t) = loop (with_constraints f t)
 
 -- whether each constraint is one of so many
 abbrev pub is_within : ℕ → Process ℕ → Bool
 is_within n eps = true
 is_within n (con c) = nat_lt c n
 is_within n (seq a b) = is_within n a && is_within n b
+is_within n (loop t) = is_within n t

@@ -1,8 +1,8 @@
 -- The expressions that a table spells.
-use Rattle.std.specs.Prelude.{ℕ, suc, Bool, true, false, ◌&&◌, nat_lt, List, [], ◌∷◌, ◌++◌, slice_index_or}
-use Rattle.lt_term.specs.Expression.{Expression, flag, output, negation}
+use Rattle.std.specs.Prelude.{ℕ, suc, ◌<◌, Bool, true, false, ◌&&◌, nat_lt, List, [], ◌∷◌, ◌++◌, slice_index_or}
+use Rattle.lt_term.specs.Expression.{Expression, flag, output, negation, conjunction, disjunction, exclusive_disjunction, implication}
 use Rattle.lt_term.specs.declared.table.ExpNode.{ExpNode}
-use Rattle.lt_term.specs.declared.table.ExpNode.TheVariants.{Flag, Output, Not}
+use Rattle.lt_term.specs.declared.table.ExpNode.TheVariants.{Flag, Output, Not, And, Or, Xor, Implies}
 
 -- the expression of a number
 abbrev pub spelled : List Expression → ℕ → Expression
@@ -13,6 +13,10 @@ abbrev pub expression_at : List Expression → ExpNode → Expression
 expression_at es (Flag b) = flag b
 expression_at es (Output i) = output i
 expression_at es (Not part) = negation (spelled es part)
+expression_at es (And left right) = conjunction (spelled es left) (spelled es right)
+expression_at es (Or left right) = disjunction (spelled es left) (spelled es right)
+expression_at es (Xor left right) = exclusive_disjunction (spelled es left) (spelled es right)
+expression_at es (Implies left right) = implication (spelled es left) (spelled es right)
 
 -- these expressions, and behind them those of the nodes
 abbrev pub extended : List Expression → List ExpNode → List Expression
@@ -23,13 +27,27 @@ extended es (n ∷ ns) = extended (es ++ expression_at es n ∷ []) ns
 abbrev pub expressions_of : List ExpNode → List Expression
 expressions_of ns = extended [] ns
 
--- whether a node's part is among so many, and its output too
+-- whether a node's parts are among so many, and its output too
 abbrev pub fits : ℕ → ℕ → ExpNode → Bool
 fits parts outputs (Flag b) = true
 fits parts outputs (Output i) = nat_lt i outputs
 fits parts outputs (Not part) = nat_lt part parts
+fits parts outputs (And left right) = nat_lt left parts && nat_lt right parts
+fits parts outputs (Or left right) = nat_lt left parts && nat_lt right parts
+fits parts outputs (Xor left right) = nat_lt left parts && nat_lt right parts
+fits parts outputs (Implies left right) = nat_lt left parts && nat_lt right parts
 
--- whether the part of each node, before which there are so many, has a smaller number
+-- whether the parts of each node, before which there are so many, have smaller numbers
 abbrev pub are_ordered : ℕ → ℕ → List ExpNode → Bool
 are_ordered before outputs [] = true
 are_ordered before outputs (n ∷ ns) = fits before outputs n && are_ordered (suc before) outputs ns
+
+-- a node's parts are among so many, and its output too
+abbrev pub HasPartsBelow : ℕ → ℕ → ExpNode → Type 0
+HasPartsBelow parts outputs (Flag b) = Unit {0}
+HasPartsBelow parts outputs (Output i) = i < outputs
+HasPartsBelow parts outputs (Not part) = part < parts
+HasPartsBelow parts outputs (And left right) = (left < parts) × (right < parts)
+HasPartsBelow parts outputs (Or left right) = (left < parts) × (right < parts)
+HasPartsBelow parts outputs (Xor left right) = (left < parts) × (right < parts)
+HasPartsBelow parts outputs (Implies left right) = (left < parts) × (right < parts)

@@ -2,13 +2,13 @@
 use Rattle.std.specs.Prelude.{ℕ, List, map, length}
 use Rattle.lt_term.specs.Expression.{Expression}
 use Rattle.lt_term.specs.Table.{spelled, expressions_of}
-use Rattle.lt_term.specs.Process.{Process, eps, con, seq, with_constraints}
-use Rattle.lt_term.specs.Offers.{Leaf, vanish, go}
+use Rattle.lt_term.specs.Process.{Process, eps, con, seq, loop, with_constraints}
+use Rattle.lt_term.specs.Offers.{vanish, nothing, go, Node, leaf_node, pri_node}
 use Rattle.lt_term.specs.declared.table.Table.{Table}
 use Rattle.lt_term.specs.declared.term.Term.{Term}
-use Rattle.lt_term.specs.declared.term.Term.TheVariants.{Eps, Con, Seq'}
+use Rattle.lt_term.specs.declared.term.Term.TheVariants.{Eps, Con, Seq', Loop'}
 use Rattle.lt_term.specs.declared.tree.TreeNode.{TreeNode}
-use Rattle.lt_term.specs.declared.tree.TreeNode.TheVariants.{Vanish, Go}
+use Rattle.lt_term.specs.declared.tree.TreeNode.TheVariants.{Vanish, None, Go, Pri}
 
 -- how many expressions a table has
 abbrev pub table_len : Table → ℕ
@@ -27,16 +27,19 @@ abbrev pub process : Term → Process ℕ
 process Eps = eps
 process (Con c) = con c
 process (Seq' p a q b) = seq (process a) (process b)
+process (Loop' p t) = loop (process t)
 
 -- a term with the expressions of this table in place of their numbers
 abbrev pub process_over : Table → Term → Process Expression
 process_over table term = with_constraints (spelled (table_expressions table)) (process term)
 
--- a leaf of a tree
-abbrev pub node_leaf : TreeNode → Leaf ℕ
-node_leaf Vanish = vanish
-node_leaf (Go constraints next) = go constraints.items (process next)
+-- a node of a tree
+abbrev pub tree_node : TreeNode → Node ℕ
+tree_node Vanish = leaf_node vanish
+tree_node None = leaf_node nothing
+tree_node (Go constraints next) = leaf_node (go constraints.items (process next))
+tree_node Pri = pri_node
 
--- the leaves of a tree
-abbrev pub node_leaves : List TreeNode → List (Leaf ℕ)
-node_leaves nodes = map node_leaf nodes
+-- the nodes of a tree
+abbrev pub tree_nodes : List TreeNode → List (Node ℕ)
+tree_nodes nodes = map tree_node nodes

@@ -2,7 +2,7 @@
 
 ghost use Rattle.std.specs.Prelude.{◌≡◌, ℕ, ◌<◌, ◌+◌, ◌++◌, [], ◌∷◌, length, IsTrue, IfOk, OnOk, OnErr};
 ghost use Rattle.lt_term.specs.Expression.{truth_of};
-ghost use Rattle.lt_term.specs.Table.{spelled, expression_at, fits, are_ordered};
+ghost use Rattle.lt_term.specs.Table.{spelled, expression_at, fits, are_ordered, HasPartsBelow};
 
 use crate::memory::Memory;
 use crate::value::Value;
@@ -19,6 +19,18 @@ pub enum ExpNode {
 
     /// The negation of another expression.
     Not(u32),
+
+    /// Both of two expressions.
+    And(u32, u32),
+
+    /// One of two expressions, or both.
+    Or(u32, u32),
+
+    /// Exactly one of two expressions.
+    Xor(u32, u32),
+
+    /// The second expression wherever the first holds.
+    Implies(u32, u32),
 }
 
 /// Expressions by number, from 0. The parts of an expression have smaller numbers than it.
@@ -79,10 +91,25 @@ impl Table {
         requires whole { length outputs.now ≡ table_outputs self.now }
         ensures { result ≡ truth_of outputs.now (spelled (table_expressions self.now) number) }
     {
-        match self.nodes[number as usize] {
+        match self.node(number) {
             ExpNode::Flag(flag) => flag,
             ExpNode::Output(output) => outputs[output as usize].is_true(),
             ExpNode::Not(part) => !self.holds(part, outputs),
+            ExpNode::And(left, right) => self.holds(left, outputs) && self.holds(right, outputs),
+            ExpNode::Or(left, right) => self.holds(left, outputs) || self.holds(right, outputs),
+            ExpNode::Xor(left, right) => self.holds(left, outputs) != self.holds(right, outputs),
+            ExpNode::Implies(left, right) => {
+                !self.holds(left, outputs) || self.holds(right, outputs)
+            }
         }
+    }
+
+    // The node of an expression.
+    fn node(&self, number: u32) -> ExpNode
+        requires { number < table_len self.now }
+        ensures spells { spelled (table_expressions self.now) number ≡ expression_at (table_expressions self.now) result }
+        ensures parts { HasPartsBelow number (table_outputs self.now) result }
+    {
+        self.nodes[number as usize]
     }
 }

@@ -16,6 +16,9 @@ pub enum Term {
 
     /// The first, and then the second.
     Seq(Box<Term>, Box<Term>),
+
+    /// The same over and over, for as long as it takes instants.
+    Loop(Box<Term>),
 }
 
 impl Clone for Term {
@@ -34,6 +37,7 @@ fn copy(term: &Term) -> Result<Term, AllocError>
         Term::Eps => Ok(Term::Eps),
         Term::Con(constraint) => Ok(Term::Con(*constraint)),
         Term::Seq(first, second) => Ok(Term::Seq(copy_box(first)?, copy_box(second)?)),
+        Term::Loop(body) => Ok(Term::Loop(copy_box(body)?)),
     }
 }
 

@@ -1,29 +1,37 @@
 //! What a term offers in one instant.
 
 ghost use Rattle.std.specs.Prelude.{◌≡◌, ℕ, ◌++◌, [], ◌∷◌, map, IfOk, OnOk, IsTrue};
-ghost use Rattle.std.specs.List.{list_all};
+ghost use Rattle.std.specs.List.{list_all, flat_map};
 ghost use Rattle.lt_term.specs.Expression.{Expression};
 ghost use Rattle.lt_term.specs.Process.{with_constraints, is_within};
-ghost use Rattle.lt_term.specs.Offers.{leaf_with_constraints, followed_by, offers_of, flattened, leaf_is_within};
-ghost use Rattle.lt_term.specs.View.{process, node_leaf, node_leaves};
+ghost use Rattle.lt_term.specs.Offers.{node_with_constraints, node_is_within, followed_by, going_on, offers_of, flattened, grafted, leaf_node, nothing};
+ghost use Rattle.lt_term.specs.View.{process, tree_node, tree_nodes};
 
 use crate::memory::Memory;
 use crate::term::Term;
 use std::alloc::{AllocError, Global};
 
-/// A leaf of a tree.
+/// A node of a tree.
 #[derive(Debug, Drop)]
 pub enum TreeNode {
-    /// The term is over, and takes no instant.
+    /// A leaf: the term is over, and takes no instant.
     Vanish,
 
-    /// One instant in which these expressions hold, and what comes after it.
+    /// A leaf at which nothing can be done.
+    None,
+
+    /// A leaf: one instant in which these expressions hold, and what comes after it.
     Go { constraints: Vec<u32>, next: Term },
+
+    /// The left one of two trees, or the right one where nothing can be done in the left one. The left
+    /// one stands behind this node, and the right one behind that.
+    Pri,
 }
 
-/// What a term offers in one instant, as the list of its leaves.
+/// What a term offers in one instant.
 #[derive(Debug, Drop)]
 pub struct Tree {
+    /// The nodes in preorder: each before those below it, and the left ones before the right ones.
     pub nodes: Vec<TreeNode>,
 }
 
@@ -31,12 +39,12 @@ pub struct Tree {
 #[tactic(auto, using(crate::proofs::Trees::nodes))]
 pub fn offers(alloc: Global, term: &Term) -> Result<Tree, Memory>
     // The tree of the rules, with the numbers of the constraints ..
-    ensures numbers { IfOk result (λ t. node_leaves t.nodes.items ≡ flattened (offers_of (process term.now))) }
+    ensures numbers { IfOk result (λ t. tree_nodes t.nodes.items ≡ flattened (offers_of (process term.now))) }
     // .. and so with whatever stands behind these numbers.
     ensures expressions { IfOk result (λ t. (meaning : ℕ → Expression) →
-        map (leaf_with_constraints meaning) (node_leaves t.nodes.items) ≡ flattened (offers_of (with_constraints meaning (process term.now)))) }
+        map (node_with_constraints meaning) (tree_nodes t.nodes.items) ≡ flattened (offers_of (with_constraints meaning (process term.now)))) }
     // Its constraints are those of the term.
-    ensures within { IfOk result (λ t. (n : ℕ) → IsTrue (is_within n (process term.now)) → IsTrue (list_all (leaf_is_within n) (node_leaves t.nodes.items))) }
+    ensures within { IfOk result (λ t. (n : ℕ) → IsTrue (is_within n (process term.now)) → IsTrue (list_all (node_is_within n) (tree_nodes t.nodes.items))) }
 {
     let mut nodes = Vec::new(alloc);
     emit(alloc, &mut nodes, term)?;
@@ -46,7 +54,7 @@ pub fn offers(alloc: Global, term: &Term) -> Result<Tree, Memory>
 // Puts the nodes of a term at the end of a list.
 #[tactic(auto, using(crate::proofs::Trees::nodes))]
 fn emit(alloc: Global, out: &mut Vec<TreeNode>, term: &Term) -> Result<(), AllocError>
-    ensures { OnOk result (node_leaves out.new.items ≡ node_leaves out.old.items ++ flattened (offers_of (process term.now))) }
+    ensures { OnOk result (tree_nodes out.new.items ≡ tree_nodes out.old.items ++ flattened (offers_of (process term.now))) }
 {
     match term {
         Term::Eps => put(out, TreeNode::Vanish),
@@ -67,14 +75,57 @@ fn emit(alloc: Global, out: &mut Vec<TreeNode>, term: &Term) -> Result<(), Alloc
                 match node {
                     TreeNode::Vanish => emit(alloc, out, second)?,
                     TreeNode::Go { constraints, next } => {
-                        let next = sequence(alloc, next, second)?;
-                        put(out, TreeNode::Go { constraints, next })?;
+                        put_instant(alloc, out, constraints, next, second)?
                     }
+                    other => put(out, other)?,
                 }
             }
             Ok(())
         }
+        Term::Loop(body) => {
+            let mut nodes = Vec::new(alloc);
+            emit(alloc, &mut nodes, body)?;
+            put(out, TreeNode::Pri)?;
+            put_iteration(alloc, out, nodes, term)?;
+            put(out, TreeNode::Vanish)
+        }
     }
+}
+
+// The nodes of a loop's body for one iteration: nothing where the body is over without an instant, and
+// the loop once more behind what is left of the body.
+fn put_iteration(
+    alloc: Global,
+    out: &mut Vec<TreeNode>,
+    nodes: Vec<TreeNode>,
+    whole: &Term,
+) -> Result<(), AllocError>
+    ensures { OnOk result (tree_nodes out.new.items ≡ tree_nodes out.old.items ++ flat_map (grafted (λ cs n. flattened (going_on (process whole.now) cs n)) (leaf_node nothing ∷ [])) (tree_nodes nodes.items)) }
+{
+    for node in nodes {
+        match node {
+            TreeNode::Vanish => put(out, TreeNode::None)?,
+            TreeNode::Go { constraints, next } => {
+                put_instant(alloc, out, constraints, next, whole)?
+            }
+            other => put(out, other)?,
+        }
+    }
+    Ok(())
+}
+
+// One instant, after which a second term comes behind what is left of the first one.
+fn put_instant(
+    alloc: Global,
+    out: &mut Vec<TreeNode>,
+    constraints: Vec<u32>,
+    first: Term,
+    second: &Term,
+) -> Result<(), AllocError>
+    ensures { OnOk result (tree_nodes out.new.items ≡ tree_nodes out.old.items ++ flattened (going_on (process second.now) constraints.items (process first))) }
+{
+    let next = sequence(alloc, first, second)?;
+    put(out, TreeNode::Go { constraints, next })
 }
 
 // What is left of the first term, and then a copy of the second.
@@ -90,7 +141,7 @@ fn sequence(alloc: Global, first: Term, second: &Term) -> Result<Term, AllocErro
 
 // One more node.
 fn put(out: &mut Vec<TreeNode>, node: TreeNode) -> Result<(), AllocError>
-    ensures { OnOk result (node_leaves out.new.items ≡ node_leaves out.old.items ++ node_leaf node ∷ []) }
+    ensures { OnOk result (tree_nodes out.new.items ≡ tree_nodes out.old.items ++ tree_node node ∷ []) }
 {
     out.push(node)?;
     Ok(())

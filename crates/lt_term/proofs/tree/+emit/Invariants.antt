@@ -1,12 +1,12 @@
 use Rattle.std.proofs.Common.{◌≡◌, ◌++◌}
 use Rattle.std.specs.List.{flat_map}
 use Rattle.lt_term.specs.Offers.{going_on, offers_of, flattened, grafted}
-use Rattle.lt_term.specs.View.{process, node_leaves}
+use Rattle.lt_term.specs.View.{process, tree_nodes}
 use Rattle.lt_term.proofs.tree.+emit.Given as goal
 
 -- what was put out so far is what the nodes so far become
 abbrev pub invariant-loop-node : goal.invariant-loop-node
 invariant-loop-node l =
-    node_leaves l.out.items
-    ≡ node_leaves l.fn.out.items
-    ++ flat_map (grafted (λ cs n. flattened (going_on (process l.second.value) cs n)) (flattened (offers_of (process l.second.value)))) (node_leaves l.yielded)
+    tree_nodes l.out.items
+    ≡ tree_nodes l.fn.out.items
+    ++ flat_map (grafted (λ cs n. flattened (going_on (process l.second.value) cs n)) (flattened (offers_of (process l.second.value)))) (tree_nodes l.yielded)
