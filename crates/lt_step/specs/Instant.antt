@@ -4,7 +4,7 @@ use Rattle.std.specs.declared.option.Option.{Option}
 use Rattle.lt_term.specs.Expression.{Expression}
 use Rattle.lt_term.specs.Solution.{first_solution}
 use Rattle.lt_term.specs.Process.{Process}
-use Rattle.lt_term.specs.Offers.{Leaf, vanish, go, offers_of}
+use Rattle.lt_term.specs.Offers.{Leaf, vanish, nothing, go, offers_of}
 use Rattle.lt_term.specs.Live.{HasLive}
 use Rattle.lt_term.specs.Scene.{Scene, Configuration, output_kinds}
 use Rattle.lt_term.specs.declared.value.Value.{Value}
@@ -32,6 +32,7 @@ gone_on c n (Some vs) = values vs (next_configuration c n vs)
 abbrev pub taken : Scene → Configuration → Option (Leaf Expression) → Instant
 taken s c None = deadlock
 taken s c (Some vanish) = normal
+taken s c (Some nothing) = deadlock
 taken s c (Some (go es n)) = gone_on c n (first_solution es (output_kinds s))
 
 -- the instant of a configuration

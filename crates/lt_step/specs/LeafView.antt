@@ -1,31 +1,43 @@
--- What the leaves of the code stand for.
-use Rattle.std.specs.Prelude.{◌≡◌, Bool, true, false, List, None, Some}
+-- What the code takes of a tree.
+use Rattle.std.specs.Prelude.{◌≡◌, ℕ, Bool, true, false, List, [], ◌∷◌, None, Some, map, if◌then◌else◌}
 use Rattle.std.specs.declared.option.Option.{Option}
 use Rattle.lt_term.specs.Expression.{Expression}
 use Rattle.lt_term.specs.Table.{spelled}
 use Rattle.lt_term.specs.Solution.{first_solution}
-use Rattle.lt_term.specs.Offers.{Leaf, vanish, go, leaf_with_constraints}
-use Rattle.lt_term.specs.Scene.{Configuration}
-use Rattle.lt_term.specs.View.{process_over, table_expressions, node_leaf}
+use Rattle.lt_term.specs.Process.{is_within}
+use Rattle.lt_term.specs.Offers.{Leaf, vanish, go, Node, leaf_node, pri_node, node_with_constraints}
+use Rattle.lt_term.specs.View.{process, process_over, table_expressions, tree_nodes}
 use Rattle.lt_term.specs.declared.table.Table.{Table}
 use Rattle.lt_term.specs.declared.tree.TreeNode.{TreeNode}
-use Rattle.lt_term.specs.declared.tree.TreeNode.TheVariants.{Vanish, Go}
 use Rattle.lt_term.specs.declared.value.Kind.{Kind}
 use Rattle.lt_term.specs.declared.value.Value.{Value}
-use Rattle.lt_step.specs.Instant.{Instant, values, normal, deadlock, next_configuration}
+use Rattle.lt_step.specs.Drawn.{is_live}
+use Rattle.lt_step.specs.declared.drawing.Taken.{Taken}
+use Rattle.lt_step.specs.declared.drawing.Taken.TheVariants as taken
 
--- a leaf of the code's tree with the expressions of this table
-abbrev pub leaf_over : Table → TreeNode → Leaf Expression
-leaf_over table node = leaf_with_constraints (spelled (table_expressions table)) (node_leaf node)
+-- the nodes of the code's tree with the expressions of this table
+abbrev pub nodes_over : Table → List TreeNode → List (Node Expression)
+nodes_over table nodes = map (node_with_constraints (spelled (table_expressions table))) (tree_nodes nodes)
 
--- the instant that takes this leaf, where there is one, with these outputs where it goes on
-abbrev pub instant_by : Table → Configuration → Option TreeNode → List Value → Instant
-instant_by table c None vs = deadlock
-instant_by table c (Some Vanish) vs = normal
-instant_by table c (Some (Go constraints next)) vs = values vs (next_configuration c (process_over table next) vs)
+-- the first live leaf of some nodes
+abbrev pub first_live : List Kind → List (Node Expression) → Option (Leaf Expression)
+first_live kinds [] = None
+first_live kinds (leaf_node l ∷ nodes) = if is_live kinds l then Some l else first_live kinds nodes
+first_live kinds (pri_node ∷ nodes) = first_live kinds nodes
 
--- whether a leaf is live, and with which outputs first
-abbrev pub Decides : List Kind → Leaf Expression → List Value → Bool → Type 0
-Decides kinds vanish vs live = live ≡ true
-Decides kinds (go es n) vs true = first_solution es kinds ≡ Some vs
-Decides kinds (go es n) vs false = first_solution es kinds ≡ None
+-- where some values were found, they are these
+abbrev pub Solves : Option (List Value) → List Value → Bool → Type 0
+Solves solution vs true = solution ≡ Some vs
+Solves solution vs false = solution ≡ None
+
+-- what is taken is this leaf, where there is one; where it goes on, these outputs are the first solution
+abbrev pub Takes : List Kind → Table → Option (Leaf Expression) → Taken → List Value → Type 0
+Takes kinds table l taken.Nothing vs = l ≡ None
+Takes kinds table l taken.Vanish vs = l ≡ Some vanish
+Takes kinds table l (taken.Go next) vs = (es : List Expression) × (l ≡ Some (go es (process_over table next))) × (first_solution es kinds ≡ Some vs)
+
+-- whether each constraint of what comes next is one of so many
+abbrev pub taken_is_within : ℕ → Taken → Bool
+taken_is_within n taken.Nothing = true
+taken_is_within n taken.Vanish = true
+taken_is_within n (taken.Go next) = is_within n (process next)

@@ -1,53 +1,84 @@
 //! The leaf that an instant takes.
 
-ghost use Rattle.std.specs.Prelude.{◌≡◌, List, IsTrue, IfOk, IfSome};
+ghost use Rattle.std.specs.Prelude.{◌≡◌, List, IsTrue, IfOk, nat_lt, map};
+ghost use Rattle.std.specs.List.{list_all};
+ghost use Rattle.lt_term.specs.Solution.{first_solution};
 ghost use Rattle.lt_term.specs.Process.{is_within};
-ghost use Rattle.lt_term.specs.Offers.{leaf_is_within};
-ghost use Rattle.lt_term.specs.Scene.{Configuration, output_kinds};
-ghost use Rattle.lt_term.specs.View.{process, process_over, table_len, node_leaf};
+ghost use Rattle.lt_term.specs.Offers.{node_is_within, offers_of};
+ghost use Rattle.lt_term.specs.Scene.{output_kinds};
+ghost use Rattle.lt_term.specs.View.{process, process_over, table_len, tree_nodes};
 ghost use Rattle.lt_term.specs.SceneView.{scene};
-ghost use Rattle.lt_step.specs.Drawn.{DrawIsLegal};
-ghost use Rattle.lt_step.specs.Instant.{instant_of, DeadlockMeansNoneLive};
-ghost use Rattle.lt_step.specs.LeafView.{leaf_over, instant_by, Decides};
+ghost use Rattle.lt_step.specs.Drawn.{drawn_leaf, DrawIsLegal};
+ghost use Rattle.lt_step.specs.Instant.{DeadlockMeansNoneLive};
+ghost use Rattle.lt_step.specs.LeafView.{nodes_over, first_live, Solves, Takes, taken_is_within};
+ghost use Rattle.lt_step.specs.Search.{expressions_at};
 
 use crate::search::extend;
 use lt_term::{Memory, Scenario, Term, TreeNode, Value, offers};
 use std::alloc::Global;
 
-/// The leaf that is drawn of what a term offers, where one is live. Where it goes on, the outputs are
-/// the first solution of its constraints.
+/// What an instant takes of what a term offers.
+#[derive(Drop)]
+pub enum Taken {
+    /// Nothing, since no leaf is live.
+    Nothing,
+
+    /// A leaf at which the term is over.
+    Vanish,
+
+    /// A leaf that goes on with this term.
+    Go(Term),
+}
+
+/// The leaf that is drawn of what a term offers. Where it goes on, the outputs are the first solution
+/// of its constraints.
 pub fn drawn(
     alloc: Global,
     scenario: &Scenario,
     term: &Term,
     outputs: &mut Vec<Value>,
-) -> Result<Option<TreeNode>, Memory>
+) -> Result<Taken, Memory>
     requires { IsTrue (is_within (table_len scenario.now.table) (process term.now)) }
-    ensures instant { IfOk result (λ node. (c : Configuration) → c.process ≡ process_over scenario.now.table term.now →
-        instant_of (scene scenario.now) c ≡ instant_by scenario.now.table c node outputs.new.items) }
-    ensures within { IfOk result (λ node. IfSome node (λ n. IsTrue (leaf_is_within (table_len scenario.now.table) (node_leaf n)))) }
+    ensures takes { let kinds = output_kinds (scene scenario.now) in
+        IfOk result (λ t. Takes kinds scenario.now.table (drawn_leaf kinds (offers_of (process_over scenario.now.table term.now))) t outputs.new.items) }
+    ensures within { IfOk result (λ t. IsTrue (taken_is_within (table_len scenario.now.table) t)) }
 {
-    let mut tree = offers(alloc, term)?;
-    let node = tree.nodes.remove(0);
-    if is_live(scenario, &node, outputs)? {
-        Ok(Some(node))
-    } else {
-        Ok(None)
-    }
+    let tree = offers(alloc, term)?;
+    first_of(scenario, tree.nodes, outputs)
 }
 
-// Whether a leaf is live. Where it goes on, the outputs are the first solution of its constraints.
-fn is_live(scenario: &Scenario, node: &TreeNode, outputs: &mut Vec<Value>) -> Result<bool, Memory>
-    requires { IsTrue (leaf_is_within (table_len scenario.now.table) (node_leaf node.now)) }
-    ensures { IfOk result (λ live. Decides (output_kinds (scene scenario.now)) (leaf_over scenario.now.table node.now) outputs.new.items live) }
+// The first live leaf of a tree's nodes: of two trees to choose from, the left one's leaves stand first.
+fn first_of(
+    scenario: &Scenario,
+    nodes: Vec<TreeNode>,
+    outputs: &mut Vec<Value>,
+) -> Result<Taken, Memory>
+    requires { IsTrue (list_all (node_is_within (table_len scenario.now.table)) (tree_nodes nodes.items)) }
+    ensures takes { let kinds = output_kinds (scene scenario.now) in
+        IfOk result (λ t. Takes kinds scenario.now.table (first_live kinds (nodes_over scenario.now.table nodes.items)) t outputs.new.items) }
+    ensures within { IfOk result (λ t. IsTrue (taken_is_within (table_len scenario.now.table) t)) }
 {
-    match node {
-        TreeNode::Vanish => Ok(true),
-        TreeNode::Go { constraints, .. } => {
-            outputs.clear();
-            extend(&scenario.table, constraints, &scenario.outputs, outputs)
+    for node in nodes {
+        match node {
+            TreeNode::Vanish => return Ok(Taken::Vanish),
+            TreeNode::Go { constraints, next } => {
+                if solve(scenario, &constraints, outputs)? {
+                    return Ok(Taken::Go(next));
+                }
+            }
+            TreeNode::None | TreeNode::Pri => {}
         }
     }
+    Ok(Taken::Nothing)
+}
+
+// Whether some outputs make these constraints true. The outputs are then the first ones that do.
+fn solve(scenario: &Scenario, constraints: &[u32], outputs: &mut Vec<Value>) -> Result<bool, Memory>
+    requires { IsTrue (list_all (λ c. nat_lt c (table_len scenario.now.table)) constraints.now) }
+    ensures { IfOk result (λ found. Solves (first_solution (expressions_at scenario.now.table constraints.now) (output_kinds (scene scenario.now))) outputs.new.items found) }
+{
+    outputs.clear();
+    extend(&scenario.table, constraints, &scenario.outputs, outputs)
 }
 
 /// A leaf is drawn exactly where some leaf of the tree is live, and it is a legal one.

@@ -5,8 +5,8 @@ ghost use Rattle.lt_term.specs.Process.{is_within};
 ghost use Rattle.lt_term.specs.View.{process, table_len};
 ghost use Rattle.lt_step.specs.Machine.{going, over, started, step_of, outputs_in, IfGoing, IsGoing};
 
-use crate::drawing::drawn;
-use lt_term::{Memory, Scenario, Term, TreeNode, Value, Var};
+use crate::drawing::{Taken, drawn};
+use lt_term::{Memory, Scenario, Term, Value, Var};
 use std::alloc::Global;
 
 /// What a step of a machine answers.
@@ -78,16 +78,16 @@ impl Machine {
             return Outcome::Ended;
         }
         match drawn(alloc, &self.scenario, &self.term, &mut self.outputs) {
-            Ok(Some(TreeNode::Go { next, .. })) => {
+            Ok(Taken::Go(next)) => {
                 self.term = next;
                 self.step += 1;
                 Outcome::Values
             }
-            Ok(Some(TreeNode::Vanish)) => {
+            Ok(Taken::Vanish) => {
                 self.is_over = true;
                 Outcome::Normal
             }
-            Ok(None) => {
+            Ok(Taken::Nothing) => {
                 self.is_over = true;
                 Outcome::Deadlock
             }
