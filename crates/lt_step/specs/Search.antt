@@ -1,6 +1,7 @@
 -- What a search for the first solution finds.
-use Rattle.std.specs.Prelude.{◌≡◌, ℕ, Bool, true, false, List, ◌∷◌, ◌++◌, [], None, Some, map}
-use Rattle.lt_term.specs.Expression.{Expression}
+use Rattle.std.specs.Prelude.{◌≡◌, ◌<◌, ℕ, Bool, true, false, IsTrue, nat_eq, if◌then◌else◌, List, ◌∷◌, ◌++◌, [], None, Some, map, length}
+use Rattle.std.specs.List.{list_all}
+use Rattle.lt_term.specs.Expression.{Expression, truth_of, outputs_needed}
 use Rattle.lt_term.specs.Table.{spelled}
 use Rattle.lt_term.specs.Solution.{first_solution_from}
 use Rattle.lt_term.specs.View.{table_expressions}
@@ -11,6 +12,19 @@ use Rattle.lt_term.specs.declared.value.Value.{Value}
 -- the expressions of some numbers
 abbrev pub expressions_at : Table → List ℕ → List Expression
 expressions_at table numbers = map (spelled (table_expressions table)) numbers
+
+-- those expressions hold that need fewer outputs than these
+abbrev pub EarlierHold : List Expression → List Value → Type 0
+EarlierHold [] outputs = Unit {0}
+EarlierHold (e ∷ es) outputs = (outputs_needed e < length outputs → IsTrue (truth_of outputs e)) × EarlierHold es outputs
+
+-- whether an expression holds, where it needs all of these outputs and no more
+abbrev pub holds_newly : List Value → Expression → Bool
+holds_newly outputs e = if nat_eq (outputs_needed e) (length outputs) then truth_of outputs e else true
+
+-- whether those expressions hold that need all of these outputs and no more
+abbrev pub all_hold_newly : List Expression → List Value → Bool
+all_hold_newly es outputs = list_all (holds_newly outputs) es
 
 -- Where something was found, the new values are the old ones and the first solution behind them; else there is
 -- none, and they are as before.

@@ -73,6 +73,7 @@ fn first_of(
 }
 
 // Whether some outputs make these constraints true. The outputs are then the first ones that do.
+#[tactic(auto, using(crate::proofs::Searches::earlier_none))]
 fn solve(scenario: &Scenario, constraints: &[u32], outputs: &mut Vec<Value>) -> Result<bool, Memory>
     requires { IsTrue (list_all (λ c. nat_lt c (table_len scenario.now.table)) constraints.now) }
     ensures { IfOk result (λ found. Solves (first_solution (expressions_at scenario.now.table constraints.now) (output_kinds (scene scenario.now))) outputs.new.items found) }

@@ -2,15 +2,16 @@
 
 ghost use Rattle.std.specs.Prelude.{◌≡◌, ◌<◌, ◌+◌, ℕ, ◌++◌, [], ◌∷◌, length, map, IfOk, IsTrue, nat_lt};
 ghost use Rattle.std.specs.List.{list_all};
-ghost use Rattle.lt_term.specs.Expression.{all_hold};
 ghost use Rattle.lt_term.specs.View.{table_len, table_outputs};
-ghost use Rattle.lt_step.specs.Search.{expressions_at, Finds, FindsBehind};
+ghost use Rattle.lt_step.specs.Search.{expressions_at, EarlierHold, all_hold_newly, Finds, FindsBehind};
 
 use lt_term::{Kind, Memory, Table, Value, Var};
 
 /// Adds to some outputs the first values of further ones with which all constraints hold. False means
-/// that there are none; the outputs are then as before.
+/// that there are none; the outputs are then as before. A constraint is judged once the last output that
+/// it names has a value, and not again for later ones: those that need fewer outputs than there are hold.
 #[cycle(search)]
+#[tactic(auto, using(crate::proofs::Searches::judging))]
 pub fn extend(
     table: &Table,
     constraints: &[u32],
@@ -19,18 +20,22 @@ pub fn extend(
 ) -> Result<bool, Memory>
     requires known { IsTrue (list_all (λ c. nat_lt c (table_len table.now)) constraints.now) }
     requires whole { length outputs.old.items + length further.now ≡ table_outputs table.now }
+    requires earlier { EarlierHold (expressions_at table.now constraints.now) outputs.old.items }
     ensures { IfOk result (λ found. Finds (expressions_at table.now constraints.now) (map (λ v. v.kind) further.now) outputs.old.items outputs.new.items found) }
 {
-    let Some((variable, rest)) = further.split_first() else {
-        return Ok(all_hold_in(table, constraints, outputs));
-    };
-    match variable.kind {
-        Kind::Bool => {
-            if extend_by(table, constraints, Value::Bool(false), rest, outputs)? {
-                return Ok(true);
+    if !all_hold_newly_in(table, constraints, outputs) {
+        return Ok(false);
+    }
+    match further {
+        [] => Ok(true),
+        [variable, rest @ ..] => match variable.kind {
+            Kind::Bool => {
+                if extend_by(table, constraints, Value::Bool(false), rest, outputs)? {
+                    return Ok(true);
+                }
+                extend_by(table, constraints, Value::Bool(true), rest, outputs)
             }
-            extend_by(table, constraints, Value::Bool(true), rest, outputs)
-        }
+        },
     }
 }
 
@@ -45,6 +50,7 @@ fn extend_by(
 ) -> Result<bool, Memory>
     requires known { IsTrue (list_all (λ c. nat_lt c (table_len table.now)) constraints.now) }
     requires whole { length outputs.old.items + length further.now + 1 ≡ table_outputs table.now }
+    requires earlier { EarlierHold (expressions_at table.now constraints.now) (outputs.old.items ++ value ∷ []) }
     ensures { IfOk result (λ found. FindsBehind value (expressions_at table.now constraints.now) (map (λ v. v.kind) further.now) outputs.old.items outputs.new.items found) }
 {
     outputs.push(value)?;
@@ -55,14 +61,13 @@ fn extend_by(
     Ok(found)
 }
 
-// Whether all constraints hold in an instant with these outputs.
-fn all_hold_in(table: &Table, constraints: &[u32], outputs: &[Value]) -> bool
-    requires known { IsTrue (list_all (λ c. nat_lt c (table_len table.now)) constraints.now) }
-    requires whole { length outputs.now ≡ table_outputs table.now }
-    ensures { result ≡ all_hold (expressions_at table.now constraints.now) outputs.now }
+// Whether those constraints hold that need all of these outputs and no more.
+fn all_hold_newly_in(table: &Table, constraints: &[u32], outputs: &[Value]) -> bool
+    requires { IsTrue (list_all (λ c. nat_lt c (table_len table.now)) constraints.now) }
+    ensures { result ≡ all_hold_newly (expressions_at table.now constraints.now) outputs.now }
 {
     for constraint in constraints {
-        if !table.holds(*constraint, outputs) {
+        if table.needs(*constraint) == outputs.len() && !table.holds(*constraint, outputs) {
             return false;
         }
     }

@@ -1,3 +1,4 @@
+pub mod Needs
 pub mod Solutions
 pub mod Tables
 pub mod Trees

@@ -9,7 +9,7 @@ use Rattle.lt_term.specs.declared.value.Value.{Value}
 use Rattle.lt_term.specs.declared.value.Value.TheVariants as value
 
 -- what a first solution behind some values tells
-abbrev Tells : List Expression → List Value → List Kind → Option (List Value) → Type 0
+abbrev pub Tells : List Expression → List Value → List Kind → Option (List Value) → Type 0
 Tells es fixed kinds o = MatchOption o (IsSatisfiableFrom es fixed kinds → ⊥) (λ values. IsSolution es fixed kinds values × IsFirstFrom es fixed kinds values)
 
 -- a value more is fixed, or one less is left
@@ -45,7 +45,8 @@ boolean es fixed ks None None h k = none
         by (value.Bool false ∷ vs) m = h (vs, record { kinds_match = m.kinds_match.1; holds = regroup es fixed vs (value.Bool false) ∙ m.holds })
         by (value.Bool true ∷ vs) m = k (vs, record { kinds_match = m.kinds_match.1; holds = regroup es fixed vs (value.Bool true) ∙ m.holds })
 
-tells : (es : List Expression) (fixed : List Value) (kinds : List Kind) → Tells es fixed kinds (first_solution_from es fixed kinds)
+-- what a first solution behind some values is
+pub tells : (es : List Expression) (fixed : List Value) (kinds : List Kind) → Tells es fixed kinds (first_solution_from es fixed kinds)
 tells es fixed [] = at_end es fixed (all_hold es fixed) refl
 tells es fixed (kind.Bool ∷ ks) =
     boolean es fixed ks _ _ (tells es (fixed ++ value.Bool false ∷ []) ks) (tells es (fixed ++ value.Bool true ∷ []) ks)

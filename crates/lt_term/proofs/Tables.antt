@@ -1,10 +1,11 @@
 -- The expressions of a table, and their numbers.
-use Rattle.std.proofs.Common.{◌≡◌, ℕ, zero, suc, ◌+◌, ◌<◌, Bool, true, false, ◌&&◌, nat_lt, IsTrue, List, [], ◌∷◌, ◌++◌, length, get_or, refl, ap, sym, ◌∙◌, arith, length-append, subst}
-use Rattle.std.proofs.lemmas.List.{get_or_append_left}
+use Rattle.std.proofs.Common.{◌≡◌, ℕ, zero, suc, ◌+◌, ◌<◌, Bool, true, false, ◌&&◌, nat_lt, IsTrue, List, [], ◌∷◌, ◌++◌, length, map, get_or, refl, ap, sym, ◌∙◌, arith, length-append, subst}
+use Rattle.std.proofs.lemmas.List.{get_or_append_left, get_or-map, length-map, map-append}
 use Rattle.std.proofs.lemmas.Bool.{ltb-true}
 use Rattle.std.proofs.Math.Seq.{get_or-append_seam}
-use Rattle.lt_term.specs.Expression.{Expression, flag, negation, conjunction, disjunction, exclusive_disjunction, implication}
-use Rattle.lt_term.specs.Table.{spelled, expression_at, extended, expressions_of, fits, are_ordered, HasPartsBelow}
+use Rattle.lt_term.specs.Expression.{Expression, flag, negation, conjunction, disjunction, exclusive_disjunction, implication, outputs_needed}
+use Rattle.lt_term.specs.Table.{spelled, expression_at, extended, expressions_of, fits, are_ordered, nodes_of, needs_of, HasPartsBelow}
+use Rattle.lt_term.specs.declared.table.Entry.{Entry}
 use Rattle.lt_term.specs.declared.table.ExpNode.{ExpNode}
 use Rattle.lt_term.specs.declared.table.ExpNode.TheVariants.{Flag, Output, Not, And, Or, Xor, Implies}
 
@@ -57,8 +58,6 @@ pub spelled-keeps : (ns : List ExpNode) (n : ExpNode) (k : ℕ) → k < length n
 spelled-keeps ns n k h =
     ap (λ es. spelled es k) (expressions_of-append ns n) ∙ get_or_append_left (expressions_of ns) (expression_at (expressions_of ns) n ∷ []) (flag false) k (omega (arith, length-expressions_of ns))
 
-pub ruleset pushes = (expressions_of-append, are_ordered-append, spelled-last, spelled-keeps)
-
 -- an expression that is there stays
 extended-keeps : (es : List Expression) (ns : List ExpNode) (c : ℕ) → c < length es → spelled (extended es ns) c ≡ spelled es c
 extended-keeps es [] c h = refl
@@ -82,7 +81,7 @@ expression_at-keeps es ns (Or left right) outputs h = λ i. disjunction (left-ke
 expression_at-keeps es ns (Xor left right) outputs h = λ i. exclusive_disjunction (left-keeps es ns left right h i) (right-keeps es ns left right h i)
 expression_at-keeps es ns (Implies left right) outputs h = λ i. implication (left-keeps es ns left right h i) (right-keeps es ns left right h i)
 
-length_more : (es : List Expression) (e : Expression) → length (es ++ e ∷ []) ≡ suc (length es)
+pub length_more : (es : List Expression) (e : Expression) → length (es ++ e ∷ []) ≡ suc (length es)
 length_more es e = simp length-append (omega arith)
 
 -- the first of some more nodes
@@ -109,7 +108,7 @@ spelled-extended outputs es (m ∷ ns) before e h (suc j) c n d at l is =
 two_below : (left right parts : ℕ) → IsTrue (nat_lt left parts && nat_lt right parts) → (left < parts) × (right < parts)
 two_below left right parts h = (ltb-true _ _ (left_of _ _ h), ltb-true _ _ (right_of (nat_lt left parts) _ h))
 
-parts_below : (parts outputs : ℕ) (n : ExpNode) → IsTrue (fits parts outputs n) → HasPartsBelow parts outputs n
+pub parts_below : (parts outputs : ℕ) (n : ExpNode) → IsTrue (fits parts outputs n) → HasPartsBelow parts outputs n
 parts_below parts outputs (Flag b) h = tt
 parts_below parts outputs (Output i) h = ltb-true _ _ h
 parts_below parts outputs (Not part) h = ltb-true _ _ h
@@ -118,7 +117,60 @@ parts_below parts outputs (Or left right) h = two_below left right parts h
 parts_below parts outputs (Xor left right) h = two_below left right parts h
 parts_below parts outputs (Implies left right) h = two_below left right parts h
 
--- the expression of a number is that of its node, whose parts have smaller numbers
-pub spelled-at : (outputs : ℕ) (ns : List ExpNode) (c : ℕ) (n : ExpNode) → IsTrue (are_ordered 0 outputs ns) → c < length ns → n ≡ get_or ns c n → (spelled (expressions_of ns) c ≡ expression_at (expressions_of ns) n) × HasPartsBelow c outputs n
-spelled-at outputs ns c n h l is =
-    let at = spelled-extended outputs [] ns 0 refl h c c n n (omega arith) l is in (at.0, parts_below c outputs n at.1)
+-- The entries of a table.
+
+nodes_of-append : (es : List Entry) (e : Entry) → nodes_of (es ++ e ∷ []) ≡ nodes_of es ++ e.node ∷ []
+nodes_of-append es e = map-append (λ entry. entry.node) es (e ∷ [])
+
+-- one more entry spells one more expression
+pub entries-append : (es : List Entry) (e : Entry) → expressions_of (nodes_of (es ++ e ∷ [])) ≡ expressions_of (nodes_of es) ++ expression_at (expressions_of (nodes_of es)) e.node ∷ []
+entries-append es e = ap expressions_of (nodes_of-append es e) ∙ expressions_of-append (nodes_of es) e.node
+
+-- as many expressions as entries
+pub length-entries : (es : List Entry) → length (expressions_of (nodes_of es)) ≡ length es
+length-entries es = length-expressions_of (nodes_of es) ∙ length-map es (λ entry. entry.node)
+
+-- its parts have smaller numbers
+pub entries-ordered : (outputs : ℕ) (es : List Entry) (e : Entry) → IsTrue (are_ordered 0 outputs (nodes_of es)) → IsTrue (fits (length es) outputs e.node) → IsTrue (are_ordered 0 outputs (nodes_of (es ++ e ∷ [])))
+entries-ordered outputs es e h f =
+    let P : List ExpNode → Type 0 = λ ns. IsTrue (are_ordered 0 outputs ns) in
+    let Q : ℕ → Type 0 = λ n. IsTrue (fits n outputs e.node) in
+    subst P (sym (nodes_of-append es e)) (are_ordered-append outputs (nodes_of es) e.node h (subst Q (sym (length-map es (λ entry. entry.node))) f))
+
+-- it has what its expression needs
+pub entries-needed : (es : List Entry) (e : Entry) → needs_of es ≡ map outputs_needed (expressions_of (nodes_of es)) → e.needs ≡ outputs_needed (expression_at (expressions_of (nodes_of es)) e.node)
+    → needs_of (es ++ e ∷ []) ≡ map outputs_needed (expressions_of (nodes_of (es ++ e ∷ [])))
+entries-needed es e h n =
+    map-append (λ entry. entry.needs) es (e ∷ [])
+    ∙ (λ i. h i ++ n i ∷ [])
+    ∙ sym (map-append outputs_needed (expressions_of (nodes_of es)) (expression_at (expressions_of (nodes_of es)) e.node ∷ []))
+    ∙ ap (map outputs_needed) (sym (entries-append es e))
+
+-- the last entry has its number
+pub entry-last : (es : List Entry) (e : Entry) → spelled (expressions_of (nodes_of (es ++ e ∷ []))) (length es) ≡ expression_at (expressions_of (nodes_of es)) e.node
+entry-last es e =
+    let P : ℕ → Type 0 = λ n. spelled (expressions_of (nodes_of (es ++ e ∷ []))) n ≡ expression_at (expressions_of (nodes_of es)) e.node in
+    subst P (length-map es (λ entry. entry.node)) (ap (λ ns. spelled (expressions_of ns) (length (nodes_of es))) (nodes_of-append es e) ∙ spelled-last (nodes_of es) e.node)
+
+-- the others keep theirs
+pub entry-keeps : (es : List Entry) (e : Entry) (k : ℕ) → k < length es → spelled (expressions_of (nodes_of (es ++ e ∷ []))) k ≡ spelled (expressions_of (nodes_of es)) k
+entry-keeps es e k h = ap (λ ns. spelled (expressions_of ns) k) (nodes_of-append es e) ∙ spelled-keeps (nodes_of es) e.node k (omega (arith, h, length-map es (λ entry. entry.node)))
+
+pub ruleset pushes = (entries-append, entries-ordered, entries-needed, entry-last, entry-keeps)
+
+-- the expression of a number is that of its entry's node, whose parts have smaller numbers
+pub spelled-at : (outputs : ℕ) (es : List Entry) (c : ℕ) (e : Entry) → IsTrue (are_ordered 0 outputs (nodes_of es)) → c < length es → e ≡ get_or es c e
+    → (spelled (expressions_of (nodes_of es)) c ≡ expression_at (expressions_of (nodes_of es)) e.node) × HasPartsBelow c outputs e.node
+spelled-at outputs es c e h l is =
+    let node : e.node ≡ get_or (nodes_of es) c e.node = ap (λ (entry : Entry). entry.node) is ∙ sym (get_or-map (λ (entry : Entry). entry.node) es c e e.node l) in
+    let at = spelled-extended outputs [] (nodes_of es) 0 refl h c c e.node e.node (omega arith) (omega (arith, l, length-map es (λ entry. entry.node))) node in
+    (at.0, parts_below c outputs e.node at.1)
+
+-- what the expression of a number needs stands in its entry
+pub needs-at : (es : List Entry) (c : ℕ) (e : Entry) → needs_of es ≡ map outputs_needed (expressions_of (nodes_of es)) → c < length es → e ≡ get_or es c e
+    → e.needs ≡ outputs_needed (spelled (expressions_of (nodes_of es)) c)
+needs-at es c e h l is =
+    ap (λ (entry : Entry). entry.needs) is
+    ∙ sym (get_or-map (λ (entry : Entry). entry.needs) es c e e.needs l)
+    ∙ ap (λ ns. get_or ns c e.needs) h
+    ∙ get_or-map outputs_needed (expressions_of (nodes_of es)) c (flag false) e.needs (omega (arith, l, length-entries es))

@@ -1,5 +1,5 @@
 -- Boolean expressions over the outputs of an instant, and their truth.
-use Rattle.std.specs.Prelude.{ℕ, Bool, true, false, not, ◌&&◌, ◌||◌, List, slice_index_or}
+use Rattle.std.specs.Prelude.{◌≡◌, ◌+◌, ◌≤◌, ◌++◌, length, max, ℕ, Bool, true, false, not, ◌&&◌, ◌||◌, List, slice_index_or}
 use Rattle.std.specs.List.{list_all}
 use Rattle.lt_term.specs.declared.value.Value.{Value}
 use Rattle.lt_term.specs.declared.value.Value.TheVariants as value
@@ -43,3 +43,17 @@ truth_of outputs (implication d e) = not (truth_of outputs d) || truth_of output
 -- whether all of these hold in an instant with these outputs
 abbrev pub all_hold : List Expression → List Value → Bool
 all_hold es outputs = list_all (truth_of outputs) es
+
+-- how many outputs, from the first one on, an expression needs: those up to the last one that it names
+abbrev pub outputs_needed : Expression → ℕ
+outputs_needed (flag b) = 0
+outputs_needed (output i) = i + 1
+outputs_needed (negation e) = outputs_needed e
+outputs_needed (conjunction d e) = max (outputs_needed d) (outputs_needed e)
+outputs_needed (disjunction d e) = max (outputs_needed d) (outputs_needed e)
+outputs_needed (exclusive_disjunction d e) = max (outputs_needed d) (outputs_needed e)
+outputs_needed (implication d e) = max (outputs_needed d) (outputs_needed e)
+
+-- the truth of an expression depends on the outputs that it needs alone
+abbrev pub TruthNeedsNoMore : Type 0
+TruthNeedsNoMore = (e : Expression) (outputs more : List Value) → outputs_needed e ≤ length outputs → truth_of (outputs ++ more) e ≡ truth_of outputs e

@@ -1,6 +1,7 @@
 -- The expressions that a table spells.
-use Rattle.std.specs.Prelude.{ℕ, suc, ◌<◌, Bool, true, false, ◌&&◌, nat_lt, List, [], ◌∷◌, ◌++◌, slice_index_or}
+use Rattle.std.specs.Prelude.{ℕ, suc, ◌<◌, Bool, true, false, ◌&&◌, nat_lt, List, [], ◌∷◌, ◌++◌, map, slice_index_or}
 use Rattle.lt_term.specs.Expression.{Expression, flag, output, negation, conjunction, disjunction, exclusive_disjunction, implication}
+use Rattle.lt_term.specs.declared.table.Entry.{Entry}
 use Rattle.lt_term.specs.declared.table.ExpNode.{ExpNode}
 use Rattle.lt_term.specs.declared.table.ExpNode.TheVariants.{Flag, Output, Not, And, Or, Xor, Implies}
 
@@ -26,6 +27,14 @@ extended es (n ∷ ns) = extended (es ++ expression_at es n ∷ []) ns
 -- the expressions of nodes
 abbrev pub expressions_of : List ExpNode → List Expression
 expressions_of ns = extended [] ns
+
+-- the nodes of a table's entries
+abbrev pub nodes_of : List Entry → List ExpNode
+nodes_of entries = map (λ entry. entry.node) entries
+
+-- how many outputs they need
+abbrev pub needs_of : List Entry → List ℕ
+needs_of entries = map (λ entry. entry.needs) entries
 
 -- whether a node's parts are among so many, and its output too
 abbrev pub fits : ℕ → ℕ → ExpNode → Bool

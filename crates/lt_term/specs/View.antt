@@ -1,7 +1,7 @@
 -- The expressions, terms and trees that values of the code stand for.
 use Rattle.std.specs.Prelude.{ℕ, List, map, length}
 use Rattle.lt_term.specs.Expression.{Expression}
-use Rattle.lt_term.specs.Table.{spelled, expressions_of}
+use Rattle.lt_term.specs.Table.{spelled, expressions_of, nodes_of}
 use Rattle.lt_term.specs.Process.{Process, eps, con, seq, loop, with_constraints}
 use Rattle.lt_term.specs.Offers.{vanish, nothing, go, Node, leaf_node, pri_node}
 use Rattle.lt_term.specs.declared.table.Table.{Table}
@@ -12,7 +12,7 @@ use Rattle.lt_term.specs.declared.tree.TreeNode.TheVariants.{Vanish, None, Go, P
 
 -- how many expressions a table has
 abbrev pub table_len : Table → ℕ
-table_len t = length t.nodes.items
+table_len t = length t.entries.items
 
 -- how many outputs its expressions may name
 abbrev pub table_outputs : Table → ℕ
@@ -20,7 +20,7 @@ table_outputs t = t.outputs
 
 -- the expressions of a table
 abbrev pub table_expressions : Table → List Expression
-table_expressions t = expressions_of t.nodes.items
+table_expressions t = expressions_of (nodes_of t.entries.items)
 
 -- a term, whose constraints are numbers of a table
 abbrev pub process : Term → Process ℕ

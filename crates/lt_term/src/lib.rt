@@ -19,7 +19,7 @@ mod value;
 pub use memory::Memory;
 pub use scenario::{Scenario, Var};
 pub use solution::first_solution_is_first;
-pub use table::{ExpNode, Table};
+pub use table::{ExpNode, Table, truth_needs_no_more};
 pub use term::Term;
 pub use tree::{Tree, TreeNode, offers};
 pub use value::{Kind, Value};

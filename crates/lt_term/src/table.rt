@@ -1,8 +1,8 @@
 //! Expressions by number.
 
-ghost use Rattle.std.specs.Prelude.{◌≡◌, ℕ, ◌<◌, ◌+◌, ◌++◌, [], ◌∷◌, length, IsTrue, IfOk, OnOk, OnErr};
-ghost use Rattle.lt_term.specs.Expression.{truth_of};
-ghost use Rattle.lt_term.specs.Table.{spelled, expression_at, fits, are_ordered, HasPartsBelow};
+ghost use Rattle.std.specs.Prelude.{◌≡◌, ℕ, ◌<◌, ◌≤◌, ◌+◌, ◌++◌, [], ◌∷◌, length, map, IsTrue, IfOk, OnOk, OnErr};
+ghost use Rattle.lt_term.specs.Expression.{truth_of, outputs_needed, TruthNeedsNoMore};
+ghost use Rattle.lt_term.specs.Table.{spelled, expression_at, expressions_of, fits, are_ordered, nodes_of, needs_of, HasPartsBelow};
 
 use crate::memory::Memory;
 use crate::value::Value;
@@ -33,12 +33,20 @@ pub enum ExpNode {
     Implies(u32, u32),
 }
 
+// A node, and how many outputs, from the first one on, its expression needs.
+#[derive(Clone, Copy, Debug, PartialEq, Eq)]
+struct Entry {
+    node: ExpNode,
+    needs: usize,
+}
+
 /// Expressions by number, from 0. The parts of an expression have smaller numbers than it.
 #[derive(Debug, Drop)]
 pub struct Table {
-    nodes: Vec<ExpNode>,
+    entries: Vec<Entry>,
     outputs: usize,
-    ghost ordered: { IsTrue (are_ordered 0 outputs nodes.items) },
+    ghost ordered: { IsTrue (are_ordered 0 outputs (nodes_of entries.items)) },
+    ghost needed: { needs_of entries.items ≡ map outputs_needed (expressions_of (nodes_of entries.items)) },
 }
 
 impl Table {
@@ -51,7 +59,7 @@ impl Table {
         ensures outputs { table_outputs result ≡ outputs }
     {
         Table {
-            nodes: Vec::new(alloc),
+            entries: Vec::new(alloc),
             outputs,
         }
     }
@@ -60,7 +68,7 @@ impl Table {
     pub fn len(&self) -> usize
         ensures { result ≡ table_len self.now }
     {
-        self.nodes.len()
+        self.entries.len()
     }
 
     /// Adds an expression over those that are there, and answers its number. An error changes nothing;
@@ -78,17 +86,45 @@ impl Table {
         ensures keeps { (k : ℕ) → k < table_len self.old → spelled (table_expressions self.new) k ≡ spelled (table_expressions self.old) k }
         ensures err { OnErr result (table_len self.new ≡ table_len self.old × table_expressions self.new ≡ table_expressions self.old) }
     {
-        let Ok(number) = u32::try_from(self.nodes.len()) else {
+        let Ok(number) = u32::try_from(self.entries.len()) else {
             return Err(Memory);
         };
-        self.nodes.push(node)?;
+        let needs = self.needs_of_node(node);
+        self.entries.push(Entry { node, needs })?;
         Ok(number)
     }
 
-    /// Whether an expression holds in an instant with these outputs.
+    // How many outputs the expression of a node needs.
+    #[tactic(auto, using(crate::proofs::Tables::parts_below))]
+    fn needs_of_node(&self, node: ExpNode) -> usize
+        requires { IsTrue (fits (table_len self.now) (table_outputs self.now) node) }
+        ensures { result ≡ outputs_needed (expression_at (table_expressions self.now) node) }
+    {
+        match node {
+            ExpNode::Flag(_) => 0,
+            ExpNode::Output(output) => output as usize + 1,
+            ExpNode::Not(part) => self.needs(part),
+            ExpNode::And(left, right)
+            | ExpNode::Or(left, right)
+            | ExpNode::Xor(left, right)
+            | ExpNode::Implies(left, right) => self.needs(left).max(self.needs(right)),
+        }
+    }
+
+    /// How many outputs, from the first one on, an expression needs: those up to the last one that it
+    /// names.
+    pub fn needs(&self, number: u32) -> usize
+        requires { number < table_len self.now }
+        ensures { result ≡ outputs_needed (spelled (table_expressions self.now) number) }
+    {
+        self.entries[number as usize].needs
+    }
+
+    /// Whether an expression holds in an instant whose outputs begin with these: at least those that it
+    /// needs.
     pub fn holds(&self, number: u32, outputs: &[Value]) -> bool
         requires known { number < table_len self.now }
-        requires whole { length outputs.now ≡ table_outputs self.now }
+        requires enough { outputs_needed (spelled (table_expressions self.now) number) ≤ length outputs.now }
         ensures { result ≡ truth_of outputs.now (spelled (table_expressions self.now) number) }
     {
         match self.node(number) {
@@ -108,8 +144,15 @@ impl Table {
     fn node(&self, number: u32) -> ExpNode
         requires { number < table_len self.now }
         ensures spells { spelled (table_expressions self.now) number ≡ expression_at (table_expressions self.now) result }
+        ensures needs { outputs_needed (spelled (table_expressions self.now) number) ≡ outputs_needed (expression_at (table_expressions self.now) result) }
         ensures parts { HasPartsBelow number (table_outputs self.now) result }
     {
-        self.nodes[number as usize]
+        self.entries[number as usize].node
     }
 }
+
+/// The truth of an expression depends on the outputs that it needs alone.
+#[tactic(auto, using(crate::proofs::Needs::truth_needs_no_more))]
+pub fn truth_needs_no_more()
+    ensures { TruthNeedsNoMore }
+{}
