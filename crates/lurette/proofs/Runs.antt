@@ -6,7 +6,7 @@ use Rattle.std.proofs.KnownBytes.{Appends-trans, Appends-nil}
 use Rattle.std.specs.declared.option.Option.{Option}
 use Rattle.lt_term.specs.Expression.{Expression}
 use Rattle.lt_term.specs.Process.{Process}
-use Rattle.lt_term.specs.Offers.{Leaf, vanish, go, offers_of}
+use Rattle.lt_term.specs.Offers.{Leaf, vanish, nothing, go, offers_of}
 use Rattle.lt_term.specs.Solution.{first_solution}
 use Rattle.lt_term.specs.Scene.{Scene, Configuration, output_kinds}
 use Rattle.lt_step.specs.Drawn.{drawn_leaf}
@@ -73,6 +73,7 @@ leads_on c n (Some vs) = (refl, refl)
 leads_taken : (s : Scene) (c : Configuration) (l : Option (Leaf Expression)) → Leads c (taken s c l)
 leads_taken s c None = tt
 leads_taken s c (Some vanish) = tt
+leads_taken s c (Some nothing) = tt
 leads_taken s c (Some (go es n)) = leads_on c n (first_solution es (output_kinds s))
 
 -- what is known after a step of this number that answered values
