@@ -1,12 +1,51 @@
-//! A machine with ample memory, which no clause can promise.
+//! Machines with ample memory, which no clause can promise.
 
-ghost use Rattle.std.specs.Prelude.{◌≡◌, IfOk, length};
-ghost use Rattle.lt_term.specs.SceneView.{scene};
+ghost use Rattle.std.specs.Prelude.{◌≡◌, ◌≤◌, ◌+◌, IfOk, IsTrue, length};
+ghost use Rattle.lt_term.specs.Process.{seq, loop, is_within};
+ghost use Rattle.lt_term.specs.View.{process, table_len, table_outputs};
+ghost use Rattle.lt_step.specs.Machine.{IfGoing};
+ghost use Rattle.lt_step.specs.View.{machine_state};
 
 use crate::{Machine, Outcome};
 use lt_term::{ExpNode, Kind, Scenario, Table, Term, Value, Var};
-use std::alloc::Global;
+use std::alloc::{AllocError, Global};
 use std::test::Fail;
+
+const FALSE: Value = Value::Bool(false);
+
+const TRUE: Value = Value::Bool(true);
+
+// The numbers of some expressions over the outputs `a` and `b`.
+const A: u32 = 0;
+
+const B: u32 = 1;
+
+const NOT_A: u32 = 2;
+
+const NEVER: u32 = 3;
+
+const A_AND_B: u32 = 4;
+
+const A_OR_B: u32 = 5;
+
+const A_XOR_B: u32 = 6;
+
+const B_IMPLIES_A: u32 = 7;
+
+fn expressions(alloc: Global) -> Result<Table, Fail>
+    ensures { IfOk result (λ t. (table_outputs t ≡ 2) × (table_len t ≡ 8)) }
+{
+    let mut table = Table::new(alloc, 2);
+    table.push(ExpNode::Output(0))?;
+    table.push(ExpNode::Output(1))?;
+    table.push(ExpNode::Not(A))?;
+    table.push(ExpNode::And(A, NOT_A))?;
+    table.push(ExpNode::And(A, B))?;
+    table.push(ExpNode::Or(A, B))?;
+    table.push(ExpNode::Xor(A, B))?;
+    table.push(ExpNode::Implies(B, A))?;
+    Ok(table)
+}
 
 fn flag(alloc: Global, name: &str) -> Result<Var, Fail> {
     Ok(Var {
@@ -15,36 +54,104 @@ fn flag(alloc: Global, name: &str) -> Result<Var, Fail> {
     })
 }
 
-// Two outputs, of which the second is true in the one instant that there is.
-fn scenario(alloc: Global) -> Result<Scenario, Fail>
-    ensures { IfOk result (λ s. length (scene s).inputs ≡ 0) }
+// A machine for a scenario of two outputs.
+fn machine(alloc: Global, body: Term) -> Result<Machine, Fail>
+    requires { IsTrue (is_within 8 (process body)) }
+    ensures inputs { IfOk result (λ m. length (machine_state m).scene.inputs ≡ 0) }
+    ensures number { IfOk result (λ m. IfGoing (machine_state m).phase (λ c. c.step ≡ 1)) }
 {
-    let mut table = Table::new(alloc, 2);
-    let second = table.push(ExpNode::Output(1))?;
+    let table = expressions(alloc)?;
     let mut outputs = Vec::new(alloc);
     outputs.push(flag(alloc, "a")?)?;
     outputs.push(flag(alloc, "b")?)?;
-    Ok(Scenario {
+    let scenario = Scenario {
         name: String::from_str(alloc, "n")?,
         decimals: 2,
         inputs: Vec::new(alloc),
         outputs,
         exceptions: Vec::new(alloc),
         table,
-        body: Term::Con(second),
-    })
+        body,
+    };
+    Ok(Machine::make(alloc, scenario, 0, 1)?)
+}
+
+fn after(alloc: Global, first: Term, second: Term) -> Result<Term, AllocError>
+    ensures { IfOk result (λ t. process t ≡ seq (process first) (process second)) }
+{
+    Ok(Term::Seq(Box::new(alloc, first)?, Box::new(alloc, second)?))
+}
+
+fn repeated(alloc: Global, body: Term) -> Result<Term, AllocError>
+    ensures { IfOk result (λ t. process t ≡ loop (process body)) }
+{
+    Ok(Term::Loop(Box::new(alloc, body)?))
+}
+
+// Makes the instant of this number.
+fn step(alloc: Global, machine: &mut Machine, number: u64) -> Outcome
+    requires inputs { length (machine_state machine.old).scene.inputs ≡ 0 }
+    requires number { IfGoing (machine_state machine.old).phase (λ c. c.step ≡ number) }
+    requires few { number ≤ 1000 }
+    ensures inputs { length (machine_state machine.new).scene.inputs ≡ 0 }
+    ensures number { IfGoing (machine_state machine.new).phase (λ c. c.step ≡ number + 1) }
+{
+    machine.step(alloc, &[])
 }
 
 #[test]
 fn makes_an_instant(rt: HostRuntime) -> Result<(), Fail> {
     let alloc = rt.alloc();
-    let mut machine = Machine::make(alloc, scenario(alloc)?, 0, 1)?;
+    let mut machine = machine(alloc, Term::Con(A_OR_B))?;
     assert_eq!(rt; machine.output_vars().len(), 2);
     assert_eq!(rt; machine.input_vars().len(), 0);
     assert_eq!(rt; machine.names().len(), 0);
     assert_eq!(rt; machine.decimals(), 2);
-    assert_eq!(rt; machine.step(alloc, &[]), Outcome::Values);
-    let wanted = [Value::Bool(false), Value::Bool(true)];
-    assert_eq!(rt; machine.outputs(), wanted.as_slice());
+    assert_eq!(rt; step(alloc, &mut machine, 1), Outcome::Values);
+    assert_eq!(rt; machine.outputs(), [FALSE, TRUE].as_slice());
+    assert_eq!(rt; step(alloc, &mut machine, 2), Outcome::Normal);
+    Ok(())
+}
+
+// loop { a fby not a } fby b
+#[test]
+fn stays_in_a_loop(rt: HostRuntime) -> Result<(), Fail> {
+    let alloc = rt.alloc();
+    let body = after(alloc, Term::Con(A), Term::Con(NOT_A))?;
+    let body = after(alloc, repeated(alloc, body)?, Term::Con(B))?;
+    let mut machine = machine(alloc, body)?;
+    assert_eq!(rt; step(alloc, &mut machine, 1), Outcome::Values);
+    assert_eq!(rt; machine.outputs(), [TRUE, FALSE].as_slice());
+    assert_eq!(rt; step(alloc, &mut machine, 2), Outcome::Values);
+    assert_eq!(rt; machine.outputs(), [FALSE, FALSE].as_slice());
+    assert_eq!(rt; step(alloc, &mut machine, 3), Outcome::Values);
+    assert_eq!(rt; machine.outputs(), [TRUE, FALSE].as_slice());
+    Ok(())
+}
+
+// loop (a and not a) fby a xor b fby loop (loop eps) fby a and b, and then b => a
+#[test]
+fn leaves_a_loop(rt: HostRuntime) -> Result<(), Fail> {
+    let alloc = rt.alloc();
+    let last = after(alloc, Term::Con(A_AND_B), Term::Con(B_IMPLIES_A))?;
+    let empty = repeated(alloc, repeated(alloc, Term::Eps)?)?;
+    let rest = after(alloc, Term::Con(A_XOR_B), after(alloc, empty, last)?)?;
+    let body = after(alloc, repeated(alloc, Term::Con(NEVER))?, rest)?;
+    let mut machine = machine(alloc, body)?;
+    assert_eq!(rt; step(alloc, &mut machine, 1), Outcome::Values);
+    assert_eq!(rt; machine.outputs(), [FALSE, TRUE].as_slice());
+    assert_eq!(rt; step(alloc, &mut machine, 2), Outcome::Values);
+    assert_eq!(rt; machine.outputs(), [TRUE, TRUE].as_slice());
+    assert_eq!(rt; step(alloc, &mut machine, 3), Outcome::Values);
+    assert_eq!(rt; machine.outputs(), [FALSE, FALSE].as_slice());
+    assert_eq!(rt; step(alloc, &mut machine, 4), Outcome::Normal);
+    Ok(())
+}
+
+#[test]
+fn finds_a_deadlock(rt: HostRuntime) -> Result<(), Fail> {
+    let alloc = rt.alloc();
+    let mut machine = machine(alloc, Term::Con(NEVER))?;
+    assert_eq!(rt; step(alloc, &mut machine, 1), Outcome::Deadlock);
     Ok(())
 }
