@@ -8,8 +8,9 @@ ghost use Rattle.lt_step.specs.Search.{expressions_at, EarlierHold, all_hold_new
 use lt_term::{Kind, Memory, Table, Value, Var};
 
 /// Adds to some outputs the first values of further ones with which all constraints hold. False means
-/// that there are none; the outputs are then as before. A constraint is judged once the last output that
-/// it names has a value, and not again for later ones: those that need fewer outputs than there are hold.
+/// that there are none; the outputs are then as before. A constraint is judged as soon as the last output
+/// that it names has a value, and not again for later ones: those that need fewer outputs than there are
+/// hold when it is called.
 #[cycle(search)]
 #[tactic(auto, using(crate::proofs::Searches::judging))]
 pub fn extend(

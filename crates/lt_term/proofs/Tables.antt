@@ -4,7 +4,7 @@ use Rattle.std.proofs.lemmas.List.{get_or_append_left, get_or-map, length-map, m
 use Rattle.std.proofs.lemmas.Bool.{ltb-true}
 use Rattle.std.proofs.Math.Seq.{get_or-append_seam}
 use Rattle.lt_term.specs.Expression.{Expression, flag, negation, conjunction, disjunction, exclusive_disjunction, implication, outputs_needed}
-use Rattle.lt_term.specs.Table.{spelled, expression_at, extended, expressions_of, fits, are_ordered, nodes_of, needs_of, HasPartsBelow}
+use Rattle.lt_term.specs.Table.{spelled, expression_at, extended, expressions_of, fits, are_ordered, nodes_of, needs_of}
 use Rattle.lt_term.specs.declared.table.Entry.{Entry}
 use Rattle.lt_term.specs.declared.table.ExpNode.{ExpNode}
 use Rattle.lt_term.specs.declared.table.ExpNode.TheVariants.{Flag, Output, Not, And, Or, Xor, Implies}
@@ -108,6 +108,16 @@ spelled-extended outputs es (m ∷ ns) before e h (suc j) c n d at l is =
 two_below : (left right parts : ℕ) → IsTrue (nat_lt left parts && nat_lt right parts) → (left < parts) × (right < parts)
 two_below left right parts h = (ltb-true _ _ (left_of _ _ h), ltb-true _ _ (right_of (nat_lt left parts) _ h))
 
+-- a node's parts are among so many, and its output too
+abbrev pub HasPartsBelow : ℕ → ℕ → ExpNode → Type 0
+HasPartsBelow parts outputs (Flag b) = Unit {0}
+HasPartsBelow parts outputs (Output i) = i < outputs
+HasPartsBelow parts outputs (Not part) = part < parts
+HasPartsBelow parts outputs (And left right) = (left < parts) × (right < parts)
+HasPartsBelow parts outputs (Or left right) = (left < parts) × (right < parts)
+HasPartsBelow parts outputs (Xor left right) = (left < parts) × (right < parts)
+HasPartsBelow parts outputs (Implies left right) = (left < parts) × (right < parts)
+
 pub parts_below : (parts outputs : ℕ) (n : ExpNode) → IsTrue (fits parts outputs n) → HasPartsBelow parts outputs n
 parts_below parts outputs (Flag b) h = tt
 parts_below parts outputs (Output i) h = ltb-true _ _ h
@@ -160,11 +170,10 @@ pub ruleset pushes = (entries-append, entries-ordered, entries-needed, entry-las
 
 -- the expression of a number is that of its entry's node, whose parts have smaller numbers
 pub spelled-at : (outputs : ℕ) (es : List Entry) (c : ℕ) (e : Entry) → IsTrue (are_ordered 0 outputs (nodes_of es)) → c < length es → e ≡ get_or es c e
-    → (spelled (expressions_of (nodes_of es)) c ≡ expression_at (expressions_of (nodes_of es)) e.node) × HasPartsBelow c outputs e.node
+    → (spelled (expressions_of (nodes_of es)) c ≡ expression_at (expressions_of (nodes_of es)) e.node) × IsTrue (fits c outputs e.node)
 spelled-at outputs es c e h l is =
     let node : e.node ≡ get_or (nodes_of es) c e.node = ap (λ (entry : Entry). entry.node) is ∙ sym (get_or-map (λ (entry : Entry). entry.node) es c e e.node l) in
-    let at = spelled-extended outputs [] (nodes_of es) 0 refl h c c e.node e.node (omega arith) (omega (arith, l, length-map es (λ entry. entry.node))) node in
-    (at.0, parts_below c outputs e.node at.1)
+    spelled-extended outputs [] (nodes_of es) 0 refl h c c e.node e.node (omega arith) (omega (arith, l, length-map es (λ entry. entry.node))) node
 
 -- what the expression of a number needs stands in its entry
 pub needs-at : (es : List Entry) (c : ℕ) (e : Entry) → needs_of es ≡ map outputs_needed (expressions_of (nodes_of es)) → c < length es → e ≡ get_or es c e

@@ -1,5 +1,5 @@
 -- The expressions that a table spells.
-use Rattle.std.specs.Prelude.{ℕ, suc, ◌<◌, Bool, true, false, ◌&&◌, nat_lt, List, [], ◌∷◌, ◌++◌, map, slice_index_or}
+use Rattle.std.specs.Prelude.{ℕ, suc, Bool, true, false, ◌&&◌, nat_lt, List, [], ◌∷◌, ◌++◌, map, slice_index_or}
 use Rattle.lt_term.specs.Expression.{Expression, flag, output, negation, conjunction, disjunction, exclusive_disjunction, implication}
 use Rattle.lt_term.specs.declared.table.Entry.{Entry}
 use Rattle.lt_term.specs.declared.table.ExpNode.{ExpNode}
@@ -50,13 +50,3 @@ fits parts outputs (Implies left right) = nat_lt left parts && nat_lt right part
 abbrev pub are_ordered : ℕ → ℕ → List ExpNode → Bool
 are_ordered before outputs [] = true
 are_ordered before outputs (n ∷ ns) = fits before outputs n && are_ordered (suc before) outputs ns
-
--- a node's parts are among so many, and its output too
-abbrev pub HasPartsBelow : ℕ → ℕ → ExpNode → Type 0
-HasPartsBelow parts outputs (Flag b) = Unit {0}
-HasPartsBelow parts outputs (Output i) = i < outputs
-HasPartsBelow parts outputs (Not part) = part < parts
-HasPartsBelow parts outputs (And left right) = (left < parts) × (right < parts)
-HasPartsBelow parts outputs (Or left right) = (left < parts) × (right < parts)
-HasPartsBelow parts outputs (Xor left right) = (left < parts) × (right < parts)
-HasPartsBelow parts outputs (Implies left right) = (left < parts) × (right < parts)

@@ -2,7 +2,7 @@
 
 ghost use Rattle.std.specs.Prelude.{◌≡◌, ℕ, ◌<◌, ◌≤◌, ◌+◌, ◌++◌, [], ◌∷◌, length, map, IsTrue, IfOk, OnOk, OnErr};
 ghost use Rattle.lt_term.specs.Expression.{truth_of, outputs_needed, TruthNeedsNoMore};
-ghost use Rattle.lt_term.specs.Table.{spelled, expression_at, expressions_of, fits, are_ordered, nodes_of, needs_of, HasPartsBelow};
+ghost use Rattle.lt_term.specs.Table.{spelled, expression_at, expressions_of, fits, are_ordered, nodes_of, needs_of};
 
 use crate::memory::Memory;
 use crate::value::Value;
@@ -122,6 +122,7 @@ impl Table {
 
     /// Whether an expression holds in an instant whose outputs begin with these: at least those that it
     /// needs.
+    #[tactic(auto, using(crate::proofs::Tables::parts_below))]
     pub fn holds(&self, number: u32, outputs: &[Value]) -> bool
         requires known { number < table_len self.now }
         requires enough { outputs_needed (spelled (table_expressions self.now) number) ≤ length outputs.now }
@@ -145,7 +146,7 @@ impl Table {
         requires { number < table_len self.now }
         ensures spells { spelled (table_expressions self.now) number ≡ expression_at (table_expressions self.now) result }
         ensures needs { outputs_needed (spelled (table_expressions self.now) number) ≡ outputs_needed (expression_at (table_expressions self.now) result) }
-        ensures parts { HasPartsBelow number (table_outputs self.now) result }
+        ensures parts { IsTrue (fits number (table_outputs self.now) result) }
     {
         self.entries[number as usize].node
     }
