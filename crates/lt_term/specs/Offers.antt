@@ -15,6 +15,7 @@ pub data Leaf (C : Type 0) : Type 0 where
 
 -- what a term offers
 pub data Tree (C : Type 0) : Type 0 where
+  -- one thing to do
   leaf : Leaf C → Tree C
   -- the left tree, or the right one where nothing can be done in the left one
   pri : Tree C → Tree C → Tree C
@@ -41,8 +42,9 @@ followed_by a b = seq a b
 abbrev pub going_on : {C : Type 0} → Process C → List C → Process C → Tree C
 going_on b cs n = leaf (go cs (followed_by n b))
 
--- The tree of a term, a line each. A loop goes through its body once more where the body takes an instant, and
--- else it is over: a body that is over without an instant is none of its choices.
+-- The tree of a term, a line each. A loop goes through its body once more where the body can take an instant,
+-- and else it is over. An end of the body that takes no instant is nothing to the loop: so a body that does no
+-- more isn't repeated for ever.
 abbrev pub offers_of : {C : Type 0} → Process C → Tree C
 offers_of eps = leaf vanish
 offers_of (con c) = leaf (go (c ∷ []) eps)
@@ -53,7 +55,9 @@ offers_of (loop t) = pri (with_leaves (going_on (loop t)) (leaf nothing) (offers
 
 -- a node of a tree
 pub data Node (C : Type 0) : Type 0 where
+  -- a leaf
   leaf_node : Leaf C → Node C
+  -- a choice between two trees, which stand behind it
   pri_node : Node C
 
 -- the nodes of a tree in preorder: each node before those below it, and the left ones before the right ones
