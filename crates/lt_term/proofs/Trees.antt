@@ -24,11 +24,34 @@ flattened-with_leaves b v (pri s t) =
     ∙ sym (flat_map-append (grafted (on b) (flattened v)) (flattened s) (flattened t)))
 
 -- the nodes of a sequence
-pub flattened-seq : (a b : Process ℕ) → flattened (offers_of (seq a b)) ≡ flat_map (grafted (λ cs n. flattened (going_on b cs n)) (flattened (offers_of b))) (flattened (offers_of a))
+flattened-seq : (a b : Process ℕ) → flattened (offers_of (seq a b)) ≡ flat_map (grafted (λ cs n. flattened (going_on b cs n)) (flattened (offers_of b))) (flattened (offers_of a))
 flattened-seq a b = flattened-with_leaves b (offers_of b) (offers_of a)
 
+-- a sequence's nodes, put out where the first part's nodes don't end in vanish
+pub seq_over : (whole a b : Process ℕ) (old new inner front : List (Node ℕ)) → whole ≡ seq a b → inner ≡ flattened (offers_of a) → inner ≡ front ++ []
+    → new ≡ old ++ flat_map (grafted (λ cs n. flattened (going_on b cs n)) (flattened (offers_of b))) front → new ≡ old ++ flattened (offers_of whole)
+seq_over whole a b old new inner front w i f e =
+    e
+    ∙ ap (λ ns. old ++ flat_map (grafted (on b) (flattened (offers_of b))) ns) (sym (append-nil front) ∙ sym f ∙ i)
+    ∙ ap (λ ns. old ++ ns) (sym (flattened-seq a b))
+    ∙ ap (λ p. old ++ flattened (offers_of p)) (sym w)
+
+-- a sequence's nodes, put out up to those of the second part, which come in place of a last vanish
+pub seq_goes_on : (whole a b : Process ℕ) (old new inner front : List (Node ℕ)) → whole ≡ seq a b → inner ≡ flattened (offers_of a) → inner ≡ front ++ leaf_node vanish ∷ []
+    → new ≡ old ++ flat_map (grafted (λ cs n. flattened (going_on b cs n)) (flattened (offers_of b))) front
+    → new ++ flattened (offers_of b) ≡ old ++ flattened (offers_of whole)
+seq_goes_on whole a b old new inner front w i f e =
+    let put : List (Node ℕ) → List (Node ℕ) = flat_map (grafted (on b) (flattened (offers_of b))) in
+    ap (λ ns. ns ++ flattened (offers_of b)) e
+    ∙ append_assoc old (put front) (flattened (offers_of b))
+    ∙ ap (λ ns. old ++ (put front ++ ns)) (sym (append-nil (flattened (offers_of b))))
+    ∙ ap (λ ns. old ++ ns) (sym (flat_map-append (grafted (on b) (flattened (offers_of b))) front (leaf_node vanish ∷ [])))
+    ∙ ap (λ ns. old ++ put ns) (sym f ∙ i)
+    ∙ ap (λ ns. old ++ ns) (sym (flattened-seq a b))
+    ∙ ap (λ p. old ++ flattened (offers_of p)) (sym w)
+
 -- the nodes of a loop
-pub flattened-loop : (t : Process ℕ) → flattened (offers_of (loop t)) ≡ pri_node ∷ (flat_map (grafted (λ cs n. flattened (going_on (loop t) cs n)) (leaf_node nothing ∷ [])) (flattened (offers_of t)) ++ (leaf_node vanish ∷ []))
+flattened-loop : (t : Process ℕ) → flattened (offers_of (loop t)) ≡ pri_node ∷ (flat_map (grafted (λ cs n. flattened (going_on (loop t) cs n)) (leaf_node nothing ∷ [])) (flattened (offers_of t)) ++ (leaf_node vanish ∷ []))
 flattened-loop t = ap (λ ns. pri_node ∷ (ns ++ (leaf_node vanish ∷ []))) (flattened-with_leaves (loop t) (leaf nothing) (offers_of t))
 
 between : (old ns : List (Node ℕ)) (first last : Node ℕ) → ((old ++ first ∷ []) ++ ns) ++ last ∷ [] ≡ old ++ (first ∷ (ns ++ last ∷ []))
@@ -132,4 +155,4 @@ flattened-within n (pri a b) h =
 pub nodes-within : (n : ℕ) (p : Process ℕ) → IsTrue (is_within n p) → IsTrue (list_all (node_is_within n) (flattened (offers_of p)))
 nodes-within n p h = flattened-within n (offers_of p) (offers_of-within n p h)
 
-pub ruleset nodes = (flattened-seq, flattened-loop, nodes-natural, nodes-within)
+pub ruleset nodes = (nodes-natural, nodes-within)

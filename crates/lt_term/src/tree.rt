@@ -1,10 +1,11 @@
 //! What a term offers in one instant.
 
-ghost use Rattle.std.specs.Prelude.{◌≡◌, ℕ, ◌++◌, [], ◌∷◌, map, IfOk, OnOk, IsTrue};
+ghost use Rattle.std.specs.Prelude.{◌≡◌, ℕ, ◌<◌, ◌++◌, [], ◌∷◌, if◌then◌else◌, map, IfOk, OnOk, IfSome, IsNone, IsTrue};
 ghost use Rattle.std.specs.List.{list_all, flat_map};
 ghost use Rattle.lt_term.specs.Expression.{Expression};
 ghost use Rattle.lt_term.specs.Process.{with_constraints, is_within};
-ghost use Rattle.lt_term.specs.Offers.{node_with_constraints, node_is_within, followed_by, going_on, offers_of, flattened, grafted, leaf_node, nothing};
+ghost use Rattle.lt_term.specs.Offers.{node_with_constraints, node_is_within, followed_by, going_on, offers_of, flattened, grafted, leaf_node, vanish, nothing};
+ghost use Rattle.lt_term.specs.declared.term.Term.{size-Term};
 ghost use Rattle.lt_term.specs.View.{process, tree_node, tree_nodes};
 
 use crate::memory::Memory;
@@ -51,45 +52,92 @@ pub fn offers(alloc: Global, term: &Term) -> Result<Tree, Memory>
     Ok(Tree { nodes })
 }
 
-// Puts the nodes of a term at the end of a list.
-#[tactic(auto, using(crate::proofs::Trees::nodes))]
+// Puts the nodes of a term at the end of a list. A sequence hangs on its second part, which a loop goes
+// down: its length takes no stack.
+#[cycle(emit)]
 fn emit(alloc: Global, out: &mut Vec<TreeNode>, term: &Term) -> Result<(), AllocError>
     ensures { OnOk result (tree_nodes out.new.items ≡ tree_nodes out.old.items ++ flattened (offers_of (process term.now))) }
 {
+    let mut rest = term;
+    while let Some(second) = emit_first(alloc, out, rest)? {
+        rest = second;
+    }
+    Ok(())
+}
+
+// Puts the nodes of a term at the end of a list, but for those of a sequence's second part where they
+// come last: it then answers that part.
+#[cycle(emit)]
+fn emit_first<'a>(
+    alloc: Global,
+    out: &mut Vec<TreeNode>,
+    term: &'a Term,
+) -> Result<Option<&'a Term>, AllocError>
+    ensures whole { IfOk result (λ rest. IsNone rest → tree_nodes out.new.items ≡ tree_nodes out.old.items ++ flattened (offers_of (process term.now))) }
+    ensures part { IfOk result (λ rest. IfSome rest (λ second. tree_nodes out.new.items ++ flattened (offers_of (process second.now)) ≡ tree_nodes out.old.items ++ flattened (offers_of (process term.now)))) }
+    ensures smaller { IfOk result (λ rest. IfSome rest (λ second. size-Term second.now < size-Term term.now)) }
+{
     match term {
-        Term::Eps => put(out, TreeNode::Vanish),
+        Term::Eps => {
+            put(out, TreeNode::Vanish)?;
+            Ok(None)
+        }
         Term::Con(constraint) => {
             let constraints = vec![in alloc; *constraint]?;
-            put(
-                out,
-                TreeNode::Go {
-                    constraints,
-                    next: Term::Eps,
-                },
-            )
+            let next = Term::Eps;
+            put(out, TreeNode::Go { constraints, next })?;
+            Ok(None)
         }
         Term::Seq(first, second) => {
             let mut nodes = Vec::new(alloc);
             emit(alloc, &mut nodes, first)?;
-            for node in nodes {
-                match node {
-                    TreeNode::Vanish => emit(alloc, out, second)?,
-                    TreeNode::Go { constraints, next } => {
-                        put_instant(alloc, out, constraints, next, second)?
-                    }
-                    other => put(out, other)?,
-                }
-            }
-            Ok(())
+            let goes_on = take_last_vanish(&mut nodes);
+            put_sequence(alloc, out, nodes, second)?;
+            if goes_on { Ok(Some(second)) } else { Ok(None) }
         }
         Term::Loop(body) => {
             let mut nodes = Vec::new(alloc);
             emit(alloc, &mut nodes, body)?;
             put(out, TreeNode::Pri)?;
             put_iteration(alloc, out, nodes, term)?;
-            put(out, TreeNode::Vanish)
+            put(out, TreeNode::Vanish)?;
+            Ok(None)
         }
     }
+}
+
+// The nodes of a first part for a sequence: those of the second part where the first is over, and else
+// the second behind what is left of the first.
+#[cycle(emit)]
+fn put_sequence(
+    alloc: Global,
+    out: &mut Vec<TreeNode>,
+    nodes: Vec<TreeNode>,
+    second: &Term,
+) -> Result<(), AllocError>
+    ensures { OnOk result (tree_nodes out.new.items ≡ tree_nodes out.old.items ++ flat_map (grafted (λ cs n. flattened (going_on (process second.now) cs n)) (flattened (offers_of (process second.now)))) (tree_nodes nodes.items)) }
+{
+    for node in nodes {
+        match node {
+            TreeNode::Vanish => emit(alloc, out, second)?,
+            TreeNode::Go { constraints, next } => {
+                put_instant(alloc, out, constraints, next, second)?
+            }
+            other => put(out, other)?,
+        }
+    }
+    Ok(())
+}
+
+// Takes the last node away where it is an end of the term, and says whether it was.
+fn take_last_vanish(nodes: &mut Vec<TreeNode>) -> bool
+    ensures { tree_nodes nodes.old.items ≡ tree_nodes nodes.new.items ++ (if result then leaf_node vanish ∷ [] else []) }
+{
+    let is_vanish = matches!(nodes.last(), Some(TreeNode::Vanish));
+    if is_vanish {
+        nodes.pop();
+    }
+    is_vanish
 }
 
 // The nodes of a loop's body for one iteration: nothing where the body is over without an instant, and
@@ -133,9 +181,9 @@ fn sequence(alloc: Global, first: Term, second: &Term) -> Result<Term, AllocErro
     ensures { IfOk result (λ t. process t ≡ followed_by (process first) (process second.now)) }
 {
     let second = second.clone()?;
-    match first {
+    match &first {
         Term::Eps => Ok(second),
-        first => Ok(Term::Seq(Box::new(alloc, first)?, Box::new(alloc, second)?)),
+        _ => Ok(Term::Seq(Box::new(alloc, first)?, Box::new(alloc, second)?)),
     }
 }
 
