@@ -122,21 +122,47 @@ impl Table {
 
     /// Whether an expression holds in an instant whose outputs begin with these: at least those that it
     /// needs.
+    ///
+    /// A chain of operators hangs on its left side, which the loop goes down: its length takes no stack.
     #[tactic(auto, using(crate::proofs::Tables::parts_below))]
     pub fn holds(&self, number: u32, outputs: &[Value]) -> bool
         requires known { number < table_len self.now }
         requires enough { outputs_needed (spelled (table_expressions self.now) number) ≤ length outputs.now }
         ensures { result ≡ truth_of outputs.now (spelled (table_expressions self.now) number) }
     {
-        match self.node(number) {
-            ExpNode::Flag(flag) => flag,
-            ExpNode::Output(output) => outputs[output as usize].is_true(),
-            ExpNode::Not(part) => !self.holds(part, outputs),
-            ExpNode::And(left, right) => self.holds(left, outputs) && self.holds(right, outputs),
-            ExpNode::Or(left, right) => self.holds(left, outputs) || self.holds(right, outputs),
-            ExpNode::Xor(left, right) => self.holds(left, outputs) != self.holds(right, outputs),
-            ExpNode::Implies(left, right) => {
-                !self.holds(left, outputs) || self.holds(right, outputs)
+        let mut left = number;
+        let mut turned = false;
+        loop {
+            match self.node(left) {
+                ExpNode::Flag(flag) => return flag != turned,
+                ExpNode::Output(output) => return outputs[output as usize].is_true() != turned,
+                ExpNode::Not(part) => {
+                    turned = !turned;
+                    left = part;
+                }
+                ExpNode::And(first, second) => {
+                    if !self.holds(second, outputs) {
+                        return turned;
+                    }
+                    left = first;
+                }
+                ExpNode::Or(first, second) => {
+                    if self.holds(second, outputs) {
+                        return !turned;
+                    }
+                    left = first;
+                }
+                ExpNode::Xor(first, second) => {
+                    turned = self.holds(second, outputs) != turned;
+                    left = first;
+                }
+                ExpNode::Implies(first, second) => {
+                    if self.holds(second, outputs) {
+                        return !turned;
+                    }
+                    turned = !turned;
+                    left = first;
+                }
             }
         }
     }
