@@ -1,8 +1,6 @@
 pub mod Calls
-pub mod FirstToken
 pub mod Limits
-pub mod Nodes
 pub mod Numbers
-pub mod Parts
+pub mod Prepared
 pub mod Runs
 pub mod Texts

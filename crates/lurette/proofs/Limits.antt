@@ -4,8 +4,7 @@ use Rattle.std.proofs.lemmas.Bool.{and_parts, and_from, ne_eqb, not_from_false, 
 use Rattle.std.proofs.lemmas.Str.Parse.{IsNumeralModel, numerals_by_fold}
 use Rattle.std.proofs.lemmas.Fmt.{decimal_digit, first_decimal, digits_decimal, digits_value-decimal, decimal-digits_value}
 use Rattle.std.specs.List.{list_all}
-use Rattle.lurette.specs.Form.{is_digit}
-use Rattle.lurette.specs.Words.{value_behind, up_to_million, is_plain, limit_of, LimitsArePrinted}
+use Rattle.lurette.specs.Words.{is_digit, value_behind, up_to_million, is_plain, limit_of, LimitsArePrinted}
 
 -- the tests and the value of digits are those of std's lemmas on printed numbers
 own : IsNumeralModel (λ ds. list_all is_digit ds ≡ true) (value_behind 0)

@@ -3,9 +3,12 @@ use Rattle.std.specs.Prelude.{◌≡◌, ℕ, ◌<◌, ◌≤◌, ◌⊎◌, Lis
 use Rattle.std.specs.Io.KnownBytes.{Keeps, Appends}
 use Rattle.std.specs.declared.option.Option.{Option}
 use Rattle.lt_io.specs.Causes.{Rose, WhereTold}
-use Rattle.lurette.specs.Writing.{AppendsFront}
-use Rattle.lurette.specs.Node.{NodeTree}
-use Rattle.lurette.specs.Form.{Spells}
+use Rattle.lt_ast.specs.Syntax.{Declaration}
+use Rattle.lt_ast.specs.Printed.{printed}
+use Rattle.lt_parser.specs.Text.{IsProgramOf, IsRefusal}
+use Rattle.lt_parser.specs.declared.refusal.ParseRefusal.{ParseRefusal}
+use Rattle.lurette.specs.Writing.{AppendsFront, AppendsPart}
+use Rattle.lurette.specs.Form.{IsRunnable}
 use Rattle.lurette.specs.Words.{Request}
 use Rattle.lurette.specs.Prepared.{scene_of}
 use Rattle.lurette.specs.Play.{Play, EndsWell, play_of, trace_pieces, joined, trace_text}
@@ -15,6 +18,8 @@ use Rattle.lurette.specs.declared.status.Status.{Status}
 use Rattle.lurette.specs.declared.status.Status.TheVariants as status
 use Rattle.lurette.specs.declared.status.Refusal.TheVariants as refusal
 use Rattle.lurette.specs.declared.status.Device.TheVariants as device
+use Rattle.lurette.specs.declared.words.Mode.{Mode}
+use Rattle.lurette.specs.declared.words.Mode.TheVariants as mode
 
 -- told bytes grew by the first k texts whole, and by a front of the next one but not by all of it
 abbrev pub IsCutAt : ℕ → List (List ℕ) → Option (List ℕ) → Option (List ℕ) → Type 0
@@ -36,24 +41,63 @@ Shows play old new (status.Device device.File at) = ⊥
 Shows play old new (status.Refused reason) = ⊥
 Shows play old new (status.Usage kind) = ⊥
 
--- this holds of the run of the scenario that the text spells
-abbrev pub OfText : List ℕ → ℕ → (Play → Type 0) → Type 0
-OfText text limit P = (node : NodeTree) × Spells text node × P (play_of (scene_of node) (record { seed = 0; limit = limit }))
+-- The mode `run`.
+
+-- the program can be run, and this holds of the run of its scene
+abbrev pub OfRun : List Declaration → ℕ → (Play → Type 0) → Type 0
+OfRun program limit P = IsRunnable program × P (play_of (scene_of program) (record { seed = 0; limit = limit }))
+
+-- What a program and what was written to the trace tell of a status of `run`.
+abbrev pub RunTells : List Declaration → ℕ → Option (List ℕ) → Option (List ℕ) → Status → Type 0
+-- the program can't be run, and nothing was written
+RunTells program limit old new (status.Refused refusal.NotBuilt) = (IsRunnable program → ⊥) × Keeps old new
+-- memory ran out before the run, and nothing was written, or in it
+RunTells program limit old new status.Memory = Keeps old new ⊎ OfRun program limit (λ play. Shows play old new status.Memory)
+-- the program was run
+RunTells program limit old new status.Ended = OfRun program limit (λ play. Shows play old new status.Ended)
+RunTells program limit old new (status.Deadlock at) = OfRun program limit (λ play. Shows play old new (status.Deadlock at))
+RunTells program limit old new (status.Device device.Trace at) = OfRun program limit (λ play. Shows play old new (status.Device device.Trace at))
+-- nothing else happens
+RunTells program limit old new (status.Device device.File at) = ⊥
+RunTells program limit old new (status.Refused refusal.TooLong) = ⊥
+RunTells program limit old new (status.Refused (refusal.Text reason)) = ⊥
+RunTells program limit old new (status.Usage kind) = ⊥
+
+-- The mode `print`.
+
+-- What a program and what was written to the trace tell of a status of `print`.
+abbrev pub PrintTells : List Declaration → Option (List ℕ) → Option (List ℕ) → Status → Type 0
+-- the program was printed
+PrintTells program old new status.Ended = Appends old new (printed program)
+-- a write failed, and a front of the printed program was written, but not all of it
+PrintTells program old new (status.Device device.Trace at) = (at ≡ 0) × AppendsPart old new (printed program)
+-- memory ran out, and nothing was written
+PrintTells program old new status.Memory = Keeps old new
+-- nothing else happens
+PrintTells program old new (status.Device device.File at) = ⊥
+PrintTells program old new (status.Deadlock at) = ⊥
+PrintTells program old new (status.Refused reason) = ⊥
+PrintTells program old new (status.Usage kind) = ⊥
+
+-- Both modes.
+
+-- what a program and what was written to the trace tell of a status, by the mode
+abbrev pub ProgramTells : Mode → List Declaration → ℕ → Option (List ℕ) → Option (List ℕ) → Status → Type 0
+ProgramTells mode.Run program limit old new s = RunTells program limit old new s
+ProgramTells mode.Print program limit old new s = PrintTells program old new s
+
+-- this holds of the program that the text spells
+abbrev pub OfText : List ℕ → (List Declaration → Type 0) → Type 0
+OfText text P = (program : List Declaration) × IsProgramOf text program × P program
 
 -- What a text and what was written to the trace tell of a status.
-abbrev pub TextTells : List ℕ → ℕ → Option (List ℕ) → Option (List ℕ) → Status → Type 0
--- the text spells no scenario, and nothing was written
-TextTells text limit old new (status.Refused refusal.NotBuilt) = ((node : NodeTree) → Spells text node → ⊥) × Keeps old new
--- memory ran out before the run, and nothing was written, or in it
-TextTells text limit old new status.Memory = Keeps old new ⊎ OfText text limit (λ play. Shows play old new status.Memory)
--- the text was run
-TextTells text limit old new status.Ended = OfText text limit (λ play. Shows play old new status.Ended)
-TextTells text limit old new (status.Deadlock at) = OfText text limit (λ play. Shows play old new (status.Deadlock at))
-TextTells text limit old new (status.Device device.Trace at) = OfText text limit (λ play. Shows play old new (status.Device device.Trace at))
--- nothing else happens
-TextTells text limit old new (status.Device device.File at) = ⊥
-TextTells text limit old new (status.Refused refusal.TooLong) = ⊥
-TextTells text limit old new (status.Usage kind) = ⊥
+abbrev pub TextTells : Mode → List ℕ → ℕ → Option (List ℕ) → Option (List ℕ) → Status → Type 0
+-- the text spells no program, for this reason, and nothing was written
+TextTells m text limit old new (status.Refused (refusal.Text reason)) = IsRefusal text reason × Keeps old new
+-- memory ran out before the program was read, and nothing was written, or after that
+TextTells m text limit old new status.Memory = Keeps old new ⊎ OfText text (λ program. ProgramTells m program limit old new status.Memory)
+-- else the text spells a program
+TextTells m text limit old new s = OfText text (λ program. ProgramTells m program limit old new s)
 
 -- this holds of the text that was read: the file's contents where they are told, and no longer than allowed
 abbrev pub OfFile : Option (List ℕ) → (List ℕ → Type 0) → Type 0
@@ -66,14 +110,11 @@ Tells request contents old new (status.Device device.File at) = (at ≡ 0) × Ke
 -- the file is too long, and nothing was written
 Tells request contents old new (status.Refused refusal.TooLong) = WhereTold contents (λ bytes. LONGEST < length bytes) × Keeps old new
 -- memory ran out before the file was read, and nothing was written, or after that
-Tells request contents old new status.Memory = Keeps old new ⊎ OfFile contents (λ text. TextTells text request.limit old new status.Memory)
--- else the file was read
-Tells request contents old new (status.Refused refusal.NotBuilt) = OfFile contents (λ text. TextTells text request.limit old new (status.Refused refusal.NotBuilt))
-Tells request contents old new status.Ended = OfFile contents (λ text. TextTells text request.limit old new status.Ended)
-Tells request contents old new (status.Deadlock at) = OfFile contents (λ text. TextTells text request.limit old new (status.Deadlock at))
-Tells request contents old new (status.Device device.Trace at) = OfFile contents (λ text. TextTells text request.limit old new (status.Device device.Trace at))
+Tells request contents old new status.Memory = Keeps old new ⊎ OfFile contents (λ text. TextTells request.mode text request.limit old new status.Memory)
 -- the words were right
 Tells request contents old new (status.Usage kind) = ⊥
+-- else the file was read
+Tells request contents old new s = OfFile contents (λ text. TextTells request.mode text request.limit old new s)
 
 -- The trace's count of faults rose exactly where the trace is blamed.
 abbrev pub CountsTrace : Status → ℕ → ℕ → Type 0
@@ -103,3 +144,18 @@ SameCallSameBytes =
     (request : Request) (contents old new old' new' : List ℕ) (s s' : Status) →
     Tells request (Some contents) (Some old) (Some new) s → Tells request (Some contents) (Some old') (Some new') s' → IsWhole s → IsWhole s' →
     (bytes : List ℕ) × (new ≡ old ++ bytes) × (new' ≡ old' ++ bytes)
+
+-- the file could not be read, or memory ran out
+abbrev pub IsCutEarly : Status → Type 0
+IsCutEarly (status.Device device.File at) = Unit {0}
+IsCutEarly status.Memory = Unit {0}
+IsCutEarly _ = ⊥
+
+-- What is to be refused is refused so, unless the file could not be read or memory ran out: contents that are too
+-- long, a text that has a refusal, and, in the mode run, a program that can't be run.
+abbrev pub RefusalsAreExact : Type 0
+RefusalsAreExact =
+    (request : Request) (contents : List ℕ) (old new : Option (List ℕ)) (s : Status) → Tells request (Some contents) old new s →
+    (LONGEST < length contents → (s ≡ status.Refused refusal.TooLong) ⊎ IsCutEarly s)
+    × ((reason : ParseRefusal) → length contents ≤ LONGEST → IsRefusal contents reason → (s ≡ status.Refused (refusal.Text reason)) ⊎ IsCutEarly s)
+    × ((program : List Declaration) → length contents ≤ LONGEST → request.mode ≡ mode.Run → IsProgramOf contents program → (IsRunnable program → ⊥) → (s ≡ status.Refused refusal.NotBuilt) ⊎ IsCutEarly s)

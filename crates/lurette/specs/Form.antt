@@ -1,147 +1,130 @@
--- The texts that are run: one node with one Boolean output, and its reactions one after another.
-use Rattle.std.specs.Prelude.{ℕ, ◌+◌, ◌<◌, ◌≤◌, ◌≡◌, Bool, true, false, not, ◌&&◌, ◌||◌, ◌==◌, nat_le, IsTrue, List, [], ◌∷◌, ◌++◌, length, codes, Result, Ok, Err}
-use Rattle.std.specs.List.{list_all, list_any}
+-- The programs that run so far: one node without inputs, whose outputs are Booleans.
+use Rattle.std.specs.Prelude.{ℕ, Bool, true, false, not, ◌&&◌, nat_le, IsTrue, List, [], ◌∷◌, None, Some, length, map}
+use Rattle.std.specs.List.{list_any}
 use Rattle.std.specs.Str.{bytes_eq}
-use Rattle.lurette.specs.declared.node.NodeDecl.{NodeDecl}
-use Rattle.lurette.specs.NodeView.{node_tree}
-use Rattle.lurette.specs.Node.{ExprTree, flag, named, negated, NodeTree}
-use Rattle.lurette.specs.declared.form.FormRefusal.{FormRefusal}
-use Rattle.lurette.specs.declared.form.FormRefusal.TheVariants.{NotOfForm, Memory}
+use Rattle.lt_ast.specs.Syntax as s
+use Rattle.lt_ast.specs.Syntax.{Word, Exp, Braces, Trace, Traces, Grouping, Groupings, Declaration}
+use Rattle.lt_ast.specs.declared.group.TypeName.TheVariants as type
+use Rattle.lt_ast.specs.declared.expr.UnOp.{UnOp}
+use Rattle.lt_ast.specs.declared.expr.UnOp.TheVariants as un
+use Rattle.lt_ast.specs.declared.expr.BinOp.{BinOp}
+use Rattle.lt_ast.specs.declared.expr.BinOp.TheVariants as bin
 
--- Bytes.
+-- Names.
 
--- a tab, a line feed, a carriage return or a space
-abbrev pub is_blank : ℕ → Bool
-is_blank b = b == 9 || b == 10 || b == 13 || b == 32
+-- the bytes of names
+abbrev pub texts : List Word → List (List ℕ)
+texts words = map (λ w. w.text) words
 
--- an ASCII letter
-abbrev pub is_letter : ℕ → Bool
-is_letter b = (nat_le 65 b && nat_le b 90) || (nat_le 97 b && nat_le b 122)
+-- whether a name is among these
+abbrev pub is_among : List (List ℕ) → List ℕ → Bool
+is_among names name = list_any (bytes_eq name) names
 
--- a decimal digit
-abbrev pub is_digit : ℕ → Bool
-is_digit b = nat_le 48 b && nat_le b 57
+-- whether no two are alike
+abbrev pub are_distinct : List (List ℕ) → Bool
+are_distinct [] = true
+are_distinct (name ∷ names) = not (is_among names name) && are_distinct names
 
--- a letter, a digit or an underscore
-abbrev pub is_word_byte : ℕ → Bool
-is_word_byte b = is_letter b || is_digit b || b == 95
+-- Expressions.
 
--- ( ) : =
-abbrev pub is_sign : ℕ → Bool
-is_sign b = b == 40 || b == 41 || b == 58 || b == 61
+-- not
+abbrev pub is_negation : UnOp → Bool
+is_negation un.Not = true
+is_negation un.Neg = false
 
--- Tokens.
+-- and, or, xor, =>
+abbrev pub is_connective : BinOp → Bool
+is_connective bin.And = true
+is_connective bin.Or = true
+is_connective bin.Xor = true
+is_connective bin.Implies = true
+is_connective bin.Add = false
+is_connective bin.Sub = false
+is_connective bin.Mul = false
+is_connective bin.Div = false
+is_connective bin.DivWord = false
+is_connective bin.Mod = false
+is_connective bin.Eq = false
+is_connective bin.Ne = false
+is_connective bin.Lt = false
+is_connective bin.Le = false
+is_connective bin.Gt = false
+is_connective bin.Ge = false
 
--- a token
-pub data Token : Type 0 where
-  -- a word, by its bytes
-  word : List ℕ → Token
-  -- a sign of one byte
-  sign : ℕ → Token
+-- an expression over the outputs of these names
+abbrev pub runs_as_expression : List (List ℕ) → Exp → Bool
+runs_as_expression outputs (s.flag b at) = true
+runs_as_expression outputs (s.named name) = is_among outputs name.text
+runs_as_expression outputs (s.paren e at) = runs_as_expression outputs e
+runs_as_expression outputs (s.unary op e at) = is_negation op && runs_as_expression outputs e
+runs_as_expression outputs (s.binary op d e at) = is_connective op && runs_as_expression outputs d && runs_as_expression outputs e
+runs_as_expression outputs (s.number n) = false
+runs_as_expression outputs (s.called name list) = false
+runs_as_expression outputs (s.pre name at) = false
+runs_as_expression outputs (s.choose c d e at) = false
 
--- a letter, and then letters, digits and underscores
-abbrev pub is_word : List ℕ → Bool
-is_word [] = false
-is_word (b ∷ bs) = is_letter b && list_all is_word_byte bs
+-- Traces.
 
--- the bytes are those of such a token
-abbrev pub IsToken : Token → Type 0
-IsToken (word w) = IsTrue (is_word w)
-IsToken (sign s) = IsTrue (is_sign s)
+abbrev mutual
+  -- a trace over the outputs of these names
+  pub runs_as_trace : List (List ℕ) → Trace → Bool
+  runs_as_trace outputs (s.value e) = runs_as_expression outputs e
+  runs_as_trace outputs (s.sequence ts) = run_as_traces outputs ts
+  runs_as_trace outputs (s.braces inside at) = runs_in_braces outputs inside
+  runs_as_trace outputs (s.loop s.forever t) = runs_as_trace outputs t
+  runs_as_trace outputs (s.loop (s.between low high) t) = false
+  runs_as_trace outputs (s.loop (s.around average deviation) t) = false
+  runs_as_trace outputs (s.raise name) = false
+  runs_as_trace outputs (s.assert e t) = false
+  runs_as_trace outputs (s.exist variables t) = false
+  runs_as_trace outputs (s.define declared t) = false
+  runs_as_trace outputs (s.exceptions names t) = false
+  runs_as_trace outputs (s.catch name t otherwise) = false
+  runs_as_trace outputs (s.trap name t otherwise) = false
+  runs_as_trace outputs (s.try t otherwise) = false
 
--- the bytes of a token
-abbrev pub spelling : Token → List ℕ
-spelling (word w) = w
-spelling (sign s) = s ∷ []
+  -- one trace in braces, without a sign
+  pub runs_in_braces : List (List ℕ) → Braces → Bool
+  runs_in_braces outputs (s.plain t) = runs_as_trace outputs t
+  runs_in_braces outputs (s.choice leads parts) = false
+  runs_in_braces outputs (s.priority leads parts) = false
+  runs_in_braces outputs (s.parallel leads parts) = false
 
--- no longer token stands here: a word goes on to the first byte that no word has
-abbrev pub EndsBefore : Token → List ℕ → Type 0
-EndsBefore (word w) [] = Unit {0}
-EndsBefore (word w) (b ∷ bs) = IsTrue (not (is_word_byte b))
-EndsBefore (sign s) rest = Unit {0}
+  -- each one of these traces
+  pub run_as_traces : List (List ℕ) → Traces → Bool
+  run_as_traces outputs s.no_traces = true
+  run_as_traces outputs (s.one_trace t ts) = runs_as_trace outputs t && run_as_traces outputs ts
 
--- the bytes are blanks and these tokens in turn, each as long as it can be
-abbrev pub Divides : List ℕ → List Token → Type 0
-Divides bytes [] = IsTrue (list_all is_blank bytes)
-Divides bytes (t ∷ ts) =
-    (blanks : List ℕ) × (rest : List ℕ) × IsTrue (list_all is_blank blanks) × (bytes ≡ blanks ++ spelling t ++ rest)
-    × IsToken t × EndsBefore t rest × Divides rest ts
+-- Programs.
 
--- The tokens of a node.
+-- no inputs
+abbrev pub are_none : Groupings → Bool
+are_none s.no_groups = true
+are_none (s.one_group g gs) = false
 
--- an expression
-abbrev pub expr_tokens : ExprTree → List Token
-expr_tokens (flag true) = word (codes "true") ∷ []
-expr_tokens (flag false) = word (codes "false") ∷ []
-expr_tokens (named name) = word name ∷ []
-expr_tokens (negated e) = word (codes "not") ∷ expr_tokens e
+-- from one to eight distinct names
+abbrev pub are_outputs : List (List ℕ) → Bool
+are_outputs names = nat_le 1 (length names) && nat_le (length names) 8 && are_distinct names
 
--- further parts, each behind the word fby
-abbrev pub further_tokens : List ExprTree → List Token
-further_tokens [] = []
-further_tokens (e ∷ es) = word (codes "fby") ∷ expr_tokens e ++ further_tokens es
+-- a group of outputs: of type bool, without ref, range and first value
+abbrev pub is_output_group : Grouping → Bool
+is_output_group (s.grouping names type.Bool false None s.no_exp) = are_outputs (texts names)
+is_output_group _ = false
 
--- parts with the word fby between two of them
-abbrev pub part_tokens : List ExprTree → List Token
-part_tokens [] = []
-part_tokens (e ∷ es) = expr_tokens e ++ further_tokens es
+-- the names of a group
+abbrev pub group_names : Grouping → List (List ℕ)
+group_names (s.grouping names kind by_ref range first) = texts names
 
--- node NAME ( ) returns ( NAME : bool ) = part { fby part }
-abbrev pub tokens_of : NodeTree → List Token
-tokens_of n =
-    word (codes "node") ∷ word n.name ∷ sign 40 ∷ sign 41 ∷ word (codes "returns") ∷ sign 40
-    ∷ word n.output ∷ sign 58 ∷ word (codes "bool") ∷ sign 41 ∷ sign 61 ∷ part_tokens n.parts
+-- one group of outputs, and a trace over them
+abbrev pub runs_with : Groupings → Trace → Bool
+runs_with (s.one_group g s.no_groups) t = is_output_group g && runs_as_trace (group_names g) t
+runs_with _ t = false
 
--- The form.
+-- one node without inputs, with one group of outputs, and a trace over them
+abbrev pub is_runnable : List Declaration → Bool
+is_runnable (s.node name inputs outputs t ∷ []) = are_none inputs && runs_with outputs t
+is_runnable _ = false
 
--- the words that are no names
-abbrev pub keywords : List (List ℕ)
-keywords =
-    codes "node" ∷ codes "returns" ∷ codes "let" ∷ codes "in" ∷ codes "exist" ∷ codes "bool" ∷ codes "int" ∷ codes "real"
-    ∷ codes "trace" ∷ codes "ref" ∷ codes "fby" ∷ codes "loop" ∷ codes "assert" ∷ codes "raise" ∷ codes "catch" ∷ codes "do"
-    ∷ codes "trap" ∷ codes "try" ∷ codes "exception" ∷ codes "pre" ∷ codes "not" ∷ codes "and" ∷ codes "or" ∷ codes "xor"
-    ∷ codes "if" ∷ codes "then" ∷ codes "else" ∷ codes "div" ∷ codes "mod" ∷ codes "true" ∷ codes "false" ∷ codes "run" ∷ []
-
--- a word that is no keyword
-abbrev pub is_name : List ℕ → Bool
-is_name w = is_word w && not (list_any (bytes_eq w) keywords)
-
--- how often an expression says not
-abbrev pub count_nots : ExprTree → ℕ
-count_nots (flag b) = 0
-count_nots (named name) = 0
-count_nots (negated e) = count_nots e + 1
-
--- true, false or the output, under some not
-abbrev pub SpeaksOf : List ℕ → ExprTree → Type 0
-SpeaksOf output (flag b) = Unit {0}
-SpeaksOf output (named name) = name ≡ output
-SpeaksOf output (negated e) = SpeaksOf output e
-
--- such an expression, with at most 200 times not
-abbrev pub IsPart : List ℕ → ExprTree → Type 0
-IsPart output e = (count_nots e ≤ 200) × SpeaksOf output e
-
--- every one of them is a part
-abbrev pub AreParts : List ℕ → List ExprTree → Type 0
-AreParts output [] = Unit {0}
-AreParts output (e ∷ es) = IsPart output e × AreParts output es
-
--- a node that can be run
-pub record IsRunnable (n : NodeTree) : Type 0 where
-  pub name : IsTrue (is_name n.name)
-  pub output : IsTrue (is_name n.output)
-  pub some : 0 < length n.parts
-  pub few : length n.parts ≤ 200
-  pub parts : AreParts n.output n.parts
-
--- the text is the tokens of this node, which can be run
-pub record Spells (text : List ℕ) (n : NodeTree) : Type 0 where
-  pub runnable : IsRunnable n
-  pub tokens : Divides text (tokens_of n)
-
--- The answer is this node, unless memory ran out.
-abbrev pub ReadsAs : NodeTree → Result NodeDecl FormRefusal → Type 0
-ReadsAs n (Ok d) = node_tree d ≡ n
-ReadsAs n (Err NotOfForm) = ⊥
-ReadsAs n (Err Memory) = Unit {0}
+-- A program that runs.
+abbrev pub IsRunnable : List Declaration → Type 0
+IsRunnable program = IsTrue (is_runnable program)

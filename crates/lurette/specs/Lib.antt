@@ -1,9 +1,7 @@
-pub mod Node
-pub mod NodeView
 pub mod Form
-pub mod Reading
 pub mod Words
 pub mod Prepared
+pub mod Preparing
 pub mod TraceText
 pub mod Play
 pub mod Lines

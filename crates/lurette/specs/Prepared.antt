@@ -1,41 +1,86 @@
--- The scenario that a node says.
-use Rattle.std.specs.Prelude.{◌≡◌, ℕ, ◌<◌, ◌≤◌, List, [], ◌∷◌, map}
-use Rattle.lurette.specs.Node.{ExprTree, flag, named, negated, NodeTree}
-use Rattle.lt_term.specs.Expression as expression
-use Rattle.lt_term.specs.Expression.{Expression}
-use Rattle.lt_term.specs.Process.{Process, eps, con, seq}
-use Rattle.lt_term.specs.Scene.{Scene}
-use Rattle.lt_term.specs.Table.{spelled}
-use Rattle.lt_term.specs.View.{table_len, table_expressions}
-use Rattle.lt_term.specs.declared.table.Table.{Table}
+-- The scene of a program that runs.
+use Rattle.std.specs.Prelude.{◌≡◌, ℕ, suc, ◌<◌, ◌≤◌, Bool, true, false, IsTrue, List, [], ◌∷◌, map, if◌then◌else◌}
+use Rattle.std.specs.Str.{bytes_eq}
+use Rattle.lt_ast.specs.Syntax as s
+use Rattle.lt_ast.specs.Syntax.{Exp, Braces, Trace, Traces, Groupings, Declaration}
+use Rattle.lt_ast.specs.declared.expr.BinOp.{BinOp}
+use Rattle.lt_ast.specs.declared.expr.BinOp.TheVariants as bin
+use Rattle.lt_term.specs.Expression.{Expression, flag, output, negation, conjunction, disjunction, exclusive_disjunction, implication}
+use Rattle.lt_term.specs.Process.{Process, eps, con, seq, loop}
+use Rattle.lt_term.specs.Scene.{Scene, Variable}
 use Rattle.lt_term.specs.declared.value.Kind.TheVariants as kind
+use Rattle.lurette.specs.Form.{group_names}
 
--- an expression, in which each name is the one output's
-abbrev pub expression_of : ExprTree → Expression
-expression_of (flag b) = expression.flag b
-expression_of (named name) = expression.output 0
-expression_of (negated e) = expression.negation (expression_of e)
+-- What isn't part of a program that runs has a meaning here too, which nothing asks for.
 
--- one instant for each constraint, in turn
-abbrev pub in_turn : List Expression → Process Expression
+-- the place of a name among these, from 0
+abbrev pub place_of : List (List ℕ) → List ℕ → ℕ
+place_of [] name = 0
+place_of (first ∷ names) name = if bytes_eq name first then 0 else suc (place_of names name)
+
+-- two expressions and their sign
+abbrev pub connected : BinOp → Expression → Expression → Expression
+connected bin.And d e = conjunction d e
+connected bin.Or d e = disjunction d e
+connected bin.Xor d e = exclusive_disjunction d e
+connected bin.Implies d e = implication d e
+connected _ d e = flag false
+
+-- an expression, in which each output stands by its place
+abbrev pub expression_of : List (List ℕ) → Exp → Expression
+expression_of outputs (s.flag b at) = flag b
+expression_of outputs (s.named name) = output (place_of outputs name.text)
+expression_of outputs (s.paren e at) = expression_of outputs e
+expression_of outputs (s.unary op e at) = negation (expression_of outputs e)
+expression_of outputs (s.binary op d e at) = connected op (expression_of outputs d) (expression_of outputs e)
+expression_of outputs _ = flag false
+
+-- one process after another, to the right
+abbrev pub in_turn : {C : Type 0} → List (Process C) → Process C
 in_turn [] = eps
-in_turn (e ∷ []) = con e
-in_turn (e ∷ f ∷ es) = seq (con e) (in_turn (f ∷ es))
+in_turn (p ∷ []) = p
+in_turn (p ∷ q ∷ ps) = seq p (in_turn (q ∷ ps))
 
--- the scenario of a node
-abbrev pub scene_of : NodeTree → Scene
-scene_of n = record {
-  name = n.name;
+abbrev mutual
+  -- a trace: an expression is an instant, fby one after another, braces are what stands in them
+  pub process_of : List (List ℕ) → Trace → Process Expression
+  process_of outputs (s.value e) = con (expression_of outputs e)
+  process_of outputs (s.sequence ts) = in_turn (processes_of outputs ts)
+  process_of outputs (s.braces inside at) = process_in outputs inside
+  process_of outputs (s.loop limits t) = loop (process_of outputs t)
+  process_of outputs _ = eps
+
+  -- what stands in braces
+  pub process_in : List (List ℕ) → Braces → Process Expression
+  process_in outputs (s.plain t) = process_of outputs t
+  process_in outputs _ = eps
+
+  -- each one of these traces
+  pub processes_of : List (List ℕ) → Traces → List (Process Expression)
+  processes_of outputs s.no_traces = []
+  processes_of outputs (s.one_trace t ts) = process_of outputs t ∷ processes_of outputs ts
+
+-- a Boolean output of this name
+abbrev pub output_variable : List ℕ → Variable
+output_variable name = record { name = name; kind = kind.Bool }
+
+-- the scene of a node of this name, with these outputs, that does this
+abbrev pub scene_with : List ℕ → List (List ℕ) → Process Expression → Scene
+scene_with name outputs body = record {
+  name = name;
   decimals = 2;
   inputs = [];
-  outputs = record { name = n.output; kind = kind.Bool } ∷ [];
+  outputs = map output_variable outputs;
   exceptions = [];
-  body = in_turn (map expression_of n.parts);
+  body = body;
 }
 
--- The code's table.
+-- the names of the first group
+abbrev pub first_names : Groupings → List (List ℕ)
+first_names s.no_groups = []
+first_names (s.one_group g gs) = group_names g
 
--- the numbers that there were keep their expressions
-pub record Extends (old new : Table) : Type 0 where
-  pub longer : table_len old ≤ table_len new
-  pub same : (k : ℕ) → k < table_len old → spelled (table_expressions new) k ≡ spelled (table_expressions old) k
+-- the scene of a program: that of its first node
+abbrev pub scene_of : List Declaration → Scene
+scene_of (s.node name inputs outputs t ∷ declarations) = scene_with name.text (first_names outputs) (process_of (first_names outputs) t)
+scene_of _ = scene_with [] [] eps

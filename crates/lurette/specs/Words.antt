@@ -4,16 +4,22 @@ use Rattle.std.specs.List.{list_all}
 use Rattle.std.specs.Str.{bytes_eq}
 use Rattle.std.specs.declared.option.Option.{Option}
 use Rattle.std.specs.declared.result.Result.{Result}
-use Rattle.lurette.specs.Form.{is_digit}
 use Rattle.lurette.specs.declared.status.UsageKind.{UsageKind}
-use Rattle.lurette.specs.declared.status.UsageKind.TheVariants.{Words, Mode}
+use Rattle.lurette.specs.declared.status.UsageKind.TheVariants as usage
+use Rattle.lurette.specs.declared.words.Mode.{Mode}
+use Rattle.lurette.specs.declared.words.Mode.TheVariants.{Run, Print}
 
 -- what the words ask for
 pub record Request : Type 0 where
+  pub mode : Mode
   -- the name of the scenario's file
   pub file : List ℕ
   -- the most steps
   pub limit : ℕ
+
+-- a decimal digit
+abbrev pub is_digit : ℕ → Bool
+is_digit b = nat_le 48 b && nat_le b 57
 
 -- the number that digits write behind those of n
 abbrev pub value_behind : ℕ → List ℕ → ℕ
@@ -45,13 +51,18 @@ limit_in (option ∷ word ∷ []) = if bytes_eq option (codes "-l") then limit_o
 limit_in (option ∷ []) = None
 limit_in (option ∷ word ∷ other ∷ others) = None
 
+-- the mode that a word is
+abbrev pub mode_of : List ℕ → Option Mode
+mode_of word = if bytes_eq word (codes "run") then Some Run else if bytes_eq word (codes "print") then Some Print else None
+
 -- the request, where the other words are right and there is such a mode; else what is wrong
-abbrev pub in_mode : List ℕ → List ℕ → Option ℕ → Result Request UsageKind
-in_mode mode file None = Err Words
-in_mode mode file (Some limit) = if bytes_eq mode (codes "run") then Ok (record { file = file; limit = limit }) else Err Mode
+abbrev pub in_mode : Option Mode → List ℕ → Option ℕ → Result Request UsageKind
+in_mode mode file None = Err usage.Words
+in_mode None file (Some limit) = Err usage.Mode
+in_mode (Some mode) file (Some limit) = Ok (record { mode = mode; file = file; limit = limit })
 
 -- what the words ask for, or what is wrong with them
 abbrev pub requested : List (List ℕ) → Result Request UsageKind
-requested [] = Err Words
-requested (mode ∷ []) = Err Words
-requested (mode ∷ file ∷ options) = in_mode mode file (limit_in options)
+requested [] = Err usage.Words
+requested (mode ∷ []) = Err usage.Words
+requested (mode ∷ file ∷ options) = in_mode (mode_of mode) file (limit_in options)

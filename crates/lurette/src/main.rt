@@ -1,20 +1,16 @@
 //! A tester for reactive controllers.
 //!
 //! The scenario of a run plays the controller's environment. The program reads it, draws one reaction
-//! after another, and writes the trace of the run. `top` has the one call that does all this, over any
-//! files and sinks; `main` hands it those of the system.
+//! after another, and writes the trace of the run; or it prints the scenario. `top` has the one call that
+//! does all this, over any files and sinks; `main` hands it those of the system.
 #![tactic(auto)]
 
 mod ending;
-mod form;
-mod keywords;
-mod node;
 mod prepare;
 mod put;
 mod run;
 mod say;
 mod status;
-mod tokens;
 mod top;
 mod trace_text;
 mod words;

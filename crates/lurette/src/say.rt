@@ -3,12 +3,14 @@
 ghost use Rattle.std.specs.Prelude.{◌≡◌, OnOk};
 ghost use Rattle.std.specs.Io.KnownBytes.{Appends};
 ghost use Rattle.lt_io.specs.Causes.{HasCause};
-ghost use Rattle.lurette.specs.Lines.{status_lines, usage_word, refusal_word, device_word};
+ghost use Rattle.lurette.specs.Lines.{status_lines, usage_word, refusal_word, refusal_place, device_word};
 
 use crate::put::put_all;
 use crate::status::{Device, Refusal, Status, UsageKind};
 use itoa::Buffer;
 use lt_io::{Failed, Sink};
+use lt_lexer::LexRefusal;
+use lt_parser::ParseRefusal;
 
 // How the program is called.
 const USAGE: &[u8] =
@@ -26,10 +28,7 @@ pub fn say<M: Sink>(says: &mut M, status: Status) -> Result<(), Failed>
             says,
             &[b"lurette: usage: ", usage_name(kind), b"\n", USAGE, b"\n"],
         ),
-        Status::Refused(reason) => put_all(
-            says,
-            &[b"lurette: refused ", refusal_name(reason), b"\n"],
-        ),
+        Status::Refused(reason) => say_refusal(says, reason),
         Status::Deadlock { instant } => put_all(
             says,
             &[
@@ -61,12 +60,54 @@ fn usage_name(kind: UsageKind) -> &'static [u8]
     }
 }
 
+// Says why a file is refused, and where, if that is a place in its text.
+fn say_refusal<M: Sink>(says: &mut M, reason: Refusal) -> Result<(), Failed>
+    ensures all { OnOk result (Appends (M.written says.old) (M.written says.new) (status_lines (Status.Refused reason))) }
+    ensures cause { HasCause (M.faults says.old) (M.faults says.new) result }
+{
+    let name = refusal_name(reason);
+    match place_in_text(reason) {
+        None => put_all(says, &[b"lurette: refused ", name, b"\n"]),
+        Some(place) => {
+            let mut digits = Buffer::new();
+            let place = digits.format(place).as_bytes();
+            put_all(says, &[b"lurette: refused ", name, b" at ", place, b"\n"])
+        }
+    }
+}
+
 fn refusal_name(reason: Refusal) -> &'static [u8]
     ensures { result.now ≡ refusal_word reason }
 {
     match reason {
         Refusal::TooLong => b"file.TooLong",
+        Refusal::Text(ParseRefusal::Lex(LexRefusal::BadByte(_))) => b"lex.BadByte",
+        Refusal::Text(ParseRefusal::Lex(LexRefusal::OpenComment(_))) => b"lex.OpenComment",
+        Refusal::Text(ParseRefusal::Lex(LexRefusal::NumberTooLong(_))) => b"lex.NumberTooLong",
+        Refusal::Text(ParseRefusal::Unexpected(_)) => b"parse.Unexpected",
+        Refusal::Text(ParseRefusal::TooDeep(_)) => b"parse.TooDeep",
+        Refusal::Text(ParseRefusal::Lex(LexRefusal::Memory) | ParseRefusal::Memory) => b"memory",
         Refusal::NotBuilt => b"early.NotBuilt",
+    }
+}
+
+fn place_in_text(reason: Refusal) -> Option<usize>
+    ensures { result ≡ refusal_place reason }
+{
+    match reason {
+        Refusal::Text(
+            ParseRefusal::Lex(
+                LexRefusal::BadByte(place)
+                | LexRefusal::OpenComment(place)
+                | LexRefusal::NumberTooLong(place),
+            ),
+        ) => Some(place),
+        Refusal::Text(ParseRefusal::Unexpected(place) | ParseRefusal::TooDeep(place)) => {
+            Some(place)
+        }
+        Refusal::Text(ParseRefusal::Lex(LexRefusal::Memory) | ParseRefusal::Memory)
+        | Refusal::TooLong
+        | Refusal::NotBuilt => None,
     }
 }
 

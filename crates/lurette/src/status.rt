@@ -3,10 +3,12 @@
 ghost use Rattle.std.specs.Prelude.{◌≡◌};
 ghost use Rattle.lurette.specs.Lines.{status_code};
 
+use lt_parser::ParseRefusal;
+
 /// How a call of the program ended, with all that its line on standard error says.
 #[derive(Clone, Copy, Debug, PartialEq, Eq)]
 pub enum Status {
-    /// The run ended by itself or at its limit of steps.
+    /// The run ended by itself or at its limit of steps, or the program was printed.
     Ended,
 
     /// The words of the call are wrong.
@@ -26,8 +28,8 @@ pub enum Status {
         /// What failed.
         device: Device,
 
-        /// For the trace, the number of the text that wasn't written whole: 0 for the header, and then 1
-        /// more than the number of steps that were. For the file, 0.
+        /// For the trace of a run, the number of the text that wasn't written whole: 0 for the header, and
+        /// then 1 more than the number of steps that were. For a printed program and for the file, 0.
         text: u64,
     },
 
@@ -51,7 +53,10 @@ pub enum Refusal {
     /// It is longer than [`LONGEST`](crate::top::LONGEST).
     TooLong,
 
-    /// Its text is none that can be run.
+    /// Its text spells no program.
+    Text(ParseRefusal),
+
+    /// Its program is none that can be run.
     NotBuilt,
 }
 

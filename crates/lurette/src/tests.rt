@@ -11,6 +11,10 @@ const TOGGLE: &str = "node n() returns (b: bool) = b fby not b";
 
 const HEADER: &str = "#seed 0\n#inputs \"b\":bool\n#outputs\n";
 
+const TWO_OUTPUTS: &str = "#seed 0\n#inputs \"a\":bool \"b\":bool\n#outputs\n";
+
+const THREE_OUTPUTS: &str = "#seed 0\n#inputs \"a\":bool \"b\":bool \"c\":bool\n#outputs\n";
+
 const USAGE: &str =
     "lurette MODE FILE [-l N] [--seed N] [--precision N] [--budget N] [--node NAME] [--sut CMD] [--oracle CMD] [--replay FILE] [--locals]\n";
 
@@ -80,24 +84,43 @@ fn check(rt: &impl Abort, call: &Called, code: u8, trace: &[u8], says: &str) {
     assert_eq!(rt; call.says.written(), says.as_bytes());
 }
 
-// A run: the scenario, the words' limit, and what is written behind the header and said.
+// A run: the scenario, the words' limit, what is written, and what is said.
 #[derive(Clone, Copy)]
 struct Run<'a> {
     text: &'a str,
     limit: &'a str,
+    header: &'a str,
     trace: &'a str,
     code: u8,
     says: &'a str,
 }
 
-// A run of the toggle that says nothing.
-fn toggled<'a>(limit: &'a str, trace: &'a str) -> Run<'a> {
+// A run that says nothing.
+fn ended<'a>(text: &'a str, limit: &'a str, header: &'a str, trace: &'a str) -> Run<'a> {
     Run {
-        text: TOGGLE,
+        text,
         limit,
+        header,
         trace,
         code: 0,
         says: "",
+    }
+}
+
+// A run of the toggle.
+fn toggled<'a>(limit: &'a str, trace: &'a str) -> Run<'a> {
+    ended(TOGGLE, limit, HEADER, trace)
+}
+
+// A run of one output that is stuck.
+fn stuck<'a>(text: &'a str, trace: &'a str, says: &'a str) -> Run<'a> {
+    Run {
+        text,
+        limit: "1000000",
+        header: HEADER,
+        trace,
+        code: 4,
+        says,
     }
 }
 
@@ -111,26 +134,71 @@ fn a_run_is_written_to_its_end_or_limit(rt: HostRuntime) -> Result<(), Fail> {
         toggled("2", "#step 1\nt #outs\n#step 2\nf #outs\n#end limit 2\n"),
         toggled("1", "#step 1\nt #outs\n#end limit 1\n"),
         toggled("0", "#end limit 0\n"),
-        Run {
-            text: "node n() returns (b: bool) = false",
-            limit: "1000000",
-            trace: "#end deadlock 1\n",
-            code: 4,
-            says: "lurette: deadlock 1\n",
-        },
-        Run {
-            text: "node n() returns (b: bool) = true fby false fby b",
-            limit: "9",
-            trace: "#step 1\nf #outs\n#end deadlock 2\n",
-            code: 4,
-            says: "lurette: deadlock 2\n",
-        },
+        stuck(
+            "node n() returns (b: bool) = false",
+            "#end deadlock 1\n",
+            "lurette: deadlock 1\n",
+        ),
+        stuck(
+            "node n() returns (b: bool) = b and not b",
+            "#end deadlock 1\n",
+            "lurette: deadlock 1\n",
+        ),
+        stuck(
+            "node n() returns (b: bool) = true fby false fby b",
+            "#step 1\nf #outs\n#end deadlock 2\n",
+            "lurette: deadlock 2\n",
+        ),
+        ended(
+            "node n() returns (a, b: bool) = a or b",
+            "9",
+            TWO_OUTPUTS,
+            "#step 1\nf t #outs\n#end normal 1\n",
+        ),
+        // A loop whose body can't begin is passed over.
+        ended(
+            "node n() returns (b: bool) = loop false fby { b } -- once",
+            "9",
+            HEADER,
+            "#step 1\nt #outs\n#end normal 1\n",
+        ),
+        ended(
+            "node n() returns (a, b, c: bool) = loop { (a xor b) and (b => c) fby a }",
+            "4",
+            THREE_OUTPUTS,
+            "#step 1\nf t t #outs\n#step 2\nt f f #outs\n#step 3\nf t t #outs\n#step 4\nt f f #outs\n#end limit 4\n",
+        ),
     ];
     for run in runs {
         let words = ["run", "f", "-l", run.limit];
         let call = call_of(alloc, &words, &Outside::sound(run.text.as_bytes()))?;
-        let trace = format!(in alloc; "{HEADER}{}", run.trace)?;
+        let trace = format!(in alloc; "{}{}", run.header, run.trace)?;
         check(&rt, &call, run.code, trace.as_bytes(), run.says);
+        assert_eq!(rt; call.asked, 1);
+    }
+    Ok(())
+}
+
+#[test]
+fn a_program_is_printed(rt: HostRuntime) -> Result<(), Fail> {
+    let text = "exception e, f
+let m(x, y: int; z: bool ref; u: trace): bool = x < y and z = true
+let t(u: trace): trace = try u do raise e (* anew *)
+node n(p: real [-1.5; 2]; q: bool = false) returns (a, b: bool; i: int [0;9] = 3) =
+    exist k: int [0;5] = 1 in let s: bool = pre q in exception g in
+    catch e in {|2: a|b} fby {|>a|>not b} do
+    trap g in loop [1,3] {&>a&>b} do
+    try assert i - -1 * 2 / 3 + 4 >= 5 in
+    loop ~2:(1) m(1, i mod 2, q, {t({a})}) or s xor a => (if a then b else i div 2 <> 7)";
+    let printed = "exception e , f
+let m ( x , y : int ; z : bool ref ; u : trace ) : bool = x < y and z = true
+let t ( u : trace ) : trace = try u do raise e
+node n ( p : real [ - 1.5 ; 2 ] ; q : bool = false ) returns ( a , b : bool ; i : int [ 0 ; 9 ] = 3 ) = exist k : int [ 0 ; 5 ] = 1 in let s : bool = pre q in exception g in catch e in { | 2 : a | b } fby { |> a |> not b } do trap g in loop [ 1 , 3 ] { &> a &> b } do try assert i - - 1 * 2 / 3 + 4 >= 5 in loop ~ 2 : ( 1 ) m ( 1 , i mod 2 , q , { t ( { a } ) } ) or s xor a => ( if a then b else i div 2 <> 7 )
+";
+    let words: [&[&str]; 2] = [&["print", "f"], &["print", "f", "-l", "0"]];
+    for words in words {
+        let call = call_of(rt.alloc(), words, &Outside::sound(text.as_bytes()))?;
+        check(&rt, &call, 0, printed.as_bytes(), "");
         assert_eq!(rt; call.asked, 1);
     }
     Ok(())
@@ -139,20 +207,21 @@ fn a_run_is_written_to_its_end_or_limit(rt: HostRuntime) -> Result<(), Fail> {
 #[test]
 fn words_are_refused(rt: HostRuntime) -> Result<(), Fail> {
     let alloc = rt.alloc();
-    let usages: [(&[&str], &str); 13] = [
+    let usages: [(&[&str], &str); 14] = [
         (&[], "words"),
         (&["walk"], "words"),
+        (&["print"], "words"),
         (&["--help"], "words"),
         (&["walk", "f"], "mode"),
         (&["run", "f", "-l"], "words"),
         (&["walk", "f", "-l"], "words"),
-        (&["run", "f", "-l", "+5"], "words"),
+        (&["print", "f", "-l", "+5"], "words"),
         (&["run", "f", "-l", "007"], "words"),
         (&["run", "f", "-l", ""], "words"),
         (&["run", "f", "-l", "1000001"], "words"),
         (&["run", "f", "-l", "5", "-l", "5"], "words"),
         (&["run", "f", "--seed", "5"], "words"),
-        (&["print", "f"], "mode"),
+        (&["prints", "f"], "mode"),
     ];
     for (words, kind) in usages {
         let call = call_of(alloc, words, &Outside::sound(TOGGLE.as_bytes()))?;
@@ -164,21 +233,78 @@ fn words_are_refused(rt: HostRuntime) -> Result<(), Fail> {
 }
 
 #[test]
+fn texts_are_refused_with_their_places(rt: HostRuntime) -> Result<(), Fail> {
+    let alloc = rt.alloc();
+    let mut deep = String::from_str(alloc, "node n() returns (b: bool) = ")?;
+    for _ in 0..201 {
+        deep.push_str("(")?;
+    }
+    let refusals = [
+        ("node n() (*", "lex.OpenComment at 9"),
+        ("node n() returns (b: bool) = b & b", "lex.BadByte at 31"),
+        ("let 1234567890123456789", "lex.NumberTooLong at 4"),
+        ("node n() returns (b: bool) = run", "parse.Unexpected at 29"),
+        ("node n()", "parse.Unexpected at 8"),
+        (deep.as_str(), "parse.TooDeep at 229"),
+    ];
+    for (text, refusal) in refusals {
+        for mode in ["run", "print"] {
+            let call = call_of(alloc, &[mode, "f"], &Outside::sound(text.as_bytes()))?;
+            let says = format!(in alloc; "lurette: refused {refusal}\n")?;
+            check(&rt, &call, 3, b"", &says);
+            assert_eq!(rt; call.asked, 1);
+        }
+    }
+    Ok(())
+}
+
+#[test]
+fn programs_that_cannot_run_are_refused_and_printed(rt: HostRuntime) -> Result<(), Fail> {
+    let texts = [
+        "",
+        "exception e",
+        "node n() returns (b: bool) = b exception e",
+        "node n(y: int) returns (x: int [0;3]) = loop x = 1",
+        "node n() returns () = true",
+        "node n() returns (b, b: bool) = b",
+        "node n() returns (a, b, c, d, e, f, g, h, i: bool) = a",
+        "node n() returns (a: bool; b: bool) = a",
+        "node n() returns (b: bool ref) = b",
+        "node n() returns (b: bool = true) = b",
+        "node n() returns (b: bool) = loop [0,1] b",
+        "node n() returns (b: bool) = { b |> not b }",
+        "node n() returns (b: bool) = b()",
+        "node n() returns (b: bool) = pre b",
+        "node n() returns (b: bool) = b and c",
+        "node n() returns (b: bool) = b = true",
+    ];
+    for text in texts {
+        let run = call_of(rt.alloc(), &["run", "f"], &Outside::sound(text.as_bytes()))?;
+        check(&rt, &run, 3, b"", "lurette: refused early.NotBuilt\n");
+        let print = call_of(
+            rt.alloc(),
+            &["print", "f"],
+            &Outside::sound(text.as_bytes()),
+        )?;
+        assert_eq!(rt; print.status.code(), 0);
+    }
+    Ok(())
+}
+
+#[test]
 fn files_are_refused(rt: HostRuntime) -> Result<(), Fail> {
     let alloc = rt.alloc();
-    let other = Outside::sound(b"node n(y: int) returns (x: int [0;3]) = loop x = 1");
-    let call = call_of(alloc, &["run", "f"], &other)?;
-    check(&rt, &call, 3, b"", "lurette: refused early.NotBuilt\n");
-    assert_eq!(rt; call.asked, 1);
     let toggle = Outside::sound(TOGGLE.as_bytes());
     let failing = Outside {
         failing_reads: &[0],
         ..toggle
     };
-    for (name, outside) in [("g", toggle), ("f", failing)] {
-        let call = call_of(alloc, &["run", name], &outside)?;
-        check(&rt, &call, 9, b"", "lurette: device file 0\n");
-        assert_eq!(rt; call.asked, 1);
+    for mode in ["run", "print"] {
+        for (name, outside) in [("g", toggle), ("f", failing)] {
+            let call = call_of(alloc, &[mode, name], &outside)?;
+            check(&rt, &call, 9, b"", "lurette: device file 0\n");
+            assert_eq!(rt; call.asked, 1);
+        }
     }
     Ok(())
 }
@@ -235,6 +361,24 @@ fn each_write_may_fail(rt: HostRuntime) -> Result<(), Fail> {
         let says = format!(in rt.alloc(); "lurette: device trace {failing}\n")?;
         assert_eq!(rt; call.status.code(), 9);
         assert_eq!(rt; call.says.written(), says.as_bytes());
+    }
+    Ok(())
+}
+
+#[test]
+fn a_write_that_fails_cuts_the_printed_program(rt: HostRuntime) -> Result<(), Fail> {
+    let printed = "node n ( ) returns ( b : bool ) = b fby not b\n".as_bytes();
+    for room in 0..=printed.len() {
+        let outside = Outside {
+            room,
+            ..Outside::sound(TOGGLE.as_bytes())
+        };
+        let call = call_of(rt.alloc(), &["print", "f"], &outside)?;
+        if room == printed.len() {
+            check(&rt, &call, 0, printed, "");
+        } else {
+            check(&rt, &call, 9, &printed[..room], "lurette: device trace 0\n");
+        }
     }
     Ok(())
 }

@@ -2,18 +2,21 @@
 
 ghost use Rattle.std.specs.Prelude.{◌≡◌, ◌≢◌, ◌↔◌, ◌≤◌, ◌⊎◌, ℕ, Err, IfOk, OnErr, map, string_bytes};
 ghost use Rattle.std.specs.Io.KnownBytes.{Appends, Keeps};
+ghost use Rattle.lt_ast.specs.View.{program as declarations};
 ghost use Rattle.lt_io.specs.Causes.{Rose};
 ghost use Rattle.lurette.specs.Lines.{status_lines};
 ghost use Rattle.lurette.specs.Words.{requested};
-ghost use Rattle.lurette.specs.Call.{Tells, TextTells, CountsFile, CountsTrace, AsksFor, SameCallSameBytes};
+ghost use Rattle.lurette.specs.Call.{Tells, TextTells, RunTells, PrintTells, CountsFile, CountsTrace, AsksFor, SameCallSameBytes, RefusalsAreExact};
 
-use crate::form::{FormRefusal, read_node};
-use crate::prepare::scenario_of;
+use crate::prepare::{Unprepared, scenario_of};
+use crate::put::put;
 use crate::run::{SEED, run};
 use crate::say::say;
 use crate::status::{Device, Refusal, Status, UsageKind};
-use crate::words::requested;
+use crate::words::{Mode, requested};
+use lt_ast::{Program, print};
 use lt_io::{FileRefusal, Files, Sink};
+use lt_parser::{ParseRefusal, parse};
 use lt_step::Machine;
 use std::alloc::Global;
 
@@ -24,8 +27,8 @@ pub const LONGEST: usize = 1_048_576;
 const BUDGET: u64 = 10_000_000;
 
 /// Does what the words behind the program's name ask for: `run FILE [-l N]` reads the scenario FILE, runs
-/// it for at most N steps, 100 where none is given, and writes the trace. What went wrong is said in a
-/// line.
+/// it for at most N steps, 100 where none is given, and writes the trace; `print FILE` writes the program
+/// that FILE spells as text. What went wrong is said in a line.
 pub fn lurette<F: Files, S: Sink, M: Sink>(
     alloc: Global,
     words: &[String],
@@ -51,29 +54,37 @@ pub fn lurette<F: Files, S: Sink, M: Sink>(
     ensures says { Rose (M.faults says.old) (M.faults says.new) ⊎ Appends (M.written says.old) (M.written says.new) (status_lines result) }
 {
     let status = match requested(words) {
-        Ok(request) => serve(alloc, request.file, request.limit, files, trace),
+        Ok(request) => serve(
+            alloc,
+            request.mode,
+            request.file,
+            request.limit,
+            files,
+            trace,
+        ),
         Err(kind) => Status::Usage(kind),
     };
     let _ = say(says, status);
     status
 }
 
-// Reads and runs a scenario.
+// Does what is asked for with the scenario's file.
 fn serve<F: Files, S: Sink>(
     alloc: Global,
+    mode: Mode,
     file: &str,
     limit: u64,
     files: &mut F,
     trace: &mut S,
 ) -> Status
     requires { limit ≤ 1000000 }
-    ensures tells { Tells (record { file = file.now; limit = limit }) (F.contents files.old file.now) (S.written trace.old) (S.written trace.new) result }
-    ensures asks { AsksFor (record { file = file.now; limit = limit }) (F.asked files.old) (F.asked files.new) result }
+    ensures tells { Tells (record { mode = mode; file = file.now; limit = limit }) (F.contents files.old file.now) (S.written trace.old) (S.written trace.new) result }
+    ensures asks { AsksFor (record { mode = mode; file = file.now; limit = limit }) (F.asked files.old) (F.asked files.new) result }
     ensures file { CountsFile result (F.faults files.old) (F.faults files.new) }
     ensures trace { CountsTrace result (S.faults trace.old) (S.faults trace.new) }
 {
     match files.read(alloc, file, LONGEST) {
-        Ok(text) => serve_text(alloc, &text, limit, trace),
+        Ok(text) => serve_text(alloc, mode, &text, limit, trace),
         Err(FileRefusal::Failed) => Status::Device {
             device: Device::File,
             text: 0,
@@ -83,24 +94,55 @@ fn serve<F: Files, S: Sink>(
     }
 }
 
-// Runs the scenario that a text spells.
-fn serve_text<S: Sink>(alloc: Global, text: &[u8], limit: u64, trace: &mut S) -> Status
+// Does what is asked for with the program that a text spells.
+fn serve_text<S: Sink>(alloc: Global, mode: Mode, text: &[u8], limit: u64, trace: &mut S) -> Status
     requires { limit ≤ 1000000 }
-    ensures shows { TextTells text.now limit (S.written trace.old) (S.written trace.new) result }
+    ensures tells { TextTells mode text.now limit (S.written trace.old) (S.written trace.new) result }
     ensures trace { CountsTrace result (S.faults trace.old) (S.faults trace.new) }
     ensures no_file { (at : ℕ) → result ≢ Status.Device Device.File at }
 {
-    let node = match read_node(alloc, text) {
-        Ok(node) => node,
-        Err(FormRefusal::NotOfForm) => return Status::Refused(Refusal::NotBuilt),
-        Err(FormRefusal::Memory) => return Status::Memory,
+    let program = match parse(alloc, text) {
+        Ok(program) => program,
+        Err(ParseRefusal::Memory) => return Status::Memory,
+        Err(refusal) => return Status::Refused(Refusal::Text(refusal)),
     };
-    let Ok(scenario) = scenario_of(alloc, node) else {
-        return Status::Memory;
+    match mode {
+        Mode::Run => run_program(alloc, &program, limit, trace),
+        Mode::Print => print_program(alloc, &program, trace),
+    }
+}
+
+// Runs a program.
+fn run_program<S: Sink>(alloc: Global, program: &Program, limit: u64, trace: &mut S) -> Status
+    requires { limit ≤ 1000000 }
+    ensures tells { RunTells (declarations program.now) limit (S.written trace.old) (S.written trace.new) result }
+    ensures trace { CountsTrace result (S.faults trace.old) (S.faults trace.new) }
+{
+    let scenario = match scenario_of(alloc, program) {
+        Ok(scenario) => scenario,
+        Err(Unprepared::NotBuilt) => return Status::Refused(Refusal::NotBuilt),
+        Err(Unprepared::Memory) => return Status::Memory,
     };
     match Machine::make(alloc, scenario, SEED, BUDGET) {
         Ok(mut machine) => run(alloc, &mut machine, limit, trace),
         Err(_) => Status::Memory,
+    }
+}
+
+// Prints a program. Its whole text is made before any of it is written.
+fn print_program<S: Sink>(alloc: Global, program: &Program, trace: &mut S) -> Status
+    ensures tells { PrintTells (declarations program.now) (S.written trace.old) (S.written trace.new) result }
+    ensures trace { CountsTrace result (S.faults trace.old) (S.faults trace.new) }
+{
+    let Ok(text) = print(alloc, program) else {
+        return Status::Memory;
+    };
+    match put(trace, text.as_bytes()) {
+        Ok(()) => Status::Ended,
+        Err(_) => Status::Device {
+            device: Device::Trace,
+            text: 0,
+        },
     }
 }
 
@@ -109,4 +151,11 @@ fn serve_text<S: Sink>(alloc: Global, text: &[u8], limit: u64, trace: &mut S) ->
 #[tactic(auto, using(crate::proofs::Calls::same_call_same_bytes))]
 pub fn same_call_same_bytes()
     ensures { SameCallSameBytes }
+{}
+
+/// A file that is to be refused is refused so, and for no other reason, unless it could not be read or
+/// memory ran out.
+#[tactic(auto, using(crate::proofs::Calls::refusals_are_exact))]
+pub fn refusals_are_exact()
+    ensures { RefusalsAreExact }
 {}

@@ -1,7 +1,7 @@
 //! The words of a call: `docs/COMMAND.md` has their rules.
 
 ghost use Rattle.std.specs.Prelude.{◌≡◌, ◌≤◌, map, string_bytes, Ok, Err, MatchResult, IfOk};
-ghost use Rattle.lurette.specs.Words.{requested, limit_in, limit_of, up_to_million, LimitsArePrinted};
+ghost use Rattle.lurette.specs.Words.{requested, mode_of, limit_in, limit_of, up_to_million, LimitsArePrinted};
 
 use crate::status::UsageKind;
 
@@ -11,9 +11,22 @@ const MOST_STEPS: u64 = 1_000_000;
 // The most steps where the words give no limit.
 const DEFAULT_STEPS: u64 = 100;
 
+/// What is done with a scenario.
+#[derive(Clone, Copy, Debug, PartialEq, Eq)]
+pub enum Mode {
+    /// It is run.
+    Run,
+
+    /// It is printed.
+    Print,
+}
+
 /// What the words of a call ask for.
 #[derive(Clone, Copy, Debug)]
 pub struct Request<'a> {
+    /// What is done.
+    pub mode: Mode,
+
     /// The name of the scenario's file.
     pub file: &'a str,
 
@@ -21,10 +34,10 @@ pub struct Request<'a> {
     pub limit: u64,
 }
 
-/// What the words ask for: `run FILE [-l N]`.
+/// What the words ask for: `run FILE [-l N]` or `print FILE [-l N]`.
 pub fn requested(words: &[String]) -> Result<Request<'_>, UsageKind>
     ensures reads { MatchResult result
-        (λ a. requested (map string_bytes words.now) ≡ Ok (record { file = a.file.now; limit = a.limit }))
+        (λ a. requested (map string_bytes words.now) ≡ Ok (record { mode = a.mode; file = a.file.now; limit = a.limit }))
         (λ kind. requested (map string_bytes words.now) ≡ Err kind) }
     ensures few { IfOk result (λ r. r.limit ≤ 1000000) }
 {
@@ -34,10 +47,21 @@ pub fn requested(words: &[String]) -> Result<Request<'_>, UsageKind>
     let Some(limit) = limit_among(options) else {
         return Err(UsageKind::Words);
     };
-    if mode.as_str() != "run" {
-        return Err(UsageKind::Mode);
+    match mode_named(mode) {
+        Some(mode) => Ok(Request { mode, file, limit }),
+        None => Err(UsageKind::Mode),
     }
-    Ok(Request { file, limit })
+}
+
+// The mode that a word is; none where it isn't one.
+fn mode_named(word: &str) -> Option<Mode>
+    ensures { result ≡ mode_of word.now }
+{
+    match word {
+        "run" => Some(Mode::Run),
+        "print" => Some(Mode::Print),
+        _ => None,
+    }
 }
 
 // The limit that the options give; none where they are no options.

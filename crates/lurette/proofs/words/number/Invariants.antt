@@ -1,7 +1,6 @@
 use Rattle.std.proofs.Common.{◌≡◌, ◌≤◌, drop}
 use Rattle.std.specs.List.{list_all}
-use Rattle.lurette.specs.Form.{is_digit}
-use Rattle.lurette.specs.Words.{value_behind}
+use Rattle.lurette.specs.Words.{is_digit, value_behind}
 use Rattle.lurette.proofs.words.number.Given as goal
 
 -- what is left tells the rest
