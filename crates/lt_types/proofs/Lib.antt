@@ -1,0 +1,12 @@
+pub mod Agreeing
+pub mod Names
+pub mod Ranges
+pub mod WellTyped
+pub mod Leading
+pub mod Stacks
+pub mod Naming
+pub mod Scopes
+pub mod Tracing
+pub mod Literals
+pub mod Checking
+pub mod Indexed

@@ -1,0 +1,71 @@
+-- Names that are used, and their arguments.
+use Rattle.std.proofs.Common.{◌≡◌, ◌≢◌, ◌<◌, ◌≤◌, ℕ, suc, Bool, true, false, List, [], ◌∷◌, Option, Some, None, map, length, refl, ap, sym, subst, ◌∙◌, arith}
+use Rattle.lt_ast.specs.declared.group.TypeName.{TypeName}
+use Rattle.lt_ast.specs.declared.group.TypeName.TheVariants as t
+use Rattle.lt_ast.specs.declared.name.Name.{Name}
+use Rattle.lt_ast.specs.declared.expr.Arg.{Arg}
+use Rattle.lt_ast.specs.declared.expr.Args.{Args}
+use Rattle.lt_ast.specs.declared.expr.Expr.{Held-Expr-Named-1, Expr-Named-1-None', Expr-Named-1-Some', back-Expr-Named-1}
+use Rattle.lt_ast.specs.Syntax as s
+use Rattle.lt_ast.specs.Syntax.{Word, Arguments}
+use Rattle.lt_ast.specs.Lists.{arguments_of}
+use Rattle.lt_ast.specs.View.{word, named_exp, argument}
+use Rattle.lt_ast.proofs.Lists.{arguments_list}
+use Rattle.lt_types.specs.Environment.{Environment, macro}
+use Rattle.lt_types.specs.Given.{used}
+use Rattle.lt_types.specs.Readable.{InExp}
+use Rattle.lt_types.specs.Operators.{same_type, serves_as}
+use Rattle.lt_types.specs.Refusals.{span_of, alone, as_many, fit}
+use Rattle.lt_types.specs.Answer.{Leads, first}
+use Rattle.lt_types.specs.Scoping.{param_view}
+use Rattle.lt_types.specs.declared.entry.Param.{Param}
+use Rattle.lt_types.specs.declared.refusal.TypeRefusal.TheVariants.{Arity}
+
+-- a name with its arguments, as the code has them
+pub named_used : (n : Name) (o : Option Args) → named_exp n (back-Expr-Named-1 o) ≡ used (word n) o
+named_used n None = refl
+named_used n (Some args) = ap (s.called (word n)) (arguments_list args.items)
+
+-- the ranges in it
+pub named_read : (n : Name) (o : Option Args) → InExp (named_exp n (back-Expr-Named-1 o)) → InExp (used (word n) o)
+named_read n o h = subst InExp (named_used n o) h
+
+pub ruleset named_steps = (named_used, named_read)
+
+-- its place
+pub named_place : (n : Name) (o : Option Args) → span_of (named_exp n (back-Expr-Named-1 o)) ≡ n.span
+named_place n None = refl
+named_place n (Some args) = refl
+
+-- as many arguments as parameters
+pub as_many_same : (args : List Arg) (params : List Param) → length args ≡ length params → as_many (arguments_of (map argument args)) (map param_view params) ≡ true
+as_many_same [] [] h = refl
+as_many_same [] (p ∷ ps) h = absurd (omega arith)
+as_many_same (a ∷ rest) [] h = absurd (omega arith)
+as_many_same (a ∷ rest) (p ∷ ps) h = as_many_same rest ps (omega arith)
+
+pub as_many_other : (args : List Arg) (params : List Param) → length args ≢ length params → as_many (arguments_of (map argument args)) (map param_view params) ≡ false
+as_many_other [] [] h = absurd (h refl)
+as_many_other [] (p ∷ ps) h = refl
+as_many_other (a ∷ rest) [] h = refl
+as_many_other (a ∷ rest) (p ∷ ps) h = as_many_other rest ps (λ e. h (ap suc e))
+
+pub ruleset as_many_steps = (as_many_same, as_many_other)
+
+-- a trace for a trace
+pub served_trace : (kind : TypeName) → serves_as t.Trace kind ≡ same_type kind t.Trace
+served_trace t.Bool = refl
+served_trace t.Int = refl
+served_trace t.Real = refl
+served_trace t.Trace = refl
+
+-- a macro with parameters isn't used alone
+pub alone_many : (w : Word) (ps : List Param) (k : TypeName) → 0 < length ps → Leads (Arity w.span) (alone w (Some (macro (map param_view ps) k)))
+alone_many w [] k h = absurd (omega arith)
+alone_many w (p ∷ ps) k h = first (Arity w.span) []
+
+-- without parameters no argument is judged
+pub fit_none : (env : Environment) (args : Arguments) (ps : List Param) → length ps ≤ 0 → fit env args (map param_view ps) ≡ []
+fit_none env s.no_arguments ps h = refl
+fit_none env (s.argument a rest) [] h = refl
+fit_none env (s.argument a rest) (p ∷ ps) h = absurd (omega arith)

@@ -1,0 +1,13 @@
+pub mod Environment
+pub mod Operators
+pub mod Literal
+pub mod Typing
+pub mod Refusals
+pub mod Law
+pub mod Answer
+pub mod Scoping
+pub mod Readable
+pub mod Chains
+pub mod Given
+pub mod Spelled
+pub mod Stacks

@@ -1,0 +1,309 @@
+-- The rules that a program breaks, in the order of its text: the first of them is the answer, and of the rest only that there
+-- are none counts. A name that is declared, a name that is used, and each part of a construct come at their places; the
+-- construct's own rules come after its parts, the one with the smaller place first. An `assert` judges its condition's type
+-- after its trace; a weight, a bound, an item and a macro's body are judged right behind their own expression; a range by its
+-- ends' types, then their sizes, then their order; the number of arguments before their types. A rule that needs the type of
+-- an expression is judged only where the expression has one. A list that is named by a rule holds the refusals where the rule
+-- is broken.
+use Rattle.std.specs.Prelude.{ℕ, nat_le, Bool, true, false, not, ◌&&◌, List, [], ◌∷◌, ◌++◌, unsigned_abs, int_lt, option_map, is_none}
+use Rattle.std.specs.declared.option.Option.{Option}
+use Rattle.std.specs.declared.option.Option.TheVariants.{None, Some}
+use Rattle.lt_ast.specs.declared.span.Span.{Span}
+use Rattle.lt_ast.specs.declared.group.TypeName.{TypeName}
+use Rattle.lt_ast.specs.declared.group.TypeName.TheVariants as t
+use Rattle.lt_ast.specs.Syntax as s
+use Rattle.lt_ast.specs.Syntax.{Word, Figure, Interval, Exp, Argument, Arguments, Limits, Braces, Alternative, Alternatives, Trace, Traces, Grouping, Groupings, MaybeExp, MaybeTrace, Parameters, Meaning, Macro, Declaration}
+use Rattle.lt_num.specs.Answer.{most}
+use Rattle.lt_types.specs.Environment.{Parameter, by_value, by_ref, Entry, variable, parameter, macro, Environment, at_start, found, is_among, Role, variables, parameters, with_group, with_groups, with_group_names, with_groups_names, with_parameters, with_macro, with_exceptions, with_declaration, with_sides}
+use Rattle.lt_types.specs.Operators.{is_value, same_type, serves_as, unary_takes, binary_takes, unary_gives, binary_gives}
+use Rattle.lt_types.specs.Literal.{figure_type, raw_of}
+use Rattle.lt_types.specs.Typing.{may_be_written, has_node}
+use Rattle.lt_types.specs.declared.refusal.TypeRefusal.{TypeRefusal}
+use Rattle.lt_types.specs.declared.refusal.TypeRefusal.TheVariants.{Unknown, Twice, Mismatch, Arity, PreOfExpression, EmptyRange, RangeTooLarge, NoNode}
+
+-- this refusal, where the test fails
+abbrev pub unless : Bool → TypeRefusal → List TypeRefusal
+unless true refusal = []
+unless false refusal = refusal ∷ []
+
+-- the second list, where the first is empty
+abbrev pub or_else : List TypeRefusal → List TypeRefusal → List TypeRefusal
+or_else [] others = others
+or_else (r ∷ rs) others = r ∷ rs
+
+-- the place of a whole expression; that of a name with arguments is the name's
+abbrev pub span_of : Exp → Span
+span_of (s.number f) = f.span
+span_of (s.flag b at) = at
+span_of (s.named w) = w.span
+span_of (s.called w args) = w.span
+span_of (s.pre w at) = at
+span_of (s.paren e at) = at
+span_of (s.unary op e at) = at
+span_of (s.binary op e f at) = at
+span_of (s.choose c e f at) = at
+
+-- the type of what a name stands for
+abbrev pub entry_type : Entry → TypeName
+entry_type (variable k) = k
+entry_type (parameter k) = k
+entry_type (macro ps k) = k
+
+-- The type of an expression, read off its left operand or its first branch; none where a name on that way is unknown. It is
+-- the type wherever the expression breaks no rule.
+abbrev pub type_of : Environment → Exp → Option TypeName
+type_of env (s.number f) = Some (figure_type f)
+type_of env (s.flag b at) = Some t.Bool
+type_of env (s.named w) = option_map entry_type (found env.names w.text)
+type_of env (s.called w args) = option_map entry_type (found env.names w.text)
+type_of env (s.pre w at) = option_map entry_type (found env.names w.text)
+type_of env (s.paren e at) = type_of env e
+type_of env (s.unary op e at) = option_map (unary_gives op) (type_of env e)
+type_of env (s.binary op e f at) = option_map (binary_gives op) (type_of env e)
+type_of env (s.choose c e f at) = type_of env e
+
+-- an expression that has a type has one that passes the test
+abbrev pub typed : (TypeName → Bool) → Option TypeName → Span → List TypeRefusal
+typed test None at = []
+typed test (Some k) at = unless (test k) (Mismatch at)
+
+-- an expression that has a type has this one
+abbrev pub wanted : TypeName → Environment → Exp → List TypeRefusal
+wanted kind env e = typed (λ k. same_type k kind) (type_of env e) (span_of e)
+
+-- an operator takes the types of its operands, which are one
+abbrev pub operands : (TypeName → Bool) → Option TypeName → Option TypeName → Span → List TypeRefusal
+operands takes None right at = []
+operands takes (Some k) right at = typed (λ other. same_type other k && takes k) right at
+
+-- an `if` has a Boolean condition, and branches of one type
+abbrev pub branches : Option TypeName → Option TypeName → Option TypeName → Span → List TypeRefusal
+branches None left right at = []
+branches (Some k) left right at = or_else (unless (same_type k t.Bool) (Mismatch at)) (operands is_value left right at)
+
+-- a name that is used is known
+abbrev pub known : Word → Option Entry → List TypeRefusal
+known w None = Unknown w.span ∷ []
+known w (Some entry) = []
+
+-- a name alone isn't that of a macro with parameters
+abbrev pub alone : Word → Option Entry → List TypeRefusal
+alone w None = []
+alone w (Some (variable k)) = []
+alone w (Some (parameter k)) = []
+alone w (Some (macro [] k)) = []
+alone w (Some (macro (p ∷ ps) k)) = Arity w.span ∷ []
+
+-- a name behind `pre` is that of a variable
+abbrev pub before : Word → Option Entry → List TypeRefusal
+before w None = []
+before w (Some (variable k)) = []
+before w (Some (parameter k)) = PreOfExpression w.span ∷ []
+before w (Some (macro ps k)) = PreOfExpression w.span ∷ []
+
+-- the name of an exception is known
+abbrev pub known_exception : Environment → Word → List TypeRefusal
+known_exception env w = unless (is_among w.text env.exceptions) (Unknown w.span)
+
+-- each of these names is neither taken nor a second one
+abbrev pub new : List (List ℕ) → List Word → List TypeRefusal
+new taken [] = []
+new taken (w ∷ ws) = unless (not (is_among w.text taken)) (Twice w.span) ++ new (w.text ∷ taken) ws
+
+-- a name stands for a variable of this type
+abbrev pub is_variable_entry : Option Entry → TypeName → Bool
+is_variable_entry None kind = false
+is_variable_entry (Some (variable k)) kind = same_type k kind
+is_variable_entry (Some (parameter k)) kind = false
+is_variable_entry (Some (macro ps k)) kind = false
+
+-- an expression is the name of a variable of this type
+abbrev pub is_variable : Environment → Exp → TypeName → Bool
+is_variable env (s.named w) kind = is_variable_entry (found env.names w.text) kind
+is_variable env e kind = false
+
+-- an argument is of the type of its parameter, or a Boolean for a trace, and for one by `ref` the name of a variable
+abbrev pub fits : Environment → Argument → Parameter → List TypeRefusal
+fits env (s.value_argument e) (by_value kind) = typed (λ k. serves_as k kind) (type_of env e) (span_of e)
+fits env (s.value_argument e) (by_ref kind) = unless (is_variable env e kind) (Mismatch (span_of e))
+fits env (s.trace_argument b at) (by_value kind) = unless (same_type kind t.Trace) (Mismatch at)
+fits env (s.trace_argument b at) (by_ref kind) = Mismatch at ∷ []
+
+-- arguments for parameters, as far as both go
+abbrev pub fit : Environment → Arguments → List Parameter → List TypeRefusal
+fit env s.no_arguments ps = []
+fit env (s.argument a rest) [] = []
+fit env (s.argument a rest) (p ∷ ps) = fits env a p ++ fit env rest ps
+
+-- there are as many arguments as parameters
+abbrev pub as_many : Arguments → List Parameter → Bool
+as_many s.no_arguments [] = true
+as_many s.no_arguments (p ∷ ps) = false
+as_many (s.argument a rest) [] = false
+as_many (s.argument a rest) (p ∷ ps) = as_many rest ps
+
+-- a name with arguments is that of a macro, which has as many parameters, and each argument is as its parameter wants it
+abbrev pub applied : Environment → Word → Arguments → Option Entry → List TypeRefusal
+applied env w args None = []
+applied env w args (Some (variable k)) = Arity w.span ∷ []
+applied env w args (Some (parameter k)) = Arity w.span ∷ []
+applied env w args (Some (macro ps k)) = unless (as_many args ps) (Arity w.span) ++ fit env args ps
+
+-- the end of a range is a literal of the type
+abbrev pub end_type : TypeName → Figure → List TypeRefusal
+end_type kind f = unless (same_type (figure_type f) kind) (Mismatch f.span)
+
+-- the end of a range is a number within bounds
+abbrev pub end_size : ℕ → Figure → List TypeRefusal
+end_size decimals f = unless (nat_le (unsigned_abs (raw_of decimals f)) most) (RangeTooLarge f.span)
+
+-- the low end of a range isn't over the high one
+abbrev pub order : ℕ → Interval → List TypeRefusal
+order decimals range = unless (not (int_lt (raw_of decimals range.high) (raw_of decimals range.low))) (EmptyRange range.low.span)
+
+-- a range of numbers of a type: both ends are of the type, then both are within bounds, then they are in order
+abbrev pub range_of : ℕ → TypeName → Interval → List TypeRefusal
+range_of decimals kind range =
+    or_else (end_type kind range.low ++ end_type kind range.high)
+    (or_else (end_size decimals range.low ++ end_size decimals range.high)
+    (order decimals range))
+
+-- the range of a group of this type; of other types it isn't judged
+abbrev pub range_refusals : ℕ → TypeName → Option Interval → List TypeRefusal
+range_refusals decimals kind None = []
+range_refusals decimals t.Int (Some range) = range_of 0 t.Int range
+range_refusals decimals t.Real (Some range) = range_of decimals t.Real range
+range_refusals decimals kind (Some range) = []
+
+-- the place of the first name; a written group has one
+abbrev pub first_place : List Word → Span
+first_place [] = record { start = 0; end = 0 }
+first_place (w ∷ ws) = w.span
+
+-- a first value, if there is one, is of the type
+abbrev pub first_wanted : TypeName → Environment → MaybeExp → List TypeRefusal
+first_wanted kind env s.no_exp = []
+first_wanted kind env (s.an_exp e) = wanted kind env e
+
+abbrev mutual
+  -- an expression
+  pub exp_refusals : Environment → Exp → List TypeRefusal
+  exp_refusals env (s.number f) = []
+  exp_refusals env (s.flag b at) = []
+  exp_refusals env (s.named w) = known w (found env.names w.text) ++ alone w (found env.names w.text)
+  exp_refusals env (s.called w args) = known w (found env.names w.text) ++ (arguments_refusals env args ++ applied env w args (found env.names w.text))
+  exp_refusals env (s.pre w at) = known w (found env.names w.text) ++ before w (found env.names w.text)
+  exp_refusals env (s.paren e at) = exp_refusals env e
+  exp_refusals env (s.unary op e at) = exp_refusals env e ++ typed (unary_takes op) (type_of env e) at
+  exp_refusals env (s.binary op e f at) = exp_refusals env e ++ (exp_refusals env f ++ operands (binary_takes op) (type_of env e) (type_of env f) at)
+  exp_refusals env (s.choose c e f at) = exp_refusals env c ++ (exp_refusals env e ++ (exp_refusals env f ++ branches (type_of env c) (type_of env e) (type_of env f) at))
+
+  -- an argument
+  pub argument_refusals : Environment → Argument → List TypeRefusal
+  argument_refusals env (s.value_argument e) = exp_refusals env e
+  argument_refusals env (s.trace_argument b at) = braces_refusals env b
+
+  -- arguments
+  pub arguments_refusals : Environment → Arguments → List TypeRefusal
+  arguments_refusals env s.no_arguments = []
+  arguments_refusals env (s.argument a rest) = argument_refusals env a ++ arguments_refusals env rest
+
+  -- the bounds of a loop
+  pub limits_refusals : Environment → Limits → List TypeRefusal
+  limits_refusals env s.forever = []
+  limits_refusals env (s.between e f) = exp_refusals env e ++ (wanted t.Int env e ++ (exp_refusals env f ++ wanted t.Int env f))
+  limits_refusals env (s.around e f) = exp_refusals env e ++ (wanted t.Int env e ++ (exp_refusals env f ++ wanted t.Int env f))
+
+  -- what stands in braces
+  pub braces_refusals : Environment → Braces → List TypeRefusal
+  braces_refusals env (s.plain x) = trace_refusals env x
+  braces_refusals env (s.choice lead ps) = alternatives_refusals env ps
+  braces_refusals env (s.priority lead xs) = traces_refusals env xs
+  braces_refusals env (s.parallel lead xs) = traces_refusals env xs
+
+  -- an alternative of a choice
+  pub alternative_refusals : Environment → Alternative → List TypeRefusal
+  alternative_refusals env (s.unweighted x) = trace_refusals env x
+  alternative_refusals env (s.weighted e x) = exp_refusals env e ++ (wanted t.Int env e ++ trace_refusals env x)
+
+  -- alternatives
+  pub alternatives_refusals : Environment → Alternatives → List TypeRefusal
+  alternatives_refusals env s.no_alternatives = []
+  alternatives_refusals env (s.alternative p ps) = alternative_refusals env p ++ alternatives_refusals env ps
+
+  -- traces
+  pub traces_refusals : Environment → Traces → List TypeRefusal
+  traces_refusals env s.no_traces = []
+  traces_refusals env (s.one_trace x xs) = trace_refusals env x ++ traces_refusals env xs
+
+  -- a group: its names, its range, its first value, and then what the group may not be
+  pub group_refusals : Role → Environment → List (List ℕ) → Grouping → List TypeRefusal
+  group_refusals role env taken (s.grouping ws kind ref range first) =
+      new taken ws ++ (range_refusals env.decimals kind range ++ (first_refusals env first ++ (unless (may_be_written role kind ref range first) (Mismatch (first_place ws)) ++ first_wanted kind env first)))
+
+  -- groups, where these names stand before in the same list
+  pub groups_refusals : Role → Environment → List (List ℕ) → Groupings → List TypeRefusal
+  groups_refusals role env taken s.no_groups = []
+  groups_refusals role env taken (s.one_group g gs) = group_refusals role env taken g ++ groups_refusals role (with_group role env g) (with_group_names g taken) gs
+
+  -- a first value, if there is one
+  pub first_refusals : Environment → MaybeExp → List TypeRefusal
+  first_refusals env s.no_exp = []
+  first_refusals env (s.an_exp e) = exp_refusals env e
+
+  -- the `do` part, if there is one
+  pub handler_refusals : Environment → MaybeTrace → List TypeRefusal
+  handler_refusals env s.no_trace = []
+  handler_refusals env (s.a_trace x) = trace_refusals env x
+
+  -- the parameters of a macro, if it has any
+  pub parameters_refusals : Environment → Parameters → List TypeRefusal
+  parameters_refusals env s.no_parameters = []
+  parameters_refusals env (s.parameters gs) = groups_refusals parameters env [] gs
+
+  -- what a macro of a type stands for
+  pub meaning_refusals : Environment → TypeName → Meaning → List TypeRefusal
+  meaning_refusals env kind (s.trace_meaning x) = trace_refusals env x
+  meaning_refusals env kind (s.value_meaning e) = exp_refusals env e ++ wanted kind env e
+
+  -- a macro
+  pub macro_refusals : Environment → Macro → List TypeRefusal
+  macro_refusals env (s.macro w ps kind m) = parameters_refusals env ps ++ meaning_refusals (with_parameters env ps) kind m
+
+  -- a trace
+  pub trace_refusals : Environment → Trace → List TypeRefusal
+  trace_refusals env (s.sequence xs) = traces_refusals env xs
+  trace_refusals env (s.braces b at) = braces_refusals env b
+  trace_refusals env (s.loop l x) = limits_refusals env l ++ trace_refusals env x
+  trace_refusals env (s.raise w) = known_exception env w
+  trace_refusals env (s.assert e x) = exp_refusals env e ++ (trace_refusals env x ++ wanted t.Bool env e)
+  trace_refusals env (s.exist gs x) = groups_refusals variables env [] gs ++ trace_refusals (with_groups variables env gs) x
+  trace_refusals env (s.define m x) = macro_refusals env m ++ trace_refusals (with_macro env m) x
+  trace_refusals env (s.exceptions ws x) = new [] ws ++ trace_refusals (with_exceptions env ws) x
+  trace_refusals env (s.catch w x h) = known_exception env w ++ (trace_refusals env x ++ handler_refusals env h)
+  trace_refusals env (s.trap w x h) = trace_refusals (with_exceptions env (w ∷ [])) x ++ handler_refusals (with_exceptions env (w ∷ [])) h
+  trace_refusals env (s.try x h) = trace_refusals env x ++ handler_refusals env h
+  trace_refusals env (s.value e) = exp_refusals env e ++ typed (λ k. serves_as k t.Trace) (type_of env e) (span_of e)
+
+-- no macro of the text before has the macro's name
+abbrev pub new_macro : Environment → Macro → List TypeRefusal
+new_macro env (s.macro w ps kind m) = unless (is_none (found env.names w.text)) (Twice w.span)
+
+-- a declaration of a text, behind those before it
+abbrev pub declaration_refusals : Environment → Declaration → List TypeRefusal
+declaration_refusals env (s.node w ins outs x) =
+    new env.nodes (w ∷ [])
+    ++ (groups_refusals variables env [] ins
+    ++ (groups_refusals variables (with_groups variables env ins) (with_groups_names ins []) outs
+    ++ trace_refusals (with_sides env ins outs) x))
+declaration_refusals env (s.macro_declaration m) = new_macro env m ++ macro_refusals env m
+declaration_refusals env (s.exception_declaration ws) = new env.exceptions ws
+
+-- the declarations of a text
+abbrev pub declarations_refusals : Environment → List Declaration → List TypeRefusal
+declarations_refusals env [] = []
+declarations_refusals env (d ∷ ds) = declaration_refusals env d ++ declarations_refusals (with_declaration env d) ds
+
+-- the rules that a text breaks; that it has no node is the last
+abbrev pub type_refusals : ℕ → List Declaration → List TypeRefusal
+type_refusals decimals ds = declarations_refusals (at_start decimals) ds ++ unless (has_node ds) NoNode

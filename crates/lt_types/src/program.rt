@@ -1,0 +1,164 @@
+//! Programs.
+
+ghost use Rattle.std.specs.Prelude.{◌≡◌, ◌≤◌, [], IfErr, IfOk, OnOk, map};
+ghost use Rattle.lt_ast.specs.View.{declaration, macro, program as declarations};
+ghost use Rattle.lt_types.specs.Answer.{Checks, Leads};
+ghost use Rattle.lt_types.specs.Environment.{with_declaration};
+ghost use Rattle.lt_types.specs.Readable.{InDeclaration, InDeclarations};
+ghost use Rattle.lt_types.specs.Refusals.{declaration_refusals, declarations_refusals, new_macro, type_refusals};
+ghost use Rattle.lt_types.specs.Spelled.{HasText};
+ghost use Rattle.lt_types.specs.Given.{node_declaration};
+ghost use Rattle.lt_types.specs.Typing.{IsWellTyped, has_node};
+
+use crate::entry::Role;
+use crate::groups::{check_groups, check_macro, declare_macro};
+use crate::refusal::TypeRefusal;
+use crate::scope::Scope;
+use crate::traces::check_trace;
+use lt_ast::{Decl, MacroDecl, NodeDecl, Program};
+use std::alloc::Global;
+
+/// A program that is well typed.
+#[derive(Debug, Drop)]
+pub struct Typed {
+    program: Program,
+    decimals: u32,
+    ghost few: { decimals ≤ 6 },
+    ghost unrefused: { type_refusals decimals (declarations program) ≡ [] },
+    ghost spelled: { ∥ HasText (declarations program) ∥₁ },
+}
+
+impl Typed {
+    /// The program.
+    #[tactic(auto, using(crate::proofs::Checking::unrefused_typed))]
+    pub fn program(&self) -> &Program
+        ensures same { result.now ≡ self.now.program }
+        ensures typed { IsWellTyped self.now.decimals (declarations result.now) }
+    {
+        &self.program
+    }
+
+    /// How many decimals its reals have.
+    pub fn decimals(&self) -> u32
+        ensures same { result ≡ self.now.decimals }
+        ensures few { result ≤ 6 }
+    {
+        self.decimals
+    }
+
+    /// The program, without the fact.
+    pub fn into_program(self) -> Program
+        ensures { result ≡ self.program }
+    {
+        self.program
+    }
+}
+
+/// Checks a program against the rules. A real has so many decimals, 0 to 6.
+///
+/// # Errors
+///
+/// The first rule that the program breaks, in the order of its text, or [`TypeRefusal::Memory`] where memory ran out.
+#[tactic(auto, using(crate::proofs::Checking::checked))]
+pub fn check(alloc: Global, program: Program, decimals: u32) -> Result<Typed, TypeRefusal>
+    requires few { decimals ≤ 6 }
+    requires spelled { HasText (declarations program) }
+    ensures same { IfOk result (λ t. (t.program ≡ program) × (t.decimals ≡ decimals)) }
+    ensures typed { IfOk result (λ t. IsWellTyped decimals (declarations program)) }
+    ensures only { IsWellTyped decimals (declarations program) → IfErr result (λ r. r ≡ TypeRefusal.Memory) }
+    ensures refused { IfErr result (λ r. Leads r (type_refusals decimals (declarations program))) }
+{
+    check_program(alloc, &program, decimals)?;
+    Ok(Typed { program, decimals })
+}
+
+// A program.
+#[tactic(auto, using(crate::proofs::Leading::leads))]
+pub(crate) fn check_program(
+    alloc: Global,
+    program: &Program,
+    decimals: u32,
+) -> Result<(), TypeRefusal>
+    requires few { decimals ≤ 6 }
+    requires read { InDeclarations (declarations program.now) }
+    ensures { Checks result (type_refusals decimals (declarations program.now)) }
+{
+    let mut scope = Scope::new(alloc, decimals)?;
+    check_decls(alloc, &mut scope, &program.decls)?;
+    if has_a_node(&program.decls) {
+        return Ok(());
+    }
+    Err(TypeRefusal::NoNode)
+}
+
+// The declarations of a text. Their names stay in the scope.
+#[tactic(auto, using(crate::proofs::Leading::leads, crate::proofs::Stacks::drop_next))]
+fn check_decls(alloc: Global, scope: &mut Scope, decls: &[Decl]) -> Result<(), TypeRefusal>
+    requires { InDeclarations (map declaration decls.now) }
+    ensures { Checks result (declarations_refusals scope.old (map declaration decls.now)) }
+{
+    for decl in decls {
+        check_decl(alloc, scope, decl)?;
+    }
+    Ok(())
+}
+
+// A declaration of a text. Its names stay in the scope.
+#[tactic(auto, using(crate::proofs::Leading::leads))]
+fn check_decl(alloc: Global, scope: &mut Scope, decl: &Decl) -> Result<(), TypeRefusal>
+    requires { InDeclaration (declaration decl.now) }
+    ensures answered { Checks result (declaration_refusals scope.old (declaration decl.now)) }
+    ensures declared { OnOk result (scope.new ≡ with_declaration scope.old (declaration decl.now)) }
+{
+    match decl {
+        Decl::Node(node) => check_node(alloc, scope, node),
+        Decl::Macro(declared) => {
+            check_new_macro(scope, declared)?;
+            check_macro(alloc, scope, declared)?;
+            declare_macro(alloc, scope, declared)
+        }
+        Decl::Exceptions(names) => {
+            scope.check_new_exceptions(0, names)?;
+            scope.declare_exceptions(names)
+        }
+    }
+}
+
+// A node.
+#[tactic(auto, using(crate::proofs::Leading::leads, crate::proofs::Scopes::scope_ends, crate::proofs::Scopes::sides_end))]
+fn check_node(alloc: Global, scope: &mut Scope, declared: &NodeDecl) -> Result<(), TypeRefusal>
+    requires { InDeclaration (node_declaration declared.now) }
+    ensures answered { Checks result (declaration_refusals scope.old (node_declaration declared.now)) }
+    ensures declared { OnOk result (scope.new ≡ with_declaration scope.old (node_declaration declared.now)) }
+{
+    scope.check_new_node(&declared.name)?;
+    let before = scope.name_count();
+    check_groups(alloc, scope, Role::Variables, before, &declared.inputs)?;
+    check_groups(alloc, scope, Role::Variables, before, &declared.outputs)?;
+    check_trace(alloc, scope, &declared.body)?;
+    scope.forget_names(before);
+    scope.declare_node(&declared.name)
+}
+
+// That no macro of the text before has the macro's name.
+#[tactic(auto, using(crate::proofs::Leading::leads, crate::proofs::Scopes::macro_parts))]
+fn check_new_macro(scope: &Scope, declared: &MacroDecl) -> Result<(), TypeRefusal>
+    ensures { Checks result (new_macro scope.now (macro declared.now)) }
+{
+    if scope.lookup(&declared.name.text).is_some() {
+        return Err(TypeRefusal::Twice(declared.name.span));
+    }
+    Ok(())
+}
+
+// Whether a text has a node.
+fn has_a_node(decls: &[Decl]) -> bool
+    ensures { result ≡ has_node (map declaration decls.now) }
+{
+    for decl in decls {
+        if let Decl::Node(_) = decl {
+            return true;
+        }
+    }
+    false
+}

@@ -1,0 +1,218 @@
+//! What is visible at a place of a text.
+
+ghost use Rattle.std.specs.Prelude.{◌≡◌, ◌≤◌, [], ◌∷◌, length, option_map, string_bytes, IfOk, OnOk};
+ghost use Rattle.lt_ast.specs.View.{word, words};
+ghost use Rattle.lt_types.specs.Answer.{Checks};
+ghost use Rattle.lt_types.specs.Environment.{at_start, found, group_entry, is_among, with_bindings, with_exceptions};
+ghost use Rattle.lt_types.specs.Refusals.{new as new_refusals};
+ghost use Rattle.lt_types.specs.Scoping.{declared_since, entry_view, role_view, since, with_oldest_exceptions, with_oldest_names};
+
+use crate::entry::{Entry, Role};
+use crate::name_stack::NameStack;
+use crate::refusal::TypeRefusal;
+use lt_ast::{Name, Names, TypeName};
+use std::alloc::Global;
+use std::marker::Model;
+
+// The names that are visible, in three spaces, and the number of decimals that a real has.
+#[derive(Debug, Drop)]
+pub(crate) struct Scope {
+    decimals: u32,
+
+    // Variables, parameters and macros ..
+    names: NameStack,
+
+    // .. and what each stands for.
+    entries: Vec<Entry>,
+
+    nodes: NameStack,
+
+    exceptions: NameStack,
+}
+
+impl Model for Scope {
+    ghost use Rattle.std.specs.Prelude.{map, reverse};
+    ghost use Rattle.lt_types.specs.Environment.{Environment};
+    ghost use Rattle.lt_types.specs.Scoping.{bindings, entry_view, IsMatched};
+
+    ghost Value = { Environment };
+
+    ghost view = { λ s. record {
+      decimals = s.decimals;
+      names = bindings s.names (reverse (map entry_view s.entries.items));
+      nodes = s.nodes;
+      exceptions = s.exceptions;
+    } };
+
+    ghost invariant = { λ s. IsMatched s.decimals s.names s.entries.items };
+}
+
+impl Scope {
+    // Before the first declaration.
+    #[tactic(auto, using(crate::proofs::Leading::leads))]
+    pub(crate) fn new(alloc: Global, decimals: u32) -> Result<Scope, TypeRefusal>
+        requires { decimals ≤ 6 }
+        ensures made { IfOk result (λ s. s ≡ at_start decimals) }
+        ensures memory { Checks result [] }
+    {
+        let mut exceptions = NameStack::new(alloc);
+        exceptions.push("Deadlock")?;
+        Ok(Scope {
+            decimals,
+            names: NameStack::new(alloc),
+            entries: Vec::new(alloc),
+            nodes: NameStack::new(alloc),
+            exceptions,
+        })
+    }
+
+    // How many decimals a real has.
+    pub(crate) fn decimals(&self) -> u32
+        ensures same { result ≡ self.now.decimals }
+        ensures few { result ≤ 6 }
+    {
+        self.decimals
+    }
+
+    // What the newest of the names that are this one stands for.
+    #[tactic(auto, using(crate::proofs::Stacks::scope_steps))]
+    pub(crate) fn lookup(&self, name: &str) -> Option<&Entry>
+        ensures { option_map (λ x. entry_view x.now) result ≡ found self.now.names name.now }
+    {
+        match self.names.newest(name) {
+            Some(place) => Some(&self.entries[place]),
+            None => None,
+        }
+    }
+
+    // How many names there are.
+    #[tactic(auto, using(crate::proofs::Stacks::scope_steps))]
+    pub(crate) fn name_count(&self) -> usize
+        ensures { result ≡ length self.now.names }
+    {
+        self.names.len()
+    }
+
+    // That none of these names was declared since there were so many, and that none of them stands twice.
+    #[tactic(auto, using(crate::proofs::Stacks::scope_steps))]
+    pub(crate) fn check_new_names(&mut self, from: usize, names: &Names) -> Result<(), TypeRefusal>
+        requires { from ≤ length self.old.names }
+        ensures answered { Checks result (new_refusals (declared_since from self.old) (words names.now)) }
+        ensures kept { self.new ≡ self.old }
+    {
+        self.names.check_new(from, names)
+    }
+
+    // A name, and what it stands for.
+    #[tactic(auto, using(crate::proofs::Leading::leads, crate::proofs::Stacks::scope_steps))]
+    pub(crate) fn declare(&mut self, name: &str, entry: Entry) -> Result<(), TypeRefusal>
+        ensures ok { OnOk result (self.new ≡ record self.old { names = record { name = name.now; entry = entry_view entry } ∷ self.old.names }) }
+        ensures memory { Checks result [] }
+    {
+        self.entries.push(entry)?;
+        let named = self.names.push(name);
+        if named.is_err() {
+            self.entries.pop();
+        }
+        named
+    }
+
+    // The names of a group.
+    #[tactic(auto, using(crate::proofs::Leading::leads))]
+    pub(crate) fn declare_group(
+        &mut self,
+        role: Role,
+        names: &Names,
+        kind: TypeName,
+        by_ref: bool,
+    ) -> Result<(), TypeRefusal>
+        ensures ok { OnOk result (self.new ≡ record self.old { names = with_bindings (group_entry (role_view role) kind by_ref) (words names.now) self.old.names }) }
+        ensures memory { Checks result [] }
+    {
+        for name in &names.items {
+            self.declare(&name.text, Entry::of_group(role, kind, by_ref))?;
+        }
+        Ok(())
+    }
+
+    // Forgets the newest names, so that so many are left.
+    #[tactic(auto, using(crate::proofs::Stacks::scope_steps))]
+    pub(crate) fn forget_names(&mut self, count: usize)
+        requires { count ≤ length self.old.names }
+        ensures { self.new ≡ with_oldest_names count self.old }
+    {
+        self.names.truncate(count);
+        self.entries.truncate(count);
+    }
+
+    // Whether an exception of this name is visible.
+    #[tactic(auto, using(crate::proofs::Stacks::newest_among))]
+    pub(crate) fn is_exception(&self, name: &str) -> bool
+        ensures { result ≡ is_among name.now self.now.exceptions }
+    {
+        self.exceptions.newest(name).is_some()
+    }
+
+    // How many exceptions there are.
+    pub(crate) fn exception_count(&self) -> usize
+        ensures { result ≡ length self.now.exceptions }
+    {
+        self.exceptions.len()
+    }
+
+    // That none of these is an exception that was declared since there were so many, and that none of them stands twice.
+    pub(crate) fn check_new_exceptions(
+        &mut self,
+        from: usize,
+        names: &Names,
+    ) -> Result<(), TypeRefusal>
+        requires { from ≤ length self.old.exceptions }
+        ensures answered { Checks result (new_refusals (since from self.old.exceptions) (words names.now)) }
+        ensures kept { self.new ≡ self.old }
+    {
+        self.exceptions.check_new(from, names)
+    }
+
+    // Exceptions.
+    pub(crate) fn declare_exceptions(&mut self, names: &Names) -> Result<(), TypeRefusal>
+        ensures ok { OnOk result (self.new ≡ with_exceptions self.old (words names.now)) }
+        ensures memory { Checks result [] }
+    {
+        self.exceptions.push_all(names)
+    }
+
+    // One exception.
+    pub(crate) fn declare_exception(&mut self, name: &Name) -> Result<(), TypeRefusal>
+        ensures ok { OnOk result (self.new ≡ with_exceptions self.old (word name.now ∷ [])) }
+        ensures memory { Checks result [] }
+    {
+        self.exceptions.push(&name.text)
+    }
+
+    // Forgets the newest exceptions, so that so many are left.
+    pub(crate) fn forget_exceptions(&mut self, count: usize)
+        requires { count ≤ length self.old.exceptions }
+        ensures { self.new ≡ with_oldest_exceptions count self.old }
+    {
+        self.exceptions.truncate(count);
+    }
+
+    // That no node has this name.
+    #[tactic(auto, using(crate::proofs::Leading::leads, crate::proofs::Stacks::newest_among))]
+    pub(crate) fn check_new_node(&self, name: &Name) -> Result<(), TypeRefusal>
+        ensures { Checks result (new_refusals self.now.nodes (word name.now ∷ [])) }
+    {
+        if self.nodes.newest(&name.text).is_some() {
+            return Err(TypeRefusal::Twice(name.span));
+        }
+        Ok(())
+    }
+
+    // A node.
+    pub(crate) fn declare_node(&mut self, name: &Name) -> Result<(), TypeRefusal>
+        ensures ok { OnOk result (self.new ≡ record self.old { nodes = string_bytes name.now.text ∷ self.old.nodes }) }
+        ensures memory { Checks result [] }
+    {
+        self.nodes.push(&name.text)
+    }
+}
