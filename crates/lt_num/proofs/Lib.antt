@@ -3,3 +3,4 @@ pub mod AnswerLemmas
 pub mod DigitLemmas
 pub mod TextLemmas
 pub mod RoundTripLemmas
+pub mod RangeLemmas

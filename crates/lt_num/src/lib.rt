@@ -5,22 +5,32 @@
 //! result, halves away from zero, or [`Arith::Overflow`] where that one is past 10^12 in size. The
 //! quotient of two ints, which drops its fraction, is none of them.
 //!
+//! A [`Value`] is a Boolean or such a number, of one of three [`Kind`]s, and each stands for a raw
+//! number: 0 and 1 for false and true. A [`Range`] has the raw numbers from one to another.
+//!
 //! The rules and their examples are in `docs/LANGUAGE.md`, under *Numbers*; `specs/Rounding.antt` says
-//! what *nearest* means, and `specs/Literal.antt` what the texts are.
+//! what *nearest* means, `specs/Literal.antt` what the texts are, and `specs/Value.antt` and
+//! `specs/Range.antt` which raw numbers values and ranges have.
 #![tactic(auto)]
 
 mod arithmetic;
 mod fault;
 mod fixed;
+mod kind;
 mod laws;
 mod printing;
+mod range;
 mod reading;
 #[cfg(test)]
 mod tests;
+mod value;
 
 pub use arithmetic::{add, div, mul, sub};
 pub use fault::Arith;
 pub use fixed::Fixed;
-pub use laws::{answer_is_one, nearest_is_one, text_reads_back};
+pub use kind::Kind;
+pub use laws::{answer_is_one, nearest_is_one, raws_are_within, text_reads_back};
 pub use printing::print;
+pub use range::Range;
 pub use reading::read;
+pub use value::Value;
