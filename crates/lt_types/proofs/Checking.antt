@@ -1,5 +1,5 @@
 -- Whole programs.
-use Rattle.std.proofs.Common.{◌≡◌, ℕ, List, [], ◌∷◌, refl}
+use Rattle.std.proofs.Common.{◌≡◌, ℕ, List, [], refl}
 use Rattle.lt_ast.specs.Syntax.{Declaration}
 use Rattle.lt_types.specs.Answer.{Leads, first, memory}
 use Rattle.lt_types.specs.declared.refusal.TypeRefusal.{TypeRefusal}

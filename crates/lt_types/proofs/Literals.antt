@@ -1,5 +1,5 @@
 -- The numbers of a text's tokens are literals.
-use Rattle.std.proofs.Common.{◌≡◌, ℕ, suc, ◌+◌, ◌<◌, ◌≤◌, ◌==◌, Bool, true, false, not, cond, ◌&&◌, ◌||◌, if◌then◌else◌, List, [], ◌∷◌, ◌++◌, Option, Some, None, length, take, drop, map, count_by, refl, ap, sym, ◌∙◌, arith, subst}
+use Rattle.std.proofs.Common.{◌≡◌, ℕ, suc, ◌+◌, ◌≤◌, ◌==◌, Bool, true, false, not, cond, ◌&&◌, if◌then◌else◌, List, [], ◌∷◌, ◌++◌, Option, Some, None, length, take, drop, map, count_by, refl, ap, sym, ◌∙◌, arith, subst}
 use Rattle.std.specs.Char.{is_ascii_digit}
 use Rattle.std.specs.List.{list_all, AllByRecursion, position_or_len, before_first, after_first}
 use Rattle.std.specs.Str.{all_ascii_digits}
@@ -21,7 +21,7 @@ use Rattle.lt_lexer.proofs.Digits.{count_by-all, digit-point}
 use Rattle.lt_lexer.proofs.Places.{stand_in_turn}
 use Rattle.lt_lexer.specs.Piece.{IsToken, IsShort}
 use Rattle.lt_parser.specs.Lexemes.{Lexemes, lexeme}
-use Rattle.lt_parser.specs.Text.{AreLexemesOf, IsProgramOf}
+use Rattle.lt_parser.specs.Text.{AreLexemesOf}
 use Rattle.lt_parser.specs.Written.{written_of}
 use Rattle.lt_parser.proofs.PrintedText.{are_spelled}
 use Rattle.lt_parser.proofs.Written.{written_as_spelled}

@@ -1,11 +1,11 @@
 -- Names that are used, and their arguments.
-use Rattle.std.proofs.Common.{◌≡◌, ◌≢◌, ◌<◌, ◌≤◌, ℕ, suc, Bool, true, false, List, [], ◌∷◌, Option, Some, None, map, length, refl, ap, sym, subst, ◌∙◌, arith}
+use Rattle.std.proofs.Common.{◌≡◌, ◌≢◌, ◌<◌, ◌≤◌, suc, true, false, List, [], ◌∷◌, Option, Some, None, map, length, refl, ap, subst, arith}
 use Rattle.lt_ast.specs.declared.group.TypeName.{TypeName}
 use Rattle.lt_ast.specs.declared.group.TypeName.TheVariants as t
 use Rattle.lt_ast.specs.declared.name.Name.{Name}
 use Rattle.lt_ast.specs.declared.expr.Arg.{Arg}
 use Rattle.lt_ast.specs.declared.expr.Args.{Args}
-use Rattle.lt_ast.specs.declared.expr.Expr.{Held-Expr-Named-1, Expr-Named-1-None', Expr-Named-1-Some', back-Expr-Named-1}
+use Rattle.lt_ast.specs.declared.expr.Expr.{back-Expr-Named-1}
 use Rattle.lt_ast.specs.Syntax as s
 use Rattle.lt_ast.specs.Syntax.{Word, Arguments}
 use Rattle.lt_ast.specs.Lists.{arguments_of}

@@ -1,10 +1,9 @@
 -- What scopes are before and behind a list of names.
-use Rattle.std.proofs.Common.{◌≡◌, ℕ, suc, ◌+◌, ◌-◌, ◌<◌, ◌≤◌, get_or, List, [], ◌∷◌, ◌++◌, map, take, drop, length, Option, Some, None, append_assoc, append-nil, refl, ap, sym, ◌∙◌, subst, arith}
-use Rattle.std.proofs.lemmas.List.{map_push}
+use Rattle.std.proofs.Common.{◌≡◌, ℕ, ◌+◌, ◌-◌, ◌<◌, ◌≤◌, get_or, List, [], ◌∷◌, ◌++◌, map, take, drop, length, refl, ap, sym, ◌∙◌, subst, arith}
 use Rattle.lt_ast.specs.declared.group.TypeName.{TypeName}
 use Rattle.lt_ast.specs.declared.group.Group.{Group}
 use Rattle.lt_ast.specs.declared.group.Groups.{Groups, out-Groups}
-use Rattle.lt_ast.specs.declared.trace.MacroDecl.{MacroDecl, MacroDecl', out-MacroDecl, back-MacroDecl-params, view-MacroDecl-params, Held-MacroDecl-params, MacroDecl-params-None', MacroDecl-params-Some'}
+use Rattle.lt_ast.specs.declared.trace.MacroDecl.{MacroDecl, MacroDecl', out-MacroDecl, view-MacroDecl-params, Held-MacroDecl-params, MacroDecl-params-None', MacroDecl-params-Some'}
 use denote.Hole.Carrier.{out}
 use Rattle.lt_ast.specs.Lists.{groups_of}
 use Rattle.lt_ast.specs.Rows.{group_of}
@@ -21,25 +20,11 @@ use Rattle.lt_types.specs.Scoping.{oldest, since, declared_since, with_oldest_na
 use Rattle.lt_types.specs.Answer.{Leads}
 use Rattle.lt_types.specs.declared.refusal.TypeRefusal.{TypeRefusal}
 use Rattle.lt_types.proofs.Leading.{Leads_more}
-use Rattle.lt_types.proofs.Stacks.{drop_next}
+use Rattle.lt_types.proofs.Stacks.{drop_next, oldest_all, oldest_more, since_more}
 
--- LISTS THAT GROW
+-- NAMES
 
--- with one more
-oldest_push : {X : Type 0} (count : ℕ) (x : X) (xs : List X) → count ≤ length xs → oldest count (x ∷ xs) ≡ oldest count xs
-oldest_push count x xs h =
-    let less : suc (length xs) - count ≡ suc (length xs - count) = omega arith in
-    ap (λ k. drop k (x ∷ xs)) less
-
-since_push : {X : Type 0} (from : ℕ) (x : X) (xs : List X) → from ≤ length xs → since from (x ∷ xs) ≡ x ∷ since from xs
-since_push from x xs h =
-    let less : suc (length xs) - from ≡ suc (length xs - from) = omega arith in
-    ap (λ k. take k (x ∷ xs)) less
-
--- the whole and nothing
-oldest_whole : {X : Type 0} (xs : List X) → oldest (length xs) xs ≡ xs
-oldest_whole xs = let none : length xs - length xs ≡ 0 = omega arith in ap (λ k. drop k xs) none
-
+-- none yet
 since_nothing : {X : Type 0} (xs : List X) → since (length xs) xs ≡ []
 since_nothing xs = let none : length xs - length xs ≡ 0 = omega arith in ap (λ k. take k xs) none
 
@@ -52,14 +37,14 @@ bindings_more entry (w ∷ ws) names = omega (arith, bindings_more entry ws (rec
 bindings_oldest : (count : ℕ) (entry : Entry) (ws : List Word) (names : List Binding) → count ≤ length names → oldest count (with_bindings entry ws names) ≡ oldest count names
 bindings_oldest count entry [] names h = refl
 bindings_oldest count entry (w ∷ ws) names h =
-    bindings_oldest count entry ws (record { name = w.text; entry = entry } ∷ names) (omega arith) ∙ oldest_push count (record { name = w.text; entry = entry }) names h
+    bindings_oldest count entry ws (record { name = w.text; entry = entry } ∷ names) (omega arith) ∙ oldest_more count (record { name = w.text; entry = entry }) names h
 
 bindings_since : (from : ℕ) (entry : Entry) (ws : List Word) (names : List Binding) → from ≤ length names
     → map (λ (b : Binding). b.name) (since from (with_bindings entry ws names)) ≡ with_names ws (map (λ (b : Binding). b.name) (since from names))
 bindings_since from entry [] names h = refl
 bindings_since from entry (w ∷ ws) names h =
     bindings_since from entry ws (record { name = w.text; entry = entry } ∷ names) (omega arith)
-    ∙ ap (λ l. with_names ws (map (λ (b : Binding). b.name) l)) (since_push from (record { name = w.text; entry = entry }) names h)
+    ∙ ap (λ l. with_names ws (map (λ (b : Binding). b.name) l)) (since_more from (record { name = w.text; entry = entry }) names h)
 
 -- GROUPS
 
@@ -103,11 +88,11 @@ exceptions_nothing names = since_nothing names
 
 -- behind groups
 pub groups_end : (role : Role) (env : Environment) (gs : Groupings) → with_oldest_names (length env.names) (with_groups role env gs) ≡ env
-groups_end role env gs = groups_oldest (length env.names) role env gs (omega arith) ∙ ap (λ names. record env { names = names }) (oldest_whole env.names)
+groups_end role env gs = groups_oldest (length env.names) role env gs (omega arith) ∙ ap (λ names. record env { names = names }) (oldest_all env.names)
 
 -- behind parameters
 pub parameters_end : (env : Environment) (ps : Parameters) → with_oldest_names (length env.names) (with_parameters env ps) ≡ env
-parameters_end env s.no_parameters = ap (λ names. record env { names = names }) (oldest_whole env.names)
+parameters_end env s.no_parameters = ap (λ names. record env { names = names }) (oldest_all env.names)
 parameters_end env (s.parameters gs) = groups_end e.parameters env gs
 
 pub parameters_more : (env : Environment) (ps : Parameters) → length env.names ≤ length (with_parameters env ps).names
@@ -116,7 +101,7 @@ parameters_more env (s.parameters gs) = groups_more e.parameters env gs
 
 -- behind a macro
 pub macro_end : (env : Environment) (m : Macro) → with_oldest_names (length env.names) (with_macro env m) ≡ env
-macro_end env (s.macro w ps kind m) = ap (λ names. record env { names = names }) (oldest_push (length env.names) _ env.names (omega arith) ∙ oldest_whole env.names)
+macro_end env (s.macro w ps kind m) = ap (λ names. record env { names = names }) (oldest_more (length env.names) _ env.names (omega arith) ∙ oldest_all env.names)
 
 pub macro_more : (env : Environment) (m : Macro) → length env.names ≤ length (with_macro env m).names
 macro_more env (s.macro w ps kind m) = omega arith
@@ -128,10 +113,10 @@ names_more (w ∷ ws) names = omega (arith, names_more ws (w.text ∷ names))
 
 names_oldest : (count : ℕ) (ws : List Word) (names : List (List ℕ)) → count ≤ length names → oldest count (with_names ws names) ≡ oldest count names
 names_oldest count [] names h = refl
-names_oldest count (w ∷ ws) names h = names_oldest count ws (w.text ∷ names) (omega arith) ∙ oldest_push count w.text names h
+names_oldest count (w ∷ ws) names h = names_oldest count ws (w.text ∷ names) (omega arith) ∙ oldest_more count w.text names h
 
 pub exceptions_end : (env : Environment) (ws : List Word) → with_oldest_exceptions (length env.exceptions) (with_exceptions env ws) ≡ env
-exceptions_end env ws = ap (λ names. record env { exceptions = names }) (names_oldest (length env.exceptions) ws env.exceptions (omega arith) ∙ oldest_whole env.exceptions)
+exceptions_end env ws = ap (λ names. record env { exceptions = names }) (names_oldest (length env.exceptions) ws env.exceptions (omega arith) ∙ oldest_all env.exceptions)
 
 pub exceptions_more : (env : Environment) (ws : List Word) → length env.exceptions ≤ length (with_exceptions env ws).exceptions
 exceptions_more env ws = names_more ws env.exceptions
@@ -183,11 +168,6 @@ pub ruleset groups_steps = (groups_read, groups_refusals_list, with_groups_list,
 pub first_known : (kind : TypeName) (env : Environment) (first : MaybeExp) → first_wanted kind env first ≡ first_judged kind (first_type env first) first
 first_known kind env s.no_exp = refl
 first_known kind env (s.an_exp x) = refl
-
--- parameters, where there is a list of them
-pub parameters_seen : (o : Option Groups) → parameters_held (back-MacroDecl-params o) ≡ parameters_view o
-parameters_seen None = refl
-parameters_seen (Some g) = refl
 
 -- the parameters of a list
 pub groups_parameters_list : (g : Groups) → e.groups_parameters (groupings g) ≡ e.groups_parameters (groups_of (map group_of (out-Groups g).items.items))

@@ -24,33 +24,25 @@ oldest_turned {X} count xs h =
     let front : length (reverse (drop count xs)) ≡ length (reverse xs) - count = omega (arith, ap length parts, length-append (reverse (drop count xs)) (reverse (take count xs)), length-reverse (take count xs), length-take-le count xs h) in
     ap (λ l. drop (length (reverse xs) - count) l) parts ∙ drop_at (reverse (drop count xs)) (reverse (take count xs)) (length (reverse xs) - count) front
 
--- one step of a search from the newest to the oldest
-pub newest_more : {X : Type 0} (f : X → List ℕ) (xs : List X) (i : ℕ) (d : X) (name : List ℕ) → i < length xs
-    → newest (reverse (map f (take (i + 1) xs))) name ≡ (if bytes_eq name (f (get_or xs i d)) then Some i else newest (reverse (map f (take i xs))) name)
-newest_more f xs i d name h =
-    let step : reverse (map f (take (i + 1) xs)) ≡ f (get_or xs i d) ∷ reverse (map f (take i xs)) = ap reverse (map_more f xs i d h) ∙ turned (map f (take i xs)) (f (get_or xs i d)) in
-    let count : length (reverse (map f (take i xs))) ≡ i = length-reverse (map f (take i xs)) ∙ length-map (take i xs) f ∙ length-take-le i xs (omega arith) in
-    ap (λ names. newest names name) step ∙ ap (λ n. if bytes_eq name (f (get_or xs i d)) then Some n else newest (reverse (map f (take i xs))) name) count
-
 -- what is left of a stack
 pub oldest_taken : {X Y : Type 0} (f : X → Y) (count : ℕ) (xs : List X) → count ≤ length (reverse (map f xs)) → reverse (map f (take count xs)) ≡ oldest count (reverse (map f xs))
 oldest_taken f count xs h =
     ap reverse (sym (take-map f count xs)) ∙ sym (oldest_turned count (map f xs) (omega (arith, length-reverse (map f xs))))
 
--- with one more name
-pub since_more : (from : ℕ) (n : List ℕ) (ns : List (List ℕ)) → from ≤ length ns → since from (n ∷ ns) ≡ n ∷ since from ns
-since_more from n ns h =
-    let less : suc (length ns) - from ≡ suc (length ns - from) = omega arith in
-    ap (λ k. take k (n ∷ ns)) less
+-- with one more
+pub since_more : {X : Type 0} (from : ℕ) (x : X) (xs : List X) → from ≤ length xs → since from (x ∷ xs) ≡ x ∷ since from xs
+since_more from x xs h =
+    let less : suc (length xs) - from ≡ suc (length xs - from) = omega arith in
+    ap (λ k. take k (x ∷ xs)) less
 
-pub oldest_more : (count : ℕ) (n : List ℕ) (ns : List (List ℕ)) → count ≤ length ns → oldest count (n ∷ ns) ≡ oldest count ns
-oldest_more count n ns h =
-    let less : suc (length ns) - count ≡ suc (length ns - count) = omega arith in
-    ap (λ k. drop k (n ∷ ns)) less
+pub oldest_more : {X : Type 0} (count : ℕ) (x : X) (xs : List X) → count ≤ length xs → oldest count (x ∷ xs) ≡ oldest count xs
+oldest_more count x xs h =
+    let less : suc (length xs) - count ≡ suc (length xs - count) = omega arith in
+    ap (λ k. drop k (x ∷ xs)) less
 
 -- all of them are left
-pub oldest_all : (ns : List (List ℕ)) → oldest (length ns) ns ≡ ns
-oldest_all ns = let none : length ns - length ns ≡ 0 = omega arith in ap (λ k. drop k ns) none
+pub oldest_all : {X : Type 0} (xs : List X) → oldest (length xs) xs ≡ xs
+oldest_all xs = let none : length xs - length xs ≡ 0 = omega arith in ap (λ k. drop k xs) none
 
 pub ruleset stack_steps = (since_more, oldest_more, oldest_all)
 

@@ -1,7 +1,6 @@
 -- The lists of a trace, as the code has them.
-use Rattle.std.proofs.Common.{◌≡◌, ◌<◌, ℕ, List, [], ◌∷◌, ◌++◌, Bool, Vec, Global, Result, Ok, Err, map, drop, length, get_or, refl, ap, sym, subst, ◌∙◌}
+use Rattle.std.proofs.Common.{◌≡◌, List, Vec, Global, Result, map, ap, sym, subst, ◌∙◌}
 use Rattle.lt_ast.specs.Lists.{traces_of, alternatives_of}
-use Rattle.lt_ast.specs.Syntax as s
 use Rattle.lt_ast.specs.View.{trace, trace_row, alternatives}
 use Rattle.lt_ast.specs.declared.expr.Arg.TheBlock.{hidden-the_row-TraceExpr-1}
 use Rattle.lt_ast.specs.declared.trace.TraceExpr.{TraceExpr}

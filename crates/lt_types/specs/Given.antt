@@ -1,5 +1,5 @@
 -- What the code has of a construct: arguments and first values with their types and places, and which traces have names.
-use Rattle.std.specs.Prelude.{Bool, true, false, List, [], map}
+use Rattle.std.specs.Prelude.{List, [], map}
 use Rattle.std.specs.declared.option.Option.{Option}
 use Rattle.std.specs.declared.option.Option.TheVariants.{None, Some}
 use Rattle.lt_ast.specs.declared.group.TypeName.{TypeName}
@@ -15,7 +15,7 @@ use Rattle.lt_ast.specs.View.{argument, groupings, trace, word}
 use Rattle.lt_types.specs.Environment.{Environment}
 use Rattle.lt_types.specs.declared.refusal.TypeRefusal.{TypeRefusal}
 use Rattle.lt_types.specs.Operators.{same_type}
-use Rattle.lt_types.specs.Refusals.{span_of, type_of, typed, is_variable}
+use Rattle.lt_types.specs.Refusals.{span_of, type_of, typed}
 
 -- a name, with its arguments where it has a list of them
 abbrev pub used : Word → Option Args → Exp
@@ -31,11 +31,6 @@ argument_type env (s.trace_argument b at) = Some t.Trace
 abbrev pub argument_span : Argument → Span
 argument_span (s.value_argument e) = span_of e
 argument_span (s.trace_argument b at) = at
-
--- whether an argument is the name of a variable of this type
-abbrev pub is_variable_argument : Environment → Argument → TypeName → Bool
-is_variable_argument env (s.value_argument e) kind = is_variable env e kind
-is_variable_argument env (s.trace_argument b at) kind = false
 
 -- the type of a first value, where there is one
 abbrev pub first_type : Environment → MaybeExp → Option TypeName

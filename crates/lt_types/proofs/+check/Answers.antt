@@ -1,4 +1,4 @@
-use Rattle.std.proofs.Common.{rules, arith, sym, subst, ap, ◌∙◌}
+use Rattle.std.proofs.Common.{rules, sym, subst, ap, ◌∙◌}
 use Rattle.lt_ast.specs.declared.expr.Arg.TheFolds.{the_lemmas}
 use Rattle.lt_ast.specs.Rows.{group_of}
 use Rattle.lt_ast.specs.View.{braced, exp, trace}
