@@ -5,7 +5,7 @@ use Rattle.lt_ast.specs.Syntax as s
 use Rattle.lt_ast.specs.Syntax.{Word, Exp, Macro}
 use Rattle.lt_types.specs.Environment.{Environment, Entry, variable, parameter, macro, found, is_among}
 use Rattle.lt_types.specs.Typing.{StandsFor, AreNew, IsVariable, IsException, IsNewMacro}
-use Rattle.lt_types.specs.Refusals.{unless, known, alone, before, entry_type, new, new_macro, known_exception, is_variable, is_variable_entry, exp_refusals}
+use Rattle.lt_types.specs.Refusals.{unless, known, alone, behind_pre, entry_type, new_names, new_macro, known_exception, is_variable, is_variable_entry, exp_refusals}
 use Rattle.lt_types.specs.declared.refusal.TypeRefusal.{TypeRefusal}
 use Rattle.lt_types.specs.declared.refusal.TypeRefusal.TheVariants.{Unknown, Twice}
 use Rattle.lt_types.proofs.Agreeing.{Agrees, Types, none, never, test, both, only, same-refl, same-is, unless_back, unless_clean, nil_right}
@@ -26,20 +26,20 @@ named_types w (Some (macro (p ∷ ps) k)) = no_type _ _ _
 variable-type : (o : Option Entry) (k : TypeName) → o ≡ Some (variable k) → option_map entry_type o ≡ Some k
 variable-type o k e = ap (option_map entry_type) e
 
-variable-known : (w : Word) (o : Option Entry) (k : TypeName) → o ≡ Some (variable k) → known w o ++ before w o ≡ []
-variable-known w o k e = ap (λ x. known w x ++ before w x) e
+variable-known : (w : Word) (o : Option Entry) (k : TypeName) → o ≡ Some (variable k) → known w o ++ behind_pre w o ≡ []
+variable-known w o k e = ap (λ x. known w x ++ behind_pre w x) e
 
 pub macro-type : (o : Option Entry) (ps : _) (k : TypeName) → o ≡ Some (macro ps k) → option_map entry_type o ≡ Some k
 macro-type o ps k e = ap (option_map entry_type) e
 
 -- a name behind `pre`
-pre_back : (w : Word) (o : Option Entry) → known w o ++ before w o ≡ [] → (k : TypeName) × (o ≡ Some (variable k))
+pre_back : (w : Word) (o : Option Entry) → known w o ++ behind_pre w o ≡ [] → (k : TypeName) × (o ≡ Some (variable k))
 pre_back w None e = absurd (cc)
 pre_back w (Some (variable k)) e = (k, refl)
 pre_back w (Some (parameter k)) e = absurd (cc)
 pre_back w (Some (macro ps k)) e = absurd (cc)
 
-pub pre_types : (w : Word) (o : Option Entry) → Types (λ kind. o ≡ Some (variable kind)) (known w o ++ before w o) (option_map entry_type o)
+pub pre_types : (w : Word) (o : Option Entry) → Types (λ kind. o ≡ Some (variable kind)) (known w o ++ behind_pre w o) (option_map entry_type o)
 pre_types w o = record { clean = λ k h. variable-known w o k h; is_shown = λ k h. variable-type o k h; back = pre_back w o }
 
 -- the name of a variable of a type
@@ -67,7 +67,7 @@ variable_agrees env (s.binary op e f at) kind r = never (exp_refusals env (s.bin
 variable_agrees env (s.choose c e f at) kind r = never (exp_refusals env (s.choose c e f at)) r
 
 -- names that are declared
-pub new_agrees : (taken : List (List ℕ)) (ws : List Word) → Agrees (AreNew taken ws) (new taken ws)
+pub new_agrees : (taken : List (List ℕ)) (ws : List Word) → Agrees (AreNew taken ws) (new_names taken ws)
 new_agrees taken [] = none
 new_agrees taken (w ∷ ws) = both (test (not (is_among w.text taken)) (Twice w.span)) (new_agrees (w.text ∷ taken) ws)
 

@@ -15,7 +15,7 @@ use Rattle.lt_types.specs.Environment.{Environment, macro}
 use Rattle.lt_types.specs.Given.{used}
 use Rattle.lt_types.specs.Readable.{InExp}
 use Rattle.lt_types.specs.Operators.{same_type, serves_as}
-use Rattle.lt_types.specs.Refusals.{span_of, alone, as_many, fit}
+use Rattle.lt_types.specs.Refusals.{span_of, alone, as_many, arguments_misfit}
 use Rattle.lt_types.specs.Answer.{Leads, first}
 use Rattle.lt_types.specs.Scoping.{param_view}
 use Rattle.lt_types.specs.declared.entry.Param.{Param}
@@ -65,7 +65,7 @@ alone_many w [] k h = absurd (omega arith)
 alone_many w (p ∷ ps) k h = first (Arity w.span) []
 
 -- without parameters no argument is judged
-pub fit_none : (env : Environment) (args : Arguments) (ps : List Param) → length ps ≤ 0 → fit env args (map param_view ps) ≡ []
-fit_none env s.no_arguments ps h = refl
-fit_none env (s.argument a rest) [] h = refl
-fit_none env (s.argument a rest) (p ∷ ps) h = absurd (omega arith)
+pub arguments_misfit_none : (env : Environment) (args : Arguments) (ps : List Param) → length ps ≤ 0 → arguments_misfit env args (map param_view ps) ≡ []
+arguments_misfit_none env s.no_arguments ps h = refl
+arguments_misfit_none env (s.argument a rest) [] h = refl
+arguments_misfit_none env (s.argument a rest) (p ∷ ps) h = absurd (omega arith)

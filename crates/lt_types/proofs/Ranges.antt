@@ -11,8 +11,8 @@ use Rattle.lt_num.specs.declared.fault.Arith.TheVariants.{Overflow}
 use Rattle.lt_num.specs.declared.fixed.Fixed.{Fixed}
 use Rattle.lt_num.proofs.AnswerLemmas.{is_rounded, rounded_is, ten-not_zero}
 use Rattle.lt_types.specs.Literal.{figure_type, figure_text, raw_of}
-use Rattle.lt_types.specs.Typing.{IsRange, HasRange}
-use Rattle.lt_types.specs.Refusals.{unless, end_type, end_size, order, range_of, range_refusals}
+use Rattle.lt_types.specs.Typing.{IsRange, IsGroupRange}
+use Rattle.lt_types.specs.Refusals.{unless, end_type, end_size, in_order, range_of, range_refusals}
 use Rattle.lt_types.specs.declared.refusal.TypeRefusal.TheVariants.{Mismatch, RangeTooLarge}
 use Rattle.lt_types.specs.Answer.{Leads, first}
 use Rattle.lt_types.proofs.Agreeing.{Agrees, none, same, nil_both, nil_left, nil_right, nil_or_else, or_else_left, or_else_right, unless_clean, unless_back}
@@ -92,7 +92,7 @@ range_back decimals kind range e =
     let types : end_type kind range.low ++ end_type kind range.high ≡ [] = or_else_left (end_type kind range.low ++ end_type kind range.high) _ e in
     let rest = or_else_right (end_type kind range.low ++ end_type kind range.high) _ e in
     let sizes : end_size decimals range.low ++ end_size decimals range.high ≡ [] = or_else_left (end_size decimals range.low ++ end_size decimals range.high) _ rest in
-    let last : order decimals range ≡ [] = or_else_right (end_size decimals range.low ++ end_size decimals range.high) _ rest in
+    let last : in_order decimals range ≡ [] = or_else_right (end_size decimals range.low ++ end_size decimals range.high) _ rest in
     record {
       low_type = (same (figure_type range.low) kind (Mismatch range.low.span)).back (nil_left (end_type kind range.low) _ types);
       high_type = (same (figure_type range.high) kind (Mismatch range.high.span)).back (nil_right (end_type kind range.low) _ types);
@@ -107,7 +107,7 @@ range_agrees : (decimals : ℕ) (kind : TypeName) (range : Interval) → Agrees 
 range_agrees decimals kind range = record { clean = range_clean decimals kind range; back = range_back decimals kind range }
 
 -- the range of a group
-pub group_range_agrees : (decimals : ℕ) (kind : TypeName) (range : Option Interval) → Agrees (HasRange decimals kind range) (range_refusals decimals kind range)
+pub group_range_agrees : (decimals : ℕ) (kind : TypeName) (range : Option Interval) → Agrees (IsGroupRange decimals kind range) (range_refusals decimals kind range)
 group_range_agrees decimals kind None = none
 group_range_agrees decimals t.Bool (Some range) = none
 group_range_agrees decimals t.Int (Some range) = range_agrees 0 t.Int range

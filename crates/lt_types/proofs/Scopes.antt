@@ -188,6 +188,6 @@ pub macro_params_first : (env : Environment) (d : MacroDecl) (r : TypeRefusal) �
 macro_params_first env d r h = subst (λ m. Leads r (macro_refusals env m)) (sym (macro_parts d)) (Leads_more _ h)
 
 -- behind a node
-pub sides_end : (env : Environment) (ins outs : Groupings) → with_oldest_names (length env.names) (e.with_sides env ins outs) ≡ env
-sides_end env ins outs =
+pub inputs_and_outputs_end : (env : Environment) (ins outs : Groupings) → with_oldest_names (length env.names) (e.with_inputs_and_outputs env ins outs) ≡ env
+inputs_and_outputs_end env ins outs =
     groups_oldest (length env.names) variables (with_groups variables env ins) outs (groups_more variables env ins) ∙ groups_end variables env ins

@@ -8,7 +8,7 @@ use Rattle.lt_types.specs.Environment.{Binding, is_among, found}
 use Rattle.lt_ast.specs.declared.name.Name.{Name}
 use Rattle.lt_ast.specs.View.{word}
 use Rattle.lt_types.specs.Answer.{Leads, first}
-use Rattle.lt_types.specs.Refusals.{new, unless}
+use Rattle.lt_types.specs.Refusals.{new_names, unless}
 use Rattle.lt_types.specs.declared.entry.Entry.{Entry}
 use Rattle.lt_types.specs.declared.refusal.TypeRefusal.TheVariants.{Twice}
 use Rattle.lt_types.specs.Scoping.{newest, oldest, since, bindings, entry_view}
@@ -233,16 +233,16 @@ drop_next xs i x h is = drop_more xs i x h ∙ ap (λ y. y ∷ drop (i + 1) xs) 
 
 -- one that is taken is refused first
 pub new_taken : (taken : List (List ℕ)) (items : List Name) (i : ℕ) (x : Name) → i < length items → x ≡ get_or items i x → is_among (string_bytes x.text) taken ≡ true
-    → Leads (Twice x.span) (new taken (map word (drop i items)))
+    → Leads (Twice x.span) (new_names taken (map word (drop i items)))
 new_taken taken items i x h is e =
-    let among : new taken (map word (x ∷ drop (i + 1) items)) ≡ Twice x.span ∷ new (string_bytes x.text ∷ taken) (map word (drop (i + 1) items)) = ap (λ b. unless (not b) (Twice x.span) ++ new (string_bytes x.text ∷ taken) (map word (drop (i + 1) items))) e in
-    subst (λ rs. Leads (Twice x.span) rs) (sym (ap (λ l. new taken (map word l)) (drop_next items i x h is) ∙ among)) (first (Twice x.span) _)
+    let among : new_names taken (map word (x ∷ drop (i + 1) items)) ≡ Twice x.span ∷ new_names (string_bytes x.text ∷ taken) (map word (drop (i + 1) items)) = ap (λ b. unless (not b) (Twice x.span) ++ new_names (string_bytes x.text ∷ taken) (map word (drop (i + 1) items))) e in
+    subst (λ rs. Leads (Twice x.span) rs) (sym (ap (λ l. new_names taken (map word l)) (drop_next items i x h is) ∙ among)) (first (Twice x.span) _)
 
 -- one that is not counts among the taken ones from there on
 pub new_free : (taken : List (List ℕ)) (items : List Name) (i : ℕ) (x : Name) → i < length items → x ≡ get_or items i x → is_among (string_bytes x.text) taken ≡ false
-    → new taken (map word (drop i items)) ≡ new (string_bytes x.text ∷ taken) (map word (drop (i + 1) items))
+    → new_names taken (map word (drop i items)) ≡ new_names (string_bytes x.text ∷ taken) (map word (drop (i + 1) items))
 new_free taken items i x h is e =
-    ap (λ l. new taken (map word l)) (drop_next items i x h is)
-    ∙ ap (λ b. unless (not b) (Twice x.span) ++ new (string_bytes x.text ∷ taken) (map word (drop (i + 1) items))) e
+    ap (λ l. new_names taken (map word l)) (drop_next items i x h is)
+    ∙ ap (λ b. unless (not b) (Twice x.span) ++ new_names (string_bytes x.text ∷ taken) (map word (drop (i + 1) items))) e
 
 pub ruleset new_steps = (new_taken, new_free, since_more, oldest_more, oldest_all)

@@ -4,11 +4,11 @@ use Rattle.lt_ast.specs.declared.group.TypeName.{TypeName}
 use Rattle.lt_ast.specs.declared.group.TypeName.TheVariants as t
 use Rattle.lt_ast.specs.Syntax as s
 use Rattle.lt_ast.specs.Syntax.{Word, Exp, Argument, Arguments, Limits, Braces, Alternative, Alternatives, Trace, Traces, Grouping, Groupings, MaybeExp, MaybeTrace, Parameters, Meaning, Macro, Declaration}
-use Rattle.lt_types.specs.Environment.{Environment, at_start, Entry, variable, parameter, macro, Parameter, by_value, by_ref, found, Role, variables, parameters, with_group, with_groups, with_group_names, with_groups_names, with_parameters, with_macro, with_exceptions, with_declaration, with_sides}
+use Rattle.lt_types.specs.Environment.{Environment, at_start, Entry, variable, parameter, macro, Parameter, by_value, by_ref, found, Role, variables, parameters, with_group, with_groups, with_group_names, with_groups_names, with_parameters, with_macro, with_exceptions, with_declaration, with_inputs_and_outputs}
 use Rattle.lt_types.specs.Operators.{serves_as, unary_takes, unary_gives, binary_takes, binary_gives}
 use Rattle.lt_types.specs.Literal.{figure_type}
-use Rattle.lt_types.specs.Typing.{HasType, Fits, Fit, AreLimits, IsBraced, IsAlternative, AreAlternatives, AreTraces, IsGroup, AreGroups, IsFirst, IsHandler, AreParameters, IsMeaning, IsMacro, IsTrace, IsDeclaration, AreDeclarations, IsWellTyped, may_be_written, has_node}
-use Rattle.lt_types.specs.Refusals.{unless, span_of, entry_type, type_of, known, applied, fits, fit, as_many, first_wanted, first_place, exp_refusals, argument_refusals, arguments_refusals, limits_refusals, braces_refusals, alternative_refusals, alternatives_refusals, traces_refusals, group_refusals, groups_refusals, first_refusals, handler_refusals, parameters_refusals, meaning_refusals, macro_refusals, trace_refusals, declaration_refusals, declarations_refusals, type_refusals}
+use Rattle.lt_types.specs.Typing.{HasType, ArgumentFits, ArgumentsFit, AreLimits, IsBraced, IsAlternative, AreAlternatives, AreTraces, IsGroup, AreGroups, IsFirst, IsHandler, AreParameters, IsMeaning, IsMacro, IsTrace, IsDeclaration, AreDeclarations, IsWellTyped, may_be_written, has_node}
+use Rattle.lt_types.specs.Refusals.{unless, span_of, entry_type, type_of, known, applied, argument_misfit, arguments_misfit, as_many, first_wanted, first_place, exp_refusals, argument_refusals, arguments_refusals, limits_refusals, braces_refusals, alternative_refusals, alternatives_refusals, traces_refusals, group_refusals, groups_refusals, first_refusals, handler_refusals, parameters_refusals, meaning_refusals, macro_refusals, trace_refusals, declaration_refusals, declarations_refusals, type_refusals}
 use Rattle.lt_types.specs.Law.{TypesAreOne, WellTypedIsUnrefused}
 use Rattle.lt_types.specs.declared.refusal.TypeRefusal.{TypeRefusal}
 use Rattle.lt_types.specs.declared.refusal.TypeRefusal.TheVariants.{Mismatch, Arity, NoNode}
@@ -18,11 +18,11 @@ use Rattle.lt_types.proofs.Ranges.{group_range_agrees}
 
 -- what is judged of arguments, where the refusal for another number of them is this
 abbrev arguments_list : Environment → Arguments → List Parameter → TypeRefusal → List TypeRefusal
-arguments_list env args ps r = arguments_refusals env args ++ (unless (as_many args ps) r ++ fit env args ps)
+arguments_list env args ps r = arguments_refusals env args ++ (unless (as_many args ps) r ++ arguments_misfit env args ps)
 
 -- a name with arguments, by what it stands for
-used : (env : Environment) (w : Word) (args : Arguments) → ((ps : List Parameter) (r : TypeRefusal) → Agrees (Fit env args ps) (arguments_list env args ps r)) → (o : Option Entry)
-    → Types (λ kind. (ps : List Parameter) × (o ≡ Some (macro ps kind)) × Fit env args ps) (known w o ++ (arguments_refusals env args ++ applied env w args o)) (option_map entry_type o)
+used : (env : Environment) (w : Word) (args : Arguments) → ((ps : List Parameter) (r : TypeRefusal) → Agrees (ArgumentsFit env args ps) (arguments_list env args ps r)) → (o : Option Entry)
+    → Types (λ kind. (ps : List Parameter) × (o ≡ Some (macro ps kind)) × ArgumentsFit env args ps) (known w o ++ (arguments_refusals env args ++ applied env w args o)) (option_map entry_type o)
 used env w args a None = record { clean = λ k h. let e = h.1 in absurd (cc); is_shown = λ k h. let e = h.1 in cc; back = λ e. absurd (cc) }
 used env w args a (Some (variable k)) = record {
   clean = λ kind h. let e = h.1 in absurd (cc);
@@ -35,7 +35,7 @@ used env w args a (Some (parameter k)) = record {
   back = λ e. let f : Arity w.span ∷ [] ≡ [] = nil_right (arguments_refusals env args) _ e in absurd (cc);
 }
 used env w args a (Some (macro qs k)) = record {
-  clean = λ kind h. let e = h.1 in let same_list : h.0 ≡ qs = cc in (a qs (Arity w.span)).clean (subst (Fit env args) same_list h.2);
+  clean = λ kind h. let e = h.1 in let same_list : h.0 ≡ qs = cc in (a qs (Arity w.span)).clean (subst (ArgumentsFit env args) same_list h.2);
   is_shown = λ kind h. let e = h.1 in cc;
   back = λ e. (k, (qs, refl, (a qs (Arity w.span)).back e));
 }
@@ -52,18 +52,18 @@ mutual
   exp_types env (s.binary op e f at) = with_two (binary_takes op) (binary_gives op) at (exp_types env e) (exp_types env f)
   exp_types env (s.choose c e f at) = with_choice at (exp_types env c) (exp_types env e) (exp_types env f)
 
-  argument_agrees : (env : Environment) (a : Argument) (p : Parameter) → Agrees (Fits env a p) (argument_refusals env a ++ fits env a p)
+  argument_agrees : (env : Environment) (a : Argument) (p : Parameter) → Agrees (ArgumentFits env a p) (argument_refusals env a ++ argument_misfit env a p)
   argument_agrees env (s.value_argument e) (by_value kind) = tested (λ k. serves_as k kind) (span_of e) (exp_types env e)
   argument_agrees env (s.value_argument e) (by_ref kind) = variable_agrees env e kind (Mismatch (span_of e))
   argument_agrees env (s.trace_argument b at) (by_value kind) = both (braces_agree env b) (same kind t.Trace (Mismatch at))
   argument_agrees env (s.trace_argument b at) (by_ref kind) = never (braces_refusals env b) (Mismatch at)
 
-  arguments_agree : (env : Environment) (args : Arguments) (ps : List Parameter) (r : TypeRefusal) → Agrees (Fit env args ps) (arguments_list env args ps r)
+  arguments_agree : (env : Environment) (args : Arguments) (ps : List Parameter) (r : TypeRefusal) → Agrees (ArgumentsFit env args ps) (arguments_list env args ps r)
   arguments_agree env s.no_arguments [] r = none
   arguments_agree env s.no_arguments (p ∷ ps) r = never [] r
   arguments_agree env (s.argument a rest) [] r = never (argument_refusals env a ++ arguments_refusals env rest) r
   arguments_agree env (s.argument a rest) (p ∷ ps) r =
-      one_more (argument_refusals env a) (fits env a p) (arguments_refusals env rest) (unless (as_many rest ps) r) (fit env rest ps) (argument_agrees env a p) (arguments_agree env rest ps r)
+      one_more (argument_refusals env a) (argument_misfit env a p) (arguments_refusals env rest) (unless (as_many rest ps) r) (arguments_misfit env rest ps) (argument_agrees env a p) (arguments_agree env rest ps r)
 
   limits_agree : (env : Environment) (l : Limits) → Agrees (AreLimits env l) (limits_refusals env l)
   limits_agree env s.forever = none
@@ -131,7 +131,7 @@ mutual
 
 declaration_agrees : (env : Environment) (d : Declaration) → Agrees (IsDeclaration env d) (declaration_refusals env d)
 declaration_agrees env (s.node w ins outs x) =
-    all_four (new_agrees env.nodes (w ∷ [])) (groups_agree variables env [] ins) (groups_agree variables (with_groups variables env ins) (with_groups_names ins []) outs) (trace_agrees (with_sides env ins outs) x)
+    all_four (new_agrees env.nodes (w ∷ [])) (groups_agree variables env [] ins) (groups_agree variables (with_groups variables env ins) (with_groups_names ins []) outs) (trace_agrees (with_inputs_and_outputs env ins outs) x)
 declaration_agrees env (s.macro_declaration m) = both (new_macro_agrees env m) (macro_agrees env m)
 declaration_agrees env (s.exception_declaration ws) = new_agrees env.exceptions ws
 

@@ -126,5 +126,5 @@ with_declaration env (s.macro_declaration m) = with_macro env m
 with_declaration env (s.exception_declaration ws) = with_exceptions env ws
 
 -- what is known in the body of a node
-abbrev pub with_sides : Environment → Groupings → Groupings → Environment
-with_sides env ins outs = with_groups variables (with_groups variables env ins) outs
+abbrev pub with_inputs_and_outputs : Environment → Groupings → Groupings → Environment
+with_inputs_and_outputs env ins outs = with_groups variables (with_groups variables env ins) outs

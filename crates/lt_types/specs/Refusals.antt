@@ -14,7 +14,7 @@ use Rattle.lt_ast.specs.declared.group.TypeName.TheVariants as t
 use Rattle.lt_ast.specs.Syntax as s
 use Rattle.lt_ast.specs.Syntax.{Word, Figure, Interval, Exp, Argument, Arguments, Limits, Braces, Alternative, Alternatives, Trace, Traces, Grouping, Groupings, MaybeExp, MaybeTrace, Parameters, Meaning, Macro, Declaration}
 use Rattle.lt_num.specs.Answer.{most}
-use Rattle.lt_types.specs.Environment.{Parameter, by_value, by_ref, Entry, variable, parameter, macro, Environment, at_start, found, is_among, Role, variables, parameters, with_group, with_groups, with_group_names, with_groups_names, with_parameters, with_macro, with_exceptions, with_declaration, with_sides}
+use Rattle.lt_types.specs.Environment.{Parameter, by_value, by_ref, Entry, variable, parameter, macro, Environment, at_start, found, is_among, Role, variables, parameters, with_group, with_groups, with_group_names, with_groups_names, with_parameters, with_macro, with_exceptions, with_declaration, with_inputs_and_outputs}
 use Rattle.lt_types.specs.Operators.{is_value, same_type, serves_as, unary_takes, binary_takes, unary_gives, binary_gives}
 use Rattle.lt_types.specs.Literal.{figure_type, raw_of}
 use Rattle.lt_types.specs.Typing.{may_be_written, has_node}
@@ -95,20 +95,20 @@ alone w (Some (macro [] k)) = []
 alone w (Some (macro (p ∷ ps) k)) = Arity w.span ∷ []
 
 -- a name behind `pre` is that of a variable
-abbrev pub before : Word → Option Entry → List TypeRefusal
-before w None = []
-before w (Some (variable k)) = []
-before w (Some (parameter k)) = PreOfExpression w.span ∷ []
-before w (Some (macro ps k)) = PreOfExpression w.span ∷ []
+abbrev pub behind_pre : Word → Option Entry → List TypeRefusal
+behind_pre w None = []
+behind_pre w (Some (variable k)) = []
+behind_pre w (Some (parameter k)) = PreOfExpression w.span ∷ []
+behind_pre w (Some (macro ps k)) = PreOfExpression w.span ∷ []
 
 -- the name of an exception is known
 abbrev pub known_exception : Environment → Word → List TypeRefusal
 known_exception env w = unless (is_among w.text env.exceptions) (Unknown w.span)
 
 -- each of these names is neither taken nor a second one
-abbrev pub new : List (List ℕ) → List Word → List TypeRefusal
-new taken [] = []
-new taken (w ∷ ws) = unless (not (is_among w.text taken)) (Twice w.span) ++ new (w.text ∷ taken) ws
+abbrev pub new_names : List (List ℕ) → List Word → List TypeRefusal
+new_names taken [] = []
+new_names taken (w ∷ ws) = unless (not (is_among w.text taken)) (Twice w.span) ++ new_names (w.text ∷ taken) ws
 
 -- a name stands for a variable of this type
 abbrev pub is_variable_entry : Option Entry → TypeName → Bool
@@ -123,17 +123,17 @@ is_variable env (s.named w) kind = is_variable_entry (found env.names w.text) ki
 is_variable env e kind = false
 
 -- an argument is of the type of its parameter, or a Boolean for a trace, and for one by `ref` the name of a variable
-abbrev pub fits : Environment → Argument → Parameter → List TypeRefusal
-fits env (s.value_argument e) (by_value kind) = typed (λ k. serves_as k kind) (type_of env e) (span_of e)
-fits env (s.value_argument e) (by_ref kind) = unless (is_variable env e kind) (Mismatch (span_of e))
-fits env (s.trace_argument b at) (by_value kind) = unless (same_type kind t.Trace) (Mismatch at)
-fits env (s.trace_argument b at) (by_ref kind) = Mismatch at ∷ []
+abbrev pub argument_misfit : Environment → Argument → Parameter → List TypeRefusal
+argument_misfit env (s.value_argument e) (by_value kind) = typed (λ k. serves_as k kind) (type_of env e) (span_of e)
+argument_misfit env (s.value_argument e) (by_ref kind) = unless (is_variable env e kind) (Mismatch (span_of e))
+argument_misfit env (s.trace_argument b at) (by_value kind) = unless (same_type kind t.Trace) (Mismatch at)
+argument_misfit env (s.trace_argument b at) (by_ref kind) = Mismatch at ∷ []
 
 -- arguments for parameters, as far as both go
-abbrev pub fit : Environment → Arguments → List Parameter → List TypeRefusal
-fit env s.no_arguments ps = []
-fit env (s.argument a rest) [] = []
-fit env (s.argument a rest) (p ∷ ps) = fits env a p ++ fit env rest ps
+abbrev pub arguments_misfit : Environment → Arguments → List Parameter → List TypeRefusal
+arguments_misfit env s.no_arguments ps = []
+arguments_misfit env (s.argument a rest) [] = []
+arguments_misfit env (s.argument a rest) (p ∷ ps) = argument_misfit env a p ++ arguments_misfit env rest ps
 
 -- there are as many arguments as parameters
 abbrev pub as_many : Arguments → List Parameter → Bool
@@ -147,7 +147,7 @@ abbrev pub applied : Environment → Word → Arguments → Option Entry → Lis
 applied env w args None = []
 applied env w args (Some (variable k)) = Arity w.span ∷ []
 applied env w args (Some (parameter k)) = Arity w.span ∷ []
-applied env w args (Some (macro ps k)) = unless (as_many args ps) (Arity w.span) ++ fit env args ps
+applied env w args (Some (macro ps k)) = unless (as_many args ps) (Arity w.span) ++ arguments_misfit env args ps
 
 -- the end of a range is a literal of the type
 abbrev pub end_type : TypeName → Figure → List TypeRefusal
@@ -158,15 +158,15 @@ abbrev pub end_size : ℕ → Figure → List TypeRefusal
 end_size decimals f = unless (nat_le (unsigned_abs (raw_of decimals f)) most) (RangeTooLarge f.span)
 
 -- the low end of a range isn't over the high one
-abbrev pub order : ℕ → Interval → List TypeRefusal
-order decimals range = unless (not (int_lt (raw_of decimals range.high) (raw_of decimals range.low))) (EmptyRange range.low.span)
+abbrev pub in_order : ℕ → Interval → List TypeRefusal
+in_order decimals range = unless (not (int_lt (raw_of decimals range.high) (raw_of decimals range.low))) (EmptyRange range.low.span)
 
 -- a range of numbers of a type: both ends are of the type, then both are within bounds, then they are in order
 abbrev pub range_of : ℕ → TypeName → Interval → List TypeRefusal
 range_of decimals kind range =
     or_else (end_type kind range.low ++ end_type kind range.high)
     (or_else (end_size decimals range.low ++ end_size decimals range.high)
-    (order decimals range))
+    (in_order decimals range))
 
 -- the range of a group of this type; of other types it isn't judged
 abbrev pub range_refusals : ℕ → TypeName → Option Interval → List TypeRefusal
@@ -192,7 +192,7 @@ abbrev mutual
   exp_refusals env (s.flag b at) = []
   exp_refusals env (s.named w) = known w (found env.names w.text) ++ alone w (found env.names w.text)
   exp_refusals env (s.called w args) = known w (found env.names w.text) ++ (arguments_refusals env args ++ applied env w args (found env.names w.text))
-  exp_refusals env (s.pre w at) = known w (found env.names w.text) ++ before w (found env.names w.text)
+  exp_refusals env (s.pre w at) = known w (found env.names w.text) ++ behind_pre w (found env.names w.text)
   exp_refusals env (s.paren e at) = exp_refusals env e
   exp_refusals env (s.unary op e at) = exp_refusals env e ++ typed (unary_takes op) (type_of env e) at
   exp_refusals env (s.binary op e f at) = exp_refusals env e ++ (exp_refusals env f ++ operands (binary_takes op) (type_of env e) (type_of env f) at)
@@ -239,7 +239,7 @@ abbrev mutual
   -- a group: its names, its range, its first value, and then what the group may not be
   pub group_refusals : Role → Environment → List (List ℕ) → Grouping → List TypeRefusal
   group_refusals role env taken (s.grouping ws kind ref range first) =
-      new taken ws ++ (range_refusals env.decimals kind range ++ (first_refusals env first ++ (unless (may_be_written role kind ref range first) (Mismatch (first_place ws)) ++ first_wanted kind env first)))
+      new_names taken ws ++ (range_refusals env.decimals kind range ++ (first_refusals env first ++ (unless (may_be_written role kind ref range first) (Mismatch (first_place ws)) ++ first_wanted kind env first)))
 
   -- groups, where these names stand before in the same list
   pub groups_refusals : Role → Environment → List (List ℕ) → Groupings → List TypeRefusal
@@ -279,7 +279,7 @@ abbrev mutual
   trace_refusals env (s.assert e x) = exp_refusals env e ++ (trace_refusals env x ++ wanted t.Bool env e)
   trace_refusals env (s.exist gs x) = groups_refusals variables env [] gs ++ trace_refusals (with_groups variables env gs) x
   trace_refusals env (s.define m x) = macro_refusals env m ++ trace_refusals (with_macro env m) x
-  trace_refusals env (s.exceptions ws x) = new [] ws ++ trace_refusals (with_exceptions env ws) x
+  trace_refusals env (s.exceptions ws x) = new_names [] ws ++ trace_refusals (with_exceptions env ws) x
   trace_refusals env (s.catch w x h) = known_exception env w ++ (trace_refusals env x ++ handler_refusals env h)
   trace_refusals env (s.trap w x h) = trace_refusals (with_exceptions env (w ∷ [])) x ++ handler_refusals (with_exceptions env (w ∷ [])) h
   trace_refusals env (s.try x h) = trace_refusals env x ++ handler_refusals env h
@@ -292,12 +292,12 @@ new_macro env (s.macro w ps kind m) = unless (is_none (found env.names w.text)) 
 -- a declaration of a text, behind those before it
 abbrev pub declaration_refusals : Environment → Declaration → List TypeRefusal
 declaration_refusals env (s.node w ins outs x) =
-    new env.nodes (w ∷ [])
+    new_names env.nodes (w ∷ [])
     ++ (groups_refusals variables env [] ins
     ++ (groups_refusals variables (with_groups variables env ins) (with_groups_names ins []) outs
-    ++ trace_refusals (with_sides env ins outs) x))
+    ++ trace_refusals (with_inputs_and_outputs env ins outs) x))
 declaration_refusals env (s.macro_declaration m) = new_macro env m ++ macro_refusals env m
-declaration_refusals env (s.exception_declaration ws) = new env.exceptions ws
+declaration_refusals env (s.exception_declaration ws) = new_names env.exceptions ws
 
 -- the declarations of a text
 abbrev pub declarations_refusals : Environment → List Declaration → List TypeRefusal

@@ -8,7 +8,7 @@ use Rattle.lt_ast.specs.Syntax as s
 use Rattle.lt_ast.specs.Syntax.{Word, Interval, Exp, Argument, Arguments, Limits, Braces, Alternative, Alternatives, Trace, Traces, Grouping, Groupings, MaybeExp, MaybeTrace, Parameters, Meaning, Macro, Declaration}
 use Rattle.lt_num.specs.Literal.{IsRead}
 use Rattle.lt_num.specs.declared.fixed.Fixed.{Fixed}
-use Rattle.lt_types.specs.Environment.{Parameter, by_value, by_ref, Entry, variable, parameter, macro, Environment, at_start, found, is_among, Role, variables, parameters, with_group, with_groups, with_group_names, with_groups_names, with_parameters, with_macro, with_exceptions, with_declaration, with_sides}
+use Rattle.lt_types.specs.Environment.{Parameter, by_value, by_ref, Entry, variable, parameter, macro, Environment, at_start, found, is_among, Role, variables, parameters, with_group, with_groups, with_group_names, with_groups_names, with_parameters, with_macro, with_exceptions, with_declaration, with_inputs_and_outputs}
 use Rattle.lt_types.specs.Operators.{is_number, is_value, serves_as, unary_takes, binary_takes, unary_gives, binary_gives}
 use Rattle.lt_types.specs.Literal.{figure_type, figure_text}
 
@@ -48,11 +48,11 @@ pub record IsRange (decimals : ℕ) (kind : TypeName) (range : Interval) : Type 
   pub ordered : low.raw ≤ℤ high.raw
 
 -- the range of a group of this type; that groups of other types may have none is said of the group
-abbrev pub HasRange : ℕ → TypeName → Option Interval → Type 0
-HasRange decimals kind None = Unit {0}
-HasRange decimals t.Int (Some range) = IsRange 0 t.Int range
-HasRange decimals t.Real (Some range) = IsRange decimals t.Real range
-HasRange decimals kind (Some range) = Unit {0}
+abbrev pub IsGroupRange : ℕ → TypeName → Option Interval → Type 0
+IsGroupRange decimals kind None = Unit {0}
+IsGroupRange decimals t.Int (Some range) = IsRange 0 t.Int range
+IsGroupRange decimals t.Real (Some range) = IsRange decimals t.Real range
+IsGroupRange decimals kind (Some range) = Unit {0}
 
 -- whether there is no first value
 abbrev pub has_no_first : MaybeExp → Bool
@@ -71,7 +71,7 @@ abbrev mutual
   HasType env (s.number f) kind = kind ≡ figure_type f
   HasType env (s.flag b at) kind = kind ≡ t.Bool
   HasType env (s.named w) kind = StandsFor (found env.names w.text) kind
-  HasType env (s.called w args) kind = (ps : List Parameter) × (found env.names w.text ≡ Some (macro ps kind)) × Fit env args ps
+  HasType env (s.called w args) kind = (ps : List Parameter) × (found env.names w.text ≡ Some (macro ps kind)) × ArgumentsFit env args ps
   HasType env (s.pre w at) kind = found env.names w.text ≡ Some (variable kind)
   HasType env (s.paren e at) kind = HasType env e kind
   HasType env (s.unary op e at) kind = (k : TypeName) × HasType env e k × IsTrue (unary_takes op k) × (kind ≡ unary_gives op k)
@@ -79,18 +79,18 @@ abbrev mutual
   HasType env (s.choose c e f at) kind = HasType env c t.Bool × HasType env e kind × HasType env f kind × IsTrue (is_value kind)
 
   -- an argument may be given for a parameter
-  pub Fits : Environment → Argument → Parameter → Type 0
-  Fits env (s.value_argument e) (by_value kind) = (k : TypeName) × HasType env e k × IsTrue (serves_as k kind)
-  Fits env (s.value_argument e) (by_ref kind) = IsVariable env e kind
-  Fits env (s.trace_argument b at) (by_value kind) = IsBraced env b × (kind ≡ t.Trace)
-  Fits env (s.trace_argument b at) (by_ref kind) = ⊥
+  pub ArgumentFits : Environment → Argument → Parameter → Type 0
+  ArgumentFits env (s.value_argument e) (by_value kind) = (k : TypeName) × HasType env e k × IsTrue (serves_as k kind)
+  ArgumentFits env (s.value_argument e) (by_ref kind) = IsVariable env e kind
+  ArgumentFits env (s.trace_argument b at) (by_value kind) = IsBraced env b × (kind ≡ t.Trace)
+  ArgumentFits env (s.trace_argument b at) (by_ref kind) = ⊥
 
   -- arguments may be given for parameters, which are as many
-  pub Fit : Environment → Arguments → List Parameter → Type 0
-  Fit env s.no_arguments [] = Unit {0}
-  Fit env s.no_arguments (p ∷ ps) = ⊥
-  Fit env (s.argument a rest) [] = ⊥
-  Fit env (s.argument a rest) (p ∷ ps) = Fits env a p × Fit env rest ps
+  pub ArgumentsFit : Environment → Arguments → List Parameter → Type 0
+  ArgumentsFit env s.no_arguments [] = Unit {0}
+  ArgumentsFit env s.no_arguments (p ∷ ps) = ⊥
+  ArgumentsFit env (s.argument a rest) [] = ⊥
+  ArgumentsFit env (s.argument a rest) (p ∷ ps) = ArgumentFits env a p × ArgumentsFit env rest ps
 
   -- the bounds of a loop are well typed
   pub AreLimits : Environment → Limits → Type 0
@@ -122,7 +122,7 @@ abbrev mutual
 
   -- a group: its names are new in its list, and its first value doesn't see them
   pub IsGroup : Role → Environment → List (List ℕ) → Grouping → Type 0
-  IsGroup role env taken (s.grouping ws kind ref range first) = AreNew taken ws × HasRange env.decimals kind range × IsFirst env kind first × IsTrue (may_be_written role kind ref range first)
+  IsGroup role env taken (s.grouping ws kind ref range first) = AreNew taken ws × IsGroupRange env.decimals kind range × IsFirst env kind first × IsTrue (may_be_written role kind ref range first)
 
   -- groups, where these names stand before in the same list; each sees the ones before it
   pub AreGroups : Role → Environment → List (List ℕ) → Groupings → Type 0
@@ -178,7 +178,7 @@ IsDeclaration env (s.node w ins outs x) =
     AreNew env.nodes (w ∷ [])
     × AreGroups variables env [] ins
     × AreGroups variables (with_groups variables env ins) (with_groups_names ins []) outs
-    × IsTrace (with_sides env ins outs) x
+    × IsTrace (with_inputs_and_outputs env ins outs) x
 IsDeclaration env (s.macro_declaration m) = IsNewMacro env m × IsMacro env m
 IsDeclaration env (s.exception_declaration ws) = AreNew env.exceptions ws
 

@@ -20,7 +20,7 @@ use crate::kinds::{gives_one, gives_two, is_same, is_value, takes_one, takes_two
 use crate::refusal::TypeRefusal;
 use crate::scope::Scope;
 use crate::traces::check_braces;
-use crate::uses::{check_alone, check_applied, check_before};
+use crate::uses::{check_alone, check_applied, check_behind_pre};
 use lt_ast::{Arg, Args, BinOp, Expr, Name, Span, TypeName, UnOp};
 use std::alloc::Global;
 
@@ -64,7 +64,7 @@ fn check_operand(alloc: Global, scope: &mut Scope, expr: &Expr) -> Result<TypeNa
         Expr::Number(literal) => Ok(literal_kind(literal)),
         Expr::Flag(_, _) => Ok(TypeName::Bool),
         Expr::Named(name, args) => check_use(alloc, scope, name, args),
-        Expr::Pre(name, at) => check_before(scope, name, *at),
+        Expr::Pre(name, at) => check_behind_pre(scope, name, *at),
         Expr::Paren(inner, _) => check_expr(alloc, scope, inner),
         Expr::Unary(operator, inner, at) => {
             let kind = check_expr(alloc, scope, inner)?;

@@ -6,7 +6,7 @@ ghost use Rattle.lt_num.specs.Literal.{IsLiteral};
 ghost use Rattle.lt_types.specs.Answer.{Checks};
 ghost use Rattle.lt_types.specs.Literal.{figure_text, figure_type, raw_of};
 ghost use Rattle.lt_types.specs.Readable.{AreEnds};
-ghost use Rattle.lt_types.specs.Refusals.{end_size, end_type, order, range_of, range_refusals};
+ghost use Rattle.lt_types.specs.Refusals.{end_size, end_type, in_order, range_of, range_refusals};
 
 use crate::kinds::is_same;
 use crate::refusal::TypeRefusal;

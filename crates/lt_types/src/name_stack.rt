@@ -4,7 +4,7 @@ ghost use Rattle.std.specs.Prelude.{◌≡◌, ◌≤◌, ◌<◌, [], ◌∷◌
 ghost use Rattle.lt_ast.specs.View.{words};
 ghost use Rattle.lt_types.specs.Answer.{Checks};
 ghost use Rattle.lt_types.specs.Environment.{is_among, with_names};
-ghost use Rattle.lt_types.specs.Refusals.{new as new_refusals};
+ghost use Rattle.lt_types.specs.Refusals.{new_names};
 ghost use Rattle.lt_types.specs.Scoping.{newest as newest_of, oldest, since};
 
 use crate::refusal::TypeRefusal;
@@ -144,7 +144,7 @@ impl NameStack {
     #[tactic(auto, using(crate::proofs::Stacks::stack_steps))]
     pub(crate) fn check_new(&mut self, from: usize, names: &Names) -> Result<(), TypeRefusal>
         requires { from ≤ length self.old }
-        ensures answered { Checks result (new_refusals (since from self.old) (words names.now)) }
+        ensures answered { Checks result (new_names (since from self.old) (words names.now)) }
         ensures kept { self.new ≡ self.old }
     {
         let before = self.len();
@@ -157,7 +157,7 @@ impl NameStack {
     #[tactic(auto, using(crate::proofs::Leading::leads, crate::proofs::Stacks::new_steps))]
     fn push_new(&mut self, from: usize, names: &Names) -> Result<(), TypeRefusal>
         requires { from ≤ length self.old }
-        ensures answered { Checks result (new_refusals (since from self.old) (words names.now)) }
+        ensures answered { Checks result (new_names (since from self.old) (words names.now)) }
         ensures more { length self.old ≤ length self.new }
         ensures kept { oldest (length self.old) self.new ≡ self.old }
     {

@@ -125,7 +125,7 @@ fn check_decl(alloc: Global, scope: &mut Scope, decl: &Decl) -> Result<(), TypeR
 }
 
 // A node.
-#[tactic(auto, using(crate::proofs::Leading::leads, crate::proofs::Scopes::scope_ends, crate::proofs::Scopes::sides_end))]
+#[tactic(auto, using(crate::proofs::Leading::leads, crate::proofs::Scopes::scope_ends, crate::proofs::Scopes::inputs_and_outputs_end))]
 fn check_node(alloc: Global, scope: &mut Scope, declared: &NodeDecl) -> Result<(), TypeRefusal>
     requires { InDeclaration (node_declaration declared.now) }
     ensures answered { Checks result (declaration_refusals scope.old (node_declaration declared.now)) }

@@ -4,7 +4,7 @@ ghost use Rattle.std.specs.Prelude.{◌≡◌, ◌≤◌, [], ◌∷◌, length,
 ghost use Rattle.lt_ast.specs.View.{word, words};
 ghost use Rattle.lt_types.specs.Answer.{Checks};
 ghost use Rattle.lt_types.specs.Environment.{at_start, found, group_entry, is_among, with_bindings, with_exceptions};
-ghost use Rattle.lt_types.specs.Refusals.{new as new_refusals};
+ghost use Rattle.lt_types.specs.Refusals.{new_names};
 ghost use Rattle.lt_types.specs.Scoping.{declared_since, entry_view, role_view, since, with_oldest_exceptions, with_oldest_names};
 
 use crate::entry::{Entry, Role};
@@ -97,7 +97,7 @@ impl Scope {
     #[tactic(auto, using(crate::proofs::Stacks::scope_steps))]
     pub(crate) fn check_new_names(&mut self, from: usize, names: &Names) -> Result<(), TypeRefusal>
         requires { from ≤ length self.old.names }
-        ensures answered { Checks result (new_refusals (declared_since from self.old) (words names.now)) }
+        ensures answered { Checks result (new_names (declared_since from self.old) (words names.now)) }
         ensures kept { self.new ≡ self.old }
     {
         self.names.check_new(from, names)
@@ -167,7 +167,7 @@ impl Scope {
         names: &Names,
     ) -> Result<(), TypeRefusal>
         requires { from ≤ length self.old.exceptions }
-        ensures answered { Checks result (new_refusals (since from self.old.exceptions) (words names.now)) }
+        ensures answered { Checks result (new_names (since from self.old.exceptions) (words names.now)) }
         ensures kept { self.new ≡ self.old }
     {
         self.exceptions.check_new(from, names)
@@ -200,7 +200,7 @@ impl Scope {
     // That no node has this name.
     #[tactic(auto, using(crate::proofs::Leading::leads, crate::proofs::Stacks::newest_among))]
     pub(crate) fn check_new_node(&self, name: &Name) -> Result<(), TypeRefusal>
-        ensures { Checks result (new_refusals self.now.nodes (word name.now ∷ [])) }
+        ensures { Checks result (new_names self.now.nodes (word name.now ∷ [])) }
     {
         if self.nodes.newest(&name.text).is_some() {
             return Err(TypeRefusal::Twice(name.span));

@@ -6,7 +6,7 @@ ghost use Rattle.lt_ast.specs.Syntax.{called, named, pre};
 ghost use Rattle.lt_ast.specs.View.{argument, exp, word};
 ghost use Rattle.lt_types.specs.Answer.{Answers, Checks};
 ghost use Rattle.lt_types.specs.Environment.{found};
-ghost use Rattle.lt_types.specs.Refusals.{alone, applied, before, entry_type, exp_refusals, fit, fits, known_exception, is_variable as is_a_variable, is_variable_entry as is_a_variable_entry, span_of, type_of, typed, unless};
+ghost use Rattle.lt_types.specs.Refusals.{alone, applied, argument_misfit, arguments_misfit, behind_pre, entry_type, exp_refusals, known_exception, is_variable as is_a_variable, is_variable_entry as is_a_variable_entry, span_of, type_of, typed, unless};
 ghost use Rattle.lt_types.specs.Operators.{same_type};
 ghost use Rattle.lt_types.specs.Given.{argument_span, argument_type, used};
 ghost use Rattle.lt_types.specs.Scoping.{entry_view, param_view};
@@ -43,7 +43,11 @@ fn check_entry_alone(name: &Name, entry: &Entry) -> Result<TypeName, TypeRefusal
 
 // A name behind `pre`.
 #[tactic(auto, using(crate::proofs::Leading::leads))]
-pub(crate) fn check_before(scope: &Scope, name: &Name, at: Span) -> Result<TypeName, TypeRefusal>
+pub(crate) fn check_behind_pre(
+    scope: &Scope,
+    name: &Name,
+    at: Span,
+) -> Result<TypeName, TypeRefusal>
     ensures { Answers result (exp_refusals scope.now (pre (word name.now) at)) (type_of scope.now (pre (word name.now) at)) }
 {
     match scope.lookup(&name.text) {
@@ -113,22 +117,22 @@ fn check_entry_applied(
             if args.len() != params.len() {
                 return Err(TypeRefusal::Arity(name.span));
             }
-            check_fit(scope, args, kinds, params)?;
+            check_arguments_fit(scope, args, kinds, params)?;
             Ok(*kind)
         }
     }
 }
 
 // Arguments for parameters, as far as both go, with the types of the arguments.
-#[tactic(auto, using(crate::proofs::Leading::leads, crate::proofs::Naming::fit_none))]
-fn check_fit(
+#[tactic(auto, using(crate::proofs::Leading::leads, crate::proofs::Naming::arguments_misfit_none))]
+fn check_arguments_fit(
     scope: &Scope,
     args: &[Arg],
     kinds: &[TypeName],
     params: &[Param],
 ) -> Result<(), TypeRefusal>
     requires { map Some kinds.now ≡ map (argument_type scope.now) (map argument args.now) }
-    ensures { Checks result (fit scope.now (arguments_of (map argument args.now)) (map param_view params.now)) }
+    ensures { Checks result (arguments_misfit scope.now (arguments_of (map argument args.now)) (map param_view params.now)) }
 {
     let mut args = args;
     let mut kinds = kinds;
@@ -137,7 +141,7 @@ fn check_fit(
         let ([arg, more_args @ ..], [kind, more_kinds @ ..]) = (args, kinds) else {
             return Ok(());
         };
-        check_fits(scope, arg, *kind, *param)?;
+        check_argument_fits(scope, arg, *kind, *param)?;
         args = more_args;
         kinds = more_kinds;
         params = more_params;
@@ -147,11 +151,16 @@ fn check_fit(
 
 // An argument of a type for a parameter.
 #[tactic(auto, using(crate::proofs::Leading::leads))]
-fn check_fits(scope: &Scope, arg: &Arg, kind: TypeName, param: Param) -> Result<(), TypeRefusal>
+fn check_argument_fits(
+    scope: &Scope,
+    arg: &Arg,
+    kind: TypeName,
+    param: Param,
+) -> Result<(), TypeRefusal>
     requires { argument_type scope.now (argument arg.now) ≡ Some kind }
-    ensures { Checks result (fits scope.now (argument arg.now) (param_view param)) }
+    ensures { Checks result (argument_misfit scope.now (argument arg.now) (param_view param)) }
 {
-    if is_fit(scope, arg, kind, param) {
+    if argument_fits(scope, arg, kind, param) {
         return Ok(());
     }
     Err(TypeRefusal::Mismatch(place_of_argument(arg)))
@@ -159,9 +168,9 @@ fn check_fits(scope: &Scope, arg: &Arg, kind: TypeName, param: Param) -> Result<
 
 // Whether an argument of a type may be given for a parameter.
 #[tactic(auto, using(crate::proofs::Naming::served_trace))]
-fn is_fit(scope: &Scope, arg: &Arg, kind: TypeName, param: Param) -> bool
+fn argument_fits(scope: &Scope, arg: &Arg, kind: TypeName, param: Param) -> bool
     requires { argument_type scope.now (argument arg.now) ≡ Some kind }
-    ensures { fits scope.now (argument arg.now) (param_view param) ≡ unless result (TypeRefusal.Mismatch (argument_span (argument arg.now))) }
+    ensures { argument_misfit scope.now (argument arg.now) (param_view param) ≡ unless result (TypeRefusal.Mismatch (argument_span (argument arg.now))) }
 {
     match arg {
         Arg::Value(expr) if param.by_ref => is_variable(scope, expr, param.kind),
