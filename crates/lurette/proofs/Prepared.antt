@@ -285,5 +285,5 @@ pub runs_so : (program : List Declaration) (name : Word) (inputs outputs : Group
 runs_so program name inputs outputs g t e none one h =
     sym (ap is_runnable e ∙ ap (λ b. b && runs_with outputs t) none ∙ ap (λ gs. runs_with gs t) one ∙ ap (λ b. b && runs_as_trace (group_names g) t) h)
 
-pub scene_so : (program : List Declaration) (name : Word) (inputs outputs : Groupings) (g : Grouping) (t : Trace) → program ≡ s.node name inputs outputs t ∷ [] → outputs ≡ s.one_group g s.no_groups → scene_with name.text (group_names g) (process_of (group_names g) t) ≡ scene_of program
-scene_so program name inputs outputs g t e one = sym (ap scene_of e ∙ ap (λ gs. scene_with name.text (first_names gs) (process_of (first_names gs) t)) one)
+pub scene_so : (decimals : ℕ) (program : List Declaration) (name : Word) (inputs outputs : Groupings) (g : Grouping) (t : Trace) → program ≡ s.node name inputs outputs t ∷ [] → outputs ≡ s.one_group g s.no_groups → scene_with name.text decimals (group_names g) (process_of (group_names g) t) ≡ scene_of decimals program
+scene_so decimals program name inputs outputs g t e one = sym (ap (scene_of decimals) e ∙ ap (λ gs. scene_with name.text decimals (first_names gs) (process_of (first_names gs) t)) one)

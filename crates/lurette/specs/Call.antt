@@ -7,6 +7,9 @@ use Rattle.lt_ast.specs.Syntax.{Declaration}
 use Rattle.lt_ast.specs.Printed.{printed}
 use Rattle.lt_parser.specs.Text.{IsProgramOf, IsRefusal}
 use Rattle.lt_parser.specs.declared.refusal.ParseRefusal.{ParseRefusal}
+use Rattle.lt_types.specs.Refusals.{type_refusals}
+use Rattle.lt_types.specs.Typing.{IsWellTyped}
+use Rattle.lt_types.specs.declared.refusal.TypeRefusal.{TypeRefusal}
 use Rattle.lurette.specs.Writing.{AppendsFront, AppendsPart}
 use Rattle.lurette.specs.Form.{IsRunnable}
 use Rattle.lurette.specs.Words.{Request}
@@ -43,25 +46,31 @@ Shows play old new (status.Usage kind) = ⊥
 
 -- The mode `run`.
 
--- the program can be run, and this holds of the run of its scene
-abbrev pub OfRun : List Declaration → ℕ → (Play → Type 0) → Type 0
-OfRun program limit P = IsRunnable program × P (play_of (scene_of program) (record { seed = 0; limit = limit }))
+-- this is the first of the rules of types that the program breaks
+abbrev pub IsTypeRefusal : ℕ → List Declaration → TypeRefusal → Type 0
+IsTypeRefusal decimals program reason = (others : List TypeRefusal) × (type_refusals decimals program ≡ reason ∷ others)
+
+-- the program is well typed and can be run, and this holds of the run of its scene
+abbrev pub OfRun : List Declaration → ℕ → ℕ → (Play → Type 0) → Type 0
+OfRun program limit decimals P = IsWellTyped decimals program × IsRunnable program × P (play_of (scene_of decimals program) (record { seed = 0; limit = limit }))
 
 -- What a program and what was written to the trace tell of a status of `run`.
-abbrev pub RunTells : List Declaration → ℕ → Option (List ℕ) → Option (List ℕ) → Status → Type 0
--- the program can't be run, and nothing was written
-RunTells program limit old new (status.Refused refusal.NotBuilt) = (IsRunnable program → ⊥) × Keeps old new
+abbrev pub RunTells : List Declaration → ℕ → ℕ → Option (List ℕ) → Option (List ℕ) → Status → Type 0
+-- the program isn't well typed, for this reason, and nothing was written
+RunTells program limit decimals old new (status.Refused (refusal.Types reason)) = IsTypeRefusal decimals program reason × Keeps old new
+-- the program is well typed and can't be run, and nothing was written
+RunTells program limit decimals old new (status.Refused refusal.NotBuilt) = IsWellTyped decimals program × (IsRunnable program → ⊥) × Keeps old new
 -- memory ran out before the run, and nothing was written, or in it
-RunTells program limit old new status.Memory = Keeps old new ⊎ OfRun program limit (λ play. Shows play old new status.Memory)
+RunTells program limit decimals old new status.Memory = Keeps old new ⊎ OfRun program limit decimals (λ play. Shows play old new status.Memory)
 -- the program was run
-RunTells program limit old new status.Ended = OfRun program limit (λ play. Shows play old new status.Ended)
-RunTells program limit old new (status.Deadlock at) = OfRun program limit (λ play. Shows play old new (status.Deadlock at))
-RunTells program limit old new (status.Device device.Trace at) = OfRun program limit (λ play. Shows play old new (status.Device device.Trace at))
+RunTells program limit decimals old new status.Ended = OfRun program limit decimals (λ play. Shows play old new status.Ended)
+RunTells program limit decimals old new (status.Deadlock at) = OfRun program limit decimals (λ play. Shows play old new (status.Deadlock at))
+RunTells program limit decimals old new (status.Device device.Trace at) = OfRun program limit decimals (λ play. Shows play old new (status.Device device.Trace at))
 -- nothing else happens
-RunTells program limit old new (status.Device device.File at) = ⊥
-RunTells program limit old new (status.Refused refusal.TooLong) = ⊥
-RunTells program limit old new (status.Refused (refusal.Text reason)) = ⊥
-RunTells program limit old new (status.Usage kind) = ⊥
+RunTells program limit decimals old new (status.Device device.File at) = ⊥
+RunTells program limit decimals old new (status.Refused refusal.TooLong) = ⊥
+RunTells program limit decimals old new (status.Refused (refusal.Text reason)) = ⊥
+RunTells program limit decimals old new (status.Usage kind) = ⊥
 
 -- The mode `print`.
 
@@ -82,22 +91,22 @@ PrintTells program old new (status.Usage kind) = ⊥
 -- Both modes.
 
 -- what a program and what was written to the trace tell of a status, by the mode
-abbrev pub ProgramTells : Mode → List Declaration → ℕ → Option (List ℕ) → Option (List ℕ) → Status → Type 0
-ProgramTells mode.Run program limit old new s = RunTells program limit old new s
-ProgramTells mode.Print program limit old new s = PrintTells program old new s
+abbrev pub ProgramTells : Mode → List Declaration → ℕ → ℕ → Option (List ℕ) → Option (List ℕ) → Status → Type 0
+ProgramTells mode.Run program limit decimals old new s = RunTells program limit decimals old new s
+ProgramTells mode.Print program limit decimals old new s = PrintTells program old new s
 
 -- this holds of the program that the text spells
 abbrev pub OfText : List ℕ → (List Declaration → Type 0) → Type 0
 OfText text P = (program : List Declaration) × IsProgramOf text program × P program
 
 -- What a text and what was written to the trace tell of a status.
-abbrev pub TextTells : Mode → List ℕ → ℕ → Option (List ℕ) → Option (List ℕ) → Status → Type 0
+abbrev pub TextTells : Mode → List ℕ → ℕ → ℕ → Option (List ℕ) → Option (List ℕ) → Status → Type 0
 -- the text spells no program, for this reason, and nothing was written
-TextTells m text limit old new (status.Refused (refusal.Text reason)) = IsRefusal text reason × Keeps old new
+TextTells m text limit decimals old new (status.Refused (refusal.Text reason)) = IsRefusal text reason × Keeps old new
 -- memory ran out before the program was read, and nothing was written, or after that
-TextTells m text limit old new status.Memory = Keeps old new ⊎ OfText text (λ program. ProgramTells m program limit old new status.Memory)
+TextTells m text limit decimals old new status.Memory = Keeps old new ⊎ OfText text (λ program. ProgramTells m program limit decimals old new status.Memory)
 -- else the text spells a program
-TextTells m text limit old new s = OfText text (λ program. ProgramTells m program limit old new s)
+TextTells m text limit decimals old new s = OfText text (λ program. ProgramTells m program limit decimals old new s)
 
 -- this holds of the text that was read: the file's contents where they are told, and no longer than allowed
 abbrev pub OfFile : Option (List ℕ) → (List ℕ → Type 0) → Type 0
@@ -110,11 +119,11 @@ Tells request contents old new (status.Device device.File at) = (at ≡ 0) × Ke
 -- the file is too long, and nothing was written
 Tells request contents old new (status.Refused refusal.TooLong) = WhereTold contents (λ bytes. LONGEST < length bytes) × Keeps old new
 -- memory ran out before the file was read, and nothing was written, or after that
-Tells request contents old new status.Memory = Keeps old new ⊎ OfFile contents (λ text. TextTells request.mode text request.limit old new status.Memory)
+Tells request contents old new status.Memory = Keeps old new ⊎ OfFile contents (λ text. TextTells request.mode text request.limit request.decimals old new status.Memory)
 -- the words were right
 Tells request contents old new (status.Usage kind) = ⊥
 -- else the file was read
-Tells request contents old new s = OfFile contents (λ text. TextTells request.mode text request.limit old new s)
+Tells request contents old new s = OfFile contents (λ text. TextTells request.mode text request.limit request.decimals old new s)
 
 -- The trace's count of faults rose exactly where the trace is blamed.
 abbrev pub CountsTrace : Status → ℕ → ℕ → Type 0
@@ -152,10 +161,12 @@ IsCutEarly status.Memory = Unit {0}
 IsCutEarly _ = ⊥
 
 -- What is to be refused is refused so, unless the file could not be read or memory ran out: contents that are too
--- long, a text that has a refusal, and, in the mode run, a program that can't be run.
+-- long, a text that has a refusal, and, in the mode run, a program that breaks a rule of types, and one that breaks
+-- none and can't be run.
 abbrev pub RefusalsAreExact : Type 0
 RefusalsAreExact =
     (request : Request) (contents : List ℕ) (old new : Option (List ℕ)) (s : Status) → Tells request (Some contents) old new s →
     (LONGEST < length contents → (s ≡ status.Refused refusal.TooLong) ⊎ IsCutEarly s)
     × ((reason : ParseRefusal) → length contents ≤ LONGEST → IsRefusal contents reason → (s ≡ status.Refused (refusal.Text reason)) ⊎ IsCutEarly s)
-    × ((program : List Declaration) → length contents ≤ LONGEST → request.mode ≡ mode.Run → IsProgramOf contents program → (IsRunnable program → ⊥) → (s ≡ status.Refused refusal.NotBuilt) ⊎ IsCutEarly s)
+    × ((program : List Declaration) (reason : TypeRefusal) → length contents ≤ LONGEST → request.mode ≡ mode.Run → IsProgramOf contents program → IsTypeRefusal request.decimals program reason → (s ≡ status.Refused (refusal.Types reason)) ⊎ IsCutEarly s)
+    × ((program : List Declaration) → length contents ≤ LONGEST → request.mode ≡ mode.Run → IsProgramOf contents program → IsWellTyped request.decimals program → (IsRunnable program → ⊥) → (s ≡ status.Refused refusal.NotBuilt) ⊎ IsCutEarly s)

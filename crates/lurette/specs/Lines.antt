@@ -5,6 +5,8 @@ use Rattle.lt_lexer.specs.declared.refusal.LexRefusal.{LexRefusal}
 use Rattle.lt_lexer.specs.declared.refusal.LexRefusal.TheVariants as lex
 use Rattle.lt_parser.specs.declared.refusal.ParseRefusal.{ParseRefusal}
 use Rattle.lt_parser.specs.declared.refusal.ParseRefusal.TheVariants as parse
+use Rattle.lt_types.specs.declared.refusal.TypeRefusal.{TypeRefusal}
+use Rattle.lt_types.specs.declared.refusal.TypeRefusal.TheVariants as types
 use Rattle.lurette.specs.TraceText.{line}
 use Rattle.lurette.specs.declared.status.Status.{Status}
 use Rattle.lurette.specs.declared.status.Status.TheVariants as status
@@ -48,16 +50,42 @@ parse_place (parse.Unexpected at) = Some at
 parse_place (parse.TooDeep at) = Some at
 parse_place parse.Memory = None
 
+-- the code of a rule of types; want of memory is none
+abbrev pub type_word : TypeRefusal → List ℕ
+type_word (types.Unknown at) = codes "type.Unknown"
+type_word (types.Twice at) = codes "type.Twice"
+type_word (types.Mismatch at) = codes "type.Mismatch"
+type_word (types.Arity at) = codes "type.Arity"
+type_word (types.PreOfExpression at) = codes "type.PreOfExpression"
+type_word (types.EmptyRange at) = codes "type.EmptyRange"
+type_word (types.RangeTooLarge at) = codes "type.RangeTooLarge"
+type_word types.NoNode = codes "type.NoNode"
+type_word types.Memory = codes "memory"
+
+-- the place that breaks it, where there is one
+abbrev pub type_place : TypeRefusal → Option ℕ
+type_place (types.Unknown at) = Some at.start
+type_place (types.Twice at) = Some at.start
+type_place (types.Mismatch at) = Some at.start
+type_place (types.Arity at) = Some at.start
+type_place (types.PreOfExpression at) = Some at.start
+type_place (types.EmptyRange at) = Some at.start
+type_place (types.RangeTooLarge at) = Some at.start
+type_place types.NoNode = None
+type_place types.Memory = None
+
 -- the code of a refusal
 abbrev pub refusal_word : Refusal → List ℕ
 refusal_word refusal.TooLong = codes "file.TooLong"
 refusal_word (refusal.Text reason) = parse_word reason
+refusal_word (refusal.Types reason) = type_word reason
 refusal_word refusal.NotBuilt = codes "early.NotBuilt"
 
 -- its place in the text, where it has one
 abbrev pub refusal_place : Refusal → Option ℕ
 refusal_place refusal.TooLong = None
 refusal_place (refusal.Text reason) = parse_place reason
+refusal_place (refusal.Types reason) = type_place reason
 refusal_place refusal.NotBuilt = None
 
 -- a place behind a code, where there is one

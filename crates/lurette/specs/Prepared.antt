@@ -64,11 +64,11 @@ abbrev mutual
 abbrev pub output_variable : List ℕ → Variable
 output_variable name = record { name = name; kind = kind.Bool }
 
--- the scene of a node of this name, with these outputs, that does this
-abbrev pub scene_with : List ℕ → List (List ℕ) → Process Expression → Scene
-scene_with name outputs body = record {
+-- the scene of a node of this name, with so many decimals and these outputs, that does this
+abbrev pub scene_with : List ℕ → ℕ → List (List ℕ) → Process Expression → Scene
+scene_with name decimals outputs body = record {
   name = name;
-  decimals = 2;
+  decimals = decimals;
   inputs = [];
   outputs = map output_variable outputs;
   exceptions = [];
@@ -80,7 +80,7 @@ abbrev pub first_names : Groupings → List (List ℕ)
 first_names s.no_groups = []
 first_names (s.one_group g gs) = group_names g
 
--- the scene of a program: that of its first node
-abbrev pub scene_of : List Declaration → Scene
-scene_of (s.node name inputs outputs t ∷ declarations) = scene_with name.text (first_names outputs) (process_of (first_names outputs) t)
-scene_of _ = scene_with [] [] eps
+-- the scene of a program: that of its first node, with so many decimals
+abbrev pub scene_of : ℕ → List Declaration → Scene
+scene_of decimals (s.node name inputs outputs t ∷ declarations) = scene_with name.text decimals (first_names outputs) (process_of (first_names outputs) t)
+scene_of decimals _ = scene_with [] decimals [] eps

@@ -60,15 +60,12 @@ impl<T: Drop> From<AllocFailed<T>> for Unprepared {
     }
 }
 
-// How many decimals a real number has.
-const DECIMALS: u32 = 2;
-
 // How many outputs a node has at most.
 const MOST_OUTPUTS: usize = 8;
 
-/// The scenario of a program, exactly where the program can be run.
-pub fn scenario_of(alloc: Global, program: &Program) -> Result<Scenario, Unprepared>
-    ensures { Prepares result (is_runnable (declarations program.now)) (λ s. scene s ≡ scene_of (declarations program.now)) }
+/// The scenario of a program, exactly where the program can be run. A real has so many decimals.
+pub fn scenario_of(alloc: Global, program: &Program, decimals: u32) -> Result<Scenario, Unprepared>
+    ensures { Prepares result (is_runnable (declarations program.now)) (λ s. scene s ≡ scene_of decimals (declarations program.now)) }
 {
     let Some(node) = only_node(program) else {
         return Err(Unprepared::NotBuilt);
@@ -82,7 +79,7 @@ pub fn scenario_of(alloc: Global, program: &Program) -> Result<Scenario, Unprepa
     if !is_output_group(group) {
         return Err(Unprepared::NotBuilt);
     }
-    scenario_with(alloc, &node.name, &group.names.items, &node.body)
+    scenario_with(alloc, &node.name, decimals, &group.names.items, &node.body)
 }
 
 // The node of a program that is one node and no more.
@@ -106,22 +103,24 @@ fn only_group(groups: &Groups) -> Option<&Group>
     }
 }
 
-// The scenario of a node of this name, with these outputs, that does this, where that can be run.
+// The scenario of a node of this name, with so many decimals and these outputs, that does this, where that can be
+// run.
 fn scenario_with(
     alloc: Global,
     name: &Name,
+    decimals: u32,
     outputs: &[Name],
     body: &TraceExpr,
 ) -> Result<Scenario, Unprepared>
     requires { length outputs.now ≤ 8 }
     ensures { Prepares result (runs_as_trace (name_texts outputs.now) (trace_tree body.now)) (λ s.
-        scene s ≡ scene_with (string_bytes name.now.text) (name_texts outputs.now) (process_of (name_texts outputs.now) (trace_tree body.now))) }
+        scene s ≡ scene_with (string_bytes name.now.text) decimals (name_texts outputs.now) (process_of (name_texts outputs.now) (trace_tree body.now))) }
 {
     let mut table = Table::new(alloc, outputs.len());
     let body = term_of(alloc, &mut table, outputs, body)?;
     Ok(Scenario {
         name: name.text.clone()?,
-        decimals: DECIMALS,
+        decimals,
         inputs: Vec::new(alloc),
         outputs: variables(alloc, outputs)?,
         exceptions: Vec::new(alloc),

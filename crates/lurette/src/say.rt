@@ -3,7 +3,7 @@
 ghost use Rattle.std.specs.Prelude.{◌≡◌, OnOk};
 ghost use Rattle.std.specs.Io.KnownBytes.{Appends};
 ghost use Rattle.lt_io.specs.Causes.{HasCause};
-ghost use Rattle.lurette.specs.Lines.{status_lines, usage_word, refusal_word, refusal_place, device_word};
+ghost use Rattle.lurette.specs.Lines.{status_lines, usage_word, refusal_word, refusal_place, type_word, type_place, device_word};
 
 use crate::put::put_all;
 use crate::status::{Device, Refusal, Status, UsageKind};
@@ -11,6 +11,7 @@ use itoa::Buffer;
 use lt_io::{Failed, Sink};
 use lt_lexer::LexRefusal;
 use lt_parser::ParseRefusal;
+use lt_types::TypeRefusal;
 
 // How the program is called.
 const USAGE: &[u8] =
@@ -87,7 +88,24 @@ fn refusal_name(reason: Refusal) -> &'static [u8]
         Refusal::Text(ParseRefusal::Unexpected(_)) => b"parse.Unexpected",
         Refusal::Text(ParseRefusal::TooDeep(_)) => b"parse.TooDeep",
         Refusal::Text(ParseRefusal::Lex(LexRefusal::Memory) | ParseRefusal::Memory) => b"memory",
+        Refusal::Types(refusal) => type_refusal_name(refusal),
         Refusal::NotBuilt => b"early.NotBuilt",
+    }
+}
+
+fn type_refusal_name(refusal: TypeRefusal) -> &'static [u8]
+    ensures { result.now ≡ type_word refusal }
+{
+    match refusal {
+        TypeRefusal::Unknown(_) => b"type.Unknown",
+        TypeRefusal::Twice(_) => b"type.Twice",
+        TypeRefusal::Mismatch(_) => b"type.Mismatch",
+        TypeRefusal::Arity(_) => b"type.Arity",
+        TypeRefusal::PreOfExpression(_) => b"type.PreOfExpression",
+        TypeRefusal::EmptyRange(_) => b"type.EmptyRange",
+        TypeRefusal::RangeTooLarge(_) => b"type.RangeTooLarge",
+        TypeRefusal::NoNode => b"type.NoNode",
+        TypeRefusal::Memory => b"memory",
     }
 }
 
@@ -105,9 +123,25 @@ fn place_in_text(reason: Refusal) -> Option<usize>
         Refusal::Text(ParseRefusal::Unexpected(place) | ParseRefusal::TooDeep(place)) => {
             Some(place)
         }
+        Refusal::Types(refusal) => place_of_types(refusal),
         Refusal::Text(ParseRefusal::Lex(LexRefusal::Memory) | ParseRefusal::Memory)
         | Refusal::TooLong
         | Refusal::NotBuilt => None,
+    }
+}
+
+fn place_of_types(refusal: TypeRefusal) -> Option<usize>
+    ensures { result ≡ type_place refusal }
+{
+    match refusal {
+        TypeRefusal::Unknown(span)
+        | TypeRefusal::Twice(span)
+        | TypeRefusal::Mismatch(span)
+        | TypeRefusal::Arity(span)
+        | TypeRefusal::PreOfExpression(span)
+        | TypeRefusal::EmptyRange(span)
+        | TypeRefusal::RangeTooLarge(span) => Some(span.start),
+        TypeRefusal::NoNode | TypeRefusal::Memory => None,
     }
 }
 

@@ -4,6 +4,7 @@ ghost use Rattle.std.specs.Prelude.{◌≡◌};
 ghost use Rattle.lurette.specs.Lines.{status_code};
 
 use lt_parser::ParseRefusal;
+use lt_types::TypeRefusal;
 
 /// How a call of the program ended, with all that its line on standard error says.
 #[derive(Clone, Copy, Debug, PartialEq, Eq)]
@@ -55,6 +56,9 @@ pub enum Refusal {
 
     /// Its text spells no program.
     Text(ParseRefusal),
+
+    /// Its program isn't well typed.
+    Types(TypeRefusal),
 
     /// Its program is none that can be run.
     NotBuilt,

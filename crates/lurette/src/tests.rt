@@ -195,7 +195,11 @@ let m ( x , y : int ; z : bool ref ; u : trace ) : bool = x < y and z = true
 let t ( u : trace ) : trace = try u do raise e
 node n ( p : real [ - 1.5 ; 2 ] ; q : bool = false ) returns ( a , b : bool ; i : int [ 0 ; 9 ] = 3 ) = exist k : int [ 0 ; 5 ] = 1 in let s : bool = pre q in exception g in catch e in { | 2 : a | b } fby { |> a |> not b } do trap g in loop [ 1 , 3 ] { &> a &> b } do try assert i - - 1 * 2 / 3 + 4 >= 5 in loop ~ 2 : ( 1 ) m ( 1 , i mod 2 , q , { t ( { a } ) } ) or s xor a => ( if a then b else i div 2 <> 7 )
 ";
-    let words: [&[&str]; 2] = [&["print", "f"], &["print", "f", "-l", "0"]];
+    let words: [&[&str]; 3] = [
+        &["print", "f"],
+        &["print", "f", "-l", "0"],
+        &["print", "f", "--precision", "6", "-l", "0"],
+    ];
     for words in words {
         let call = call_of(rt.alloc(), words, &Outside::sound(text.as_bytes()))?;
         check(&rt, &call, 0, printed.as_bytes(), "");
@@ -207,7 +211,7 @@ node n ( p : real [ - 1.5 ; 2 ] ; q : bool = false ) returns ( a , b : bool ; i 
 #[test]
 fn words_are_refused(rt: HostRuntime) -> Result<(), Fail> {
     let alloc = rt.alloc();
-    let usages: [(&[&str], &str); 14] = [
+    let usages: [(&[&str], &str); 23] = [
         (&[], "words"),
         (&["walk"], "words"),
         (&["print"], "words"),
@@ -221,6 +225,21 @@ fn words_are_refused(rt: HostRuntime) -> Result<(), Fail> {
         (&["run", "f", "-l", "1000001"], "words"),
         (&["run", "f", "-l", "5", "-l", "5"], "words"),
         (&["run", "f", "--seed", "5"], "words"),
+        (&["run", "f", "--precision"], "words"),
+        (&["run", "f", "-l", "5", "--precision"], "words"),
+        (&["run", "f", "--precision", "7"], "words"),
+        (&["run", "f", "--precision", "02"], "words"),
+        (&["run", "f", "--precision", "+2"], "words"),
+        (&["run", "f", "--precision", "1000000"], "words"),
+        (&["print", "f", "--precision", ""], "words"),
+        (
+            &["run", "f", "--precision", "2", "--precision", "2"],
+            "words",
+        ),
+        (
+            &["run", "f", "-l", "5", "--precision", "2", "-l", "5"],
+            "words",
+        ),
         (&["prints", "f"], "mode"),
     ];
     for (words, kind) in usages {
@@ -259,23 +278,92 @@ fn texts_are_refused_with_their_places(rt: HostRuntime) -> Result<(), Fail> {
 }
 
 #[test]
+fn options_stand_in_any_order(rt: HostRuntime) -> Result<(), Fail> {
+    let alloc = rt.alloc();
+    let trace = format!(in alloc; "{HEADER}#step 1\nt #outs\n#end limit 1\n")?;
+    let words: [&[&str]; 4] = [
+        &["run", "f", "-l", "1"],
+        &["run", "f", "-l", "1", "--precision", "0"],
+        &["run", "f", "--precision", "6", "-l", "1"],
+        &["run", "f", "--precision", "2", "-l", "1"],
+    ];
+    for words in words {
+        let call = call_of(alloc, words, &Outside::sound(TOGGLE.as_bytes()))?;
+        check(&rt, &call, 0, trace.as_bytes(), "");
+    }
+    Ok(())
+}
+
+#[test]
+fn programs_that_break_a_rule_of_types_are_refused(rt: HostRuntime) -> Result<(), Fail> {
+    let alloc = rt.alloc();
+    // With 6 decimals, and with none.
+    let refusals = [
+        ("", "type.NoNode", "type.NoNode"),
+        ("exception A", "type.NoNode", "type.NoNode"),
+        (
+            "node n() returns (b: bool) = c",
+            "type.Unknown at 29",
+            "type.Unknown at 29",
+        ),
+        (
+            "node n() returns (b, b: bool) = b",
+            "type.Twice at 21",
+            "type.Twice at 21",
+        ),
+        (
+            "node n() returns (b: bool) = b()",
+            "type.Arity at 29",
+            "type.Arity at 29",
+        ),
+        (
+            "node n() returns (x: int) = x",
+            "type.Mismatch at 28",
+            "type.Mismatch at 28",
+        ),
+        (
+            "node n() returns (x: int [3;0]) = true",
+            "type.EmptyRange at 26",
+            "type.EmptyRange at 26",
+        ),
+        // With no decimals both ends are 0.
+        (
+            "node n() returns (x: real [0.3;0.2]) = true",
+            "type.EmptyRange at 27",
+            "early.NotBuilt",
+        ),
+        (
+            "let m(): int = 1 node n() returns (b: bool) = pre m",
+            "type.PreOfExpression at 50",
+            "type.PreOfExpression at 50",
+        ),
+    ];
+    for (text, with_six, with_none) in refusals {
+        for (decimals, refusal) in [("6", with_six), ("0", with_none)] {
+            let words = ["run", "f", "--precision", decimals];
+            let run = call_of(alloc, &words, &Outside::sound(text.as_bytes()))?;
+            let says = format!(in alloc; "lurette: refused {refusal}\n")?;
+            check(&rt, &run, 3, b"", &says);
+        }
+        let words = ["print", "f"];
+        let print = call_of(alloc, &words, &Outside::sound(text.as_bytes()))?;
+        assert_eq!(rt; print.status.code(), 0);
+    }
+    Ok(())
+}
+
+#[test]
 fn programs_that_cannot_run_are_refused_and_printed(rt: HostRuntime) -> Result<(), Fail> {
     let texts = [
-        "",
-        "exception e",
         "node n() returns (b: bool) = b exception e",
         "node n(y: int) returns (x: int [0;3]) = loop x = 1",
         "node n() returns () = true",
-        "node n() returns (b, b: bool) = b",
         "node n() returns (a, b, c, d, e, f, g, h, i: bool) = a",
         "node n() returns (a: bool; b: bool) = a",
-        "node n() returns (b: bool ref) = b",
         "node n() returns (b: bool = true) = b",
         "node n() returns (b: bool) = loop [0,1] b",
         "node n() returns (b: bool) = { b |> not b }",
-        "node n() returns (b: bool) = b()",
         "node n() returns (b: bool) = pre b",
-        "node n() returns (b: bool) = b and c",
         "node n() returns (b: bool) = b = true",
     ];
     for text in texts {
@@ -312,7 +400,7 @@ fn files_are_refused(rt: HostRuntime) -> Result<(), Fail> {
 #[test]
 fn long_files_are_refused(rt: HostRuntime) -> Result<(), Fail> {
     for (length, says) in [
-        (LONGEST, "lurette: refused early.NotBuilt\n"),
+        (LONGEST, "lurette: refused type.NoNode\n"),
         (LONGEST + 1, "lurette: refused file.TooLong\n"),
     ] {
         let blanks = vec![in rt.alloc(); b' '; length]?;

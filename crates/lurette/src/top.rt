@@ -4,6 +4,8 @@ ghost use Rattle.std.specs.Prelude.{◌≡◌, ◌≢◌, ◌↔◌, ◌≤◌, 
 ghost use Rattle.std.specs.Io.KnownBytes.{Appends, Keeps};
 ghost use Rattle.lt_ast.specs.View.{program as declarations};
 ghost use Rattle.lt_io.specs.Causes.{Rose};
+ghost use Rattle.lt_types.specs.Spelled.{HasText};
+ghost use Rattle.lt_types.specs.Typing.{IsWellTyped};
 ghost use Rattle.lurette.specs.Lines.{status_lines};
 ghost use Rattle.lurette.specs.Words.{requested};
 ghost use Rattle.lurette.specs.Call.{Tells, TextTells, RunTells, PrintTells, CountsFile, CountsTrace, AsksFor, SameCallSameBytes, RefusalsAreExact};
@@ -18,6 +20,7 @@ use lt_ast::{Program, print};
 use lt_io::{FileRefusal, Files, Sink};
 use lt_parser::{ParseRefusal, parse};
 use lt_step::Machine;
+use lt_types::{TypeRefusal, check};
 use std::alloc::Global;
 
 /// The longest text of a scenario, in bytes.
@@ -26,9 +29,10 @@ pub const LONGEST: usize = 1_048_576;
 // The greatest search that a machine may make. No search looks at it yet.
 const BUDGET: u64 = 10_000_000;
 
-/// Does what the words behind the program's name ask for: `run FILE [-l N]` reads the scenario FILE, runs
-/// it for at most N steps, 100 where none is given, and writes the trace; `print FILE` writes the program
-/// that FILE spells as text. What went wrong is said in a line.
+/// Does what the words behind the program's name ask for: `run FILE` reads the scenario FILE, runs it for at
+/// most as many steps as `-l N` says, 100 where it isn't given, and writes the trace; `print FILE` writes the
+/// program that FILE spells as text. With `--precision N` a real has N decimals, else 2. What went wrong is
+/// said in a line.
 pub fn lurette<F: Files, S: Sink, M: Sink>(
     alloc: Global,
     words: &[String],
@@ -59,6 +63,7 @@ pub fn lurette<F: Files, S: Sink, M: Sink>(
             request.mode,
             request.file,
             request.limit,
+            request.decimals,
             files,
             trace,
         ),
@@ -74,17 +79,19 @@ fn serve<F: Files, S: Sink>(
     mode: Mode,
     file: &str,
     limit: u64,
+    decimals: u32,
     files: &mut F,
     trace: &mut S,
 ) -> Status
-    requires { limit ≤ 1000000 }
-    ensures tells { Tells (record { mode = mode; file = file.now; limit = limit }) (F.contents files.old file.now) (S.written trace.old) (S.written trace.new) result }
-    ensures asks { AsksFor (record { mode = mode; file = file.now; limit = limit }) (F.asked files.old) (F.asked files.new) result }
+    requires few { limit ≤ 1000000 }
+    requires fine { decimals ≤ 6 }
+    ensures tells { Tells (record { mode = mode; file = file.now; limit = limit; decimals = decimals }) (F.contents files.old file.now) (S.written trace.old) (S.written trace.new) result }
+    ensures asks { AsksFor (record { mode = mode; file = file.now; limit = limit; decimals = decimals }) (F.asked files.old) (F.asked files.new) result }
     ensures file { CountsFile result (F.faults files.old) (F.faults files.new) }
     ensures trace { CountsTrace result (S.faults trace.old) (S.faults trace.new) }
 {
     match files.read(alloc, file, LONGEST) {
-        Ok(text) => serve_text(alloc, mode, &text, limit, trace),
+        Ok(text) => serve_text(alloc, mode, &text, limit, decimals, trace),
         Err(FileRefusal::Failed) => Status::Device {
             device: Device::File,
             text: 0,
@@ -95,9 +102,18 @@ fn serve<F: Files, S: Sink>(
 }
 
 // Does what is asked for with the program that a text spells.
-fn serve_text<S: Sink>(alloc: Global, mode: Mode, text: &[u8], limit: u64, trace: &mut S) -> Status
-    requires { limit ≤ 1000000 }
-    ensures tells { TextTells mode text.now limit (S.written trace.old) (S.written trace.new) result }
+#[tactic(auto, using(crate::proofs::Calls::has_text))]
+fn serve_text<S: Sink>(
+    alloc: Global,
+    mode: Mode,
+    text: &[u8],
+    limit: u64,
+    decimals: u32,
+    trace: &mut S,
+) -> Status
+    requires few { limit ≤ 1000000 }
+    requires fine { decimals ≤ 6 }
+    ensures tells { TextTells mode text.now limit decimals (S.written trace.old) (S.written trace.new) result }
     ensures trace { CountsTrace result (S.faults trace.old) (S.faults trace.new) }
     ensures no_file { (at : ℕ) → result ≢ Status.Device Device.File at }
 {
@@ -107,18 +123,47 @@ fn serve_text<S: Sink>(alloc: Global, mode: Mode, text: &[u8], limit: u64, trace
         Err(refusal) => return Status::Refused(Refusal::Text(refusal)),
     };
     match mode {
-        Mode::Run => run_program(alloc, &program, limit, trace),
+        Mode::Run => run_program(alloc, program, limit, decimals, trace),
         Mode::Print => print_program(alloc, &program, trace),
     }
 }
 
-// Runs a program.
-fn run_program<S: Sink>(alloc: Global, program: &Program, limit: u64, trace: &mut S) -> Status
-    requires { limit ≤ 1000000 }
-    ensures tells { RunTells (declarations program.now) limit (S.written trace.old) (S.written trace.new) result }
+// Runs a program, where it is well typed.
+#[tactic(auto, using(crate::proofs::Calls::leads_first, crate::proofs::Calls::same_tells))]
+fn run_program<S: Sink>(
+    alloc: Global,
+    program: Program,
+    limit: u64,
+    decimals: u32,
+    trace: &mut S,
+) -> Status
+    requires few { limit ≤ 1000000 }
+    requires fine { decimals ≤ 6 }
+    requires spelled { HasText (declarations program) }
+    ensures tells { RunTells (declarations program) limit decimals (S.written trace.old) (S.written trace.new) result }
     ensures trace { CountsTrace result (S.faults trace.old) (S.faults trace.new) }
 {
-    let scenario = match scenario_of(alloc, program) {
+    match check(alloc, program, decimals) {
+        Ok(typed) => run_typed(alloc, typed.program(), limit, typed.decimals(), trace),
+        Err(TypeRefusal::Memory) => Status::Memory,
+        Err(refusal) => Status::Refused(Refusal::Types(refusal)),
+    }
+}
+
+// Runs a program that is well typed.
+fn run_typed<S: Sink>(
+    alloc: Global,
+    program: &Program,
+    limit: u64,
+    decimals: u32,
+    trace: &mut S,
+) -> Status
+    requires few { limit ≤ 1000000 }
+    requires typed { IsWellTyped decimals (declarations program.now) }
+    ensures tells { RunTells (declarations program.now) limit decimals (S.written trace.old) (S.written trace.new) result }
+    ensures trace { CountsTrace result (S.faults trace.old) (S.faults trace.new) }
+{
+    let scenario = match scenario_of(alloc, program, decimals) {
         Ok(scenario) => scenario,
         Err(Unprepared::NotBuilt) => return Status::Refused(Refusal::NotBuilt),
         Err(Unprepared::Memory) => return Status::Memory,
