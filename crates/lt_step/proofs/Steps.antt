@@ -1,10 +1,10 @@
 -- What a step answers, from what is taken.
 use Rattle.std.proofs.Common.{◌≡◌, Bool, false, List, ap, sym, ◌∙◌}
+use Rattle.lt_num.specs.declared.value.Value.{Value}
 use Rattle.lt_term.specs.Offers.{offers_of}
-use Rattle.lt_term.specs.Scene.{Scene, Configuration, output_kinds}
+use Rattle.lt_term.specs.Scene.{Scene, Configuration, output_domains}
 use Rattle.lt_term.specs.View.{process_over}
 use Rattle.lt_term.specs.declared.table.Table.{Table}
-use Rattle.lt_term.specs.declared.value.Value.{Value}
 use Rattle.lt_step.specs.Drawn.{drawn_leaf}
 use Rattle.lt_step.specs.Instant.{Instant, values, normal, deadlock, next_configuration, gone_on, taken, instant_of}
 use Rattle.lt_step.specs.Machine.{answered, step_in}
@@ -21,7 +21,7 @@ instant_by table c vs Vanish = normal
 instant_by table c vs (Go next) = values vs (next_configuration c (process_over table next) vs)
 
 -- the instant of a configuration, from what is taken
-pub takes_instant : (s : Scene) (c : Configuration) (table : Table) (t : Taken) (vs : List Value) → Takes (output_kinds s) table (drawn_leaf (output_kinds s) (offers_of c.process)) t vs → instant_of s c ≡ instant_by table c vs t
+pub takes_instant : (s : Scene) (c : Configuration) (table : Table) (t : Taken) (vs : List Value) → Takes (output_domains s) table (drawn_leaf (output_domains s) (offers_of c.process)) t vs → instant_of s c ≡ instant_by table c vs t
 takes_instant s c table Nothing vs h = ap (taken s c) h
 takes_instant s c table Vanish vs h = ap (taken s c) h
 takes_instant s c table (Go next) vs h = ap (taken s c) h.1 ∙ ap (gone_on c (process_over table next)) h.2

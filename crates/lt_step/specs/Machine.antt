@@ -1,6 +1,6 @@
 -- A machine of instants.
 use Rattle.std.specs.Prelude.{List, []}
-use Rattle.lt_term.specs.declared.value.Value.{Value}
+use Rattle.lt_num.specs.declared.value.Value.{Value}
 use Rattle.lt_term.specs.Scene.{Scene, Configuration, first_configuration}
 use Rattle.lt_step.specs.Instant.{Instant, values, normal, deadlock, instant_of}
 use Rattle.lt_step.specs.declared.machine.Outcome.{Outcome}

@@ -5,7 +5,7 @@ ghost use Rattle.std.specs.List.{list_all};
 ghost use Rattle.lt_term.specs.Solution.{first_solution};
 ghost use Rattle.lt_term.specs.Process.{is_within};
 ghost use Rattle.lt_term.specs.Offers.{node_is_within, offers_of};
-ghost use Rattle.lt_term.specs.Scene.{output_kinds};
+ghost use Rattle.lt_term.specs.Scene.{output_domains};
 ghost use Rattle.lt_term.specs.View.{process, process_over, table_len, tree_nodes};
 ghost use Rattle.lt_term.specs.SceneView.{scene};
 ghost use Rattle.lt_step.specs.Drawn.{drawn_leaf, DrawIsLegal};
@@ -14,7 +14,8 @@ ghost use Rattle.lt_step.specs.LeafView.{nodes_over, first_live, Solves, Takes, 
 ghost use Rattle.lt_step.specs.Search.{expressions_at};
 
 use crate::search::extend;
-use lt_term::{Memory, Scenario, Term, TreeNode, Value, offers};
+use lt_num::Value;
+use lt_term::{Memory, Scenario, Term, TreeNode, offers};
 use std::alloc::Global;
 
 /// What an instant takes of what a term offers.
@@ -39,8 +40,8 @@ pub fn drawn(
     outputs: &mut Vec<Value>,
 ) -> Result<Taken, Memory>
     requires { IsTrue (is_within (table_len scenario.now.table) (process term.now)) }
-    ensures takes { let kinds = output_kinds (scene scenario.now) in
-        IfOk result (λ t. Takes kinds scenario.now.table (drawn_leaf kinds (offers_of (process_over scenario.now.table term.now))) t outputs.new.items) }
+    ensures takes { let domains = output_domains (scene scenario.now) in
+        IfOk result (λ t. Takes domains scenario.now.table (drawn_leaf domains (offers_of (process_over scenario.now.table term.now))) t outputs.new.items) }
     ensures within { IfOk result (λ t. IsTrue (taken_is_within (table_len scenario.now.table) t)) }
 {
     let tree = offers(alloc, term)?;
@@ -54,8 +55,8 @@ fn first_of(
     outputs: &mut Vec<Value>,
 ) -> Result<Taken, Memory>
     requires { IsTrue (list_all (node_is_within (table_len scenario.now.table)) (tree_nodes nodes.items)) }
-    ensures takes { let kinds = output_kinds (scene scenario.now) in
-        IfOk result (λ t. Takes kinds scenario.now.table (first_live kinds (nodes_over scenario.now.table nodes.items)) t outputs.new.items) }
+    ensures takes { let domains = output_domains (scene scenario.now) in
+        IfOk result (λ t. Takes domains scenario.now.table (first_live domains (nodes_over scenario.now.table nodes.items)) t outputs.new.items) }
     ensures within { IfOk result (λ t. IsTrue (taken_is_within (table_len scenario.now.table) t)) }
 {
     for node in nodes {
@@ -76,7 +77,7 @@ fn first_of(
 #[tactic(auto, using(crate::proofs::Searches::earlier_none))]
 fn solve(scenario: &Scenario, constraints: &[u32], outputs: &mut Vec<Value>) -> Result<bool, Memory>
     requires { IsTrue (list_all (λ c. nat_lt c (table_len scenario.now.table)) constraints.now) }
-    ensures { IfOk result (λ found. Solves (first_solution (expressions_at scenario.now.table constraints.now) (output_kinds (scene scenario.now))) outputs.new.items found) }
+    ensures { IfOk result (λ found. Solves (first_solution (expressions_at scenario.now.table constraints.now) (output_domains (scene scenario.now))) outputs.new.items found) }
 {
     outputs.clear();
     extend(&scenario.table, constraints, &scenario.outputs, outputs)

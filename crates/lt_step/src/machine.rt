@@ -6,7 +6,8 @@ ghost use Rattle.lt_term.specs.View.{process, table_len};
 ghost use Rattle.lt_step.specs.Machine.{going, over, started, step_of, outputs_in, IfGoing, IsGoing};
 
 use crate::drawing::{Taken, drawn};
-use lt_term::{Memory, Scenario, Term, Value, Var};
+use lt_num::Value;
+use lt_term::{Memory, Scenario, Term, Var};
 use std::alloc::Global;
 
 /// What a step of a machine answers.
@@ -127,9 +128,10 @@ impl Machine {
         &self.scenario.exceptions
     }
 
-    /// How many decimals a real number has.
+    /// How many decimals a real number has: 0 to 6.
     pub fn decimals(&self) -> u32
-        ensures { result ≡ (machine_state self.now).scene.decimals }
+        ensures is { result ≡ (machine_state self.now).scene.decimals }
+        ensures few { result ≤ 6 }
     {
         self.scenario.decimals
     }

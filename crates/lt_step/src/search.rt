@@ -1,11 +1,12 @@
 //! The search for the first solution of some constraints.
 
-ghost use Rattle.std.specs.Prelude.{◌≡◌, ◌<◌, ◌+◌, ℕ, ◌++◌, [], ◌∷◌, length, map, IfOk, IsTrue, nat_lt};
+ghost use Rattle.std.specs.Prelude.{◌≡◌, ◌<◌, ◌+◌, ℕ, ◌++◌, [], ◌∷◌, length, IfOk, IsTrue, nat_lt};
 ghost use Rattle.std.specs.List.{list_all};
 ghost use Rattle.lt_term.specs.View.{table_len, table_outputs};
-ghost use Rattle.lt_step.specs.Search.{expressions_at, EarlierHold, all_hold_newly, Finds, FindsBehind};
+ghost use Rattle.lt_step.specs.Search.{domain, domains_of, expressions_at, EarlierHold, all_hold_newly, Finds, FindsBehind};
 
-use lt_term::{Kind, Memory, Table, Value, Var};
+use lt_num::Value;
+use lt_term::{Memory, Table, Var};
 
 /// Adds to some outputs the first values of further ones with which all constraints hold. False means
 /// that there are none; the outputs are then as before. A constraint is judged as soon as the last output
@@ -22,22 +23,42 @@ pub fn extend(
     requires known { IsTrue (list_all (λ c. nat_lt c (table_len table.now)) constraints.now) }
     requires whole { length outputs.old.items + length further.now ≡ table_outputs table.now }
     requires earlier { EarlierHold (expressions_at table.now constraints.now) outputs.old.items }
-    ensures { IfOk result (λ found. Finds (expressions_at table.now constraints.now) (map (λ v. v.kind) further.now) outputs.old.items outputs.new.items found) }
+    ensures { IfOk result (λ found. Finds (expressions_at table.now constraints.now) (domains_of further.now) outputs.old.items outputs.new.items found) }
 {
     if !all_hold_newly_in(table, constraints, outputs) {
         return Ok(false);
     }
     match further {
         [] => Ok(true),
-        [variable, rest @ ..] => match variable.kind {
-            Kind::Bool => {
-                if extend_by(table, constraints, Value::Bool(false), rest, outputs)? {
-                    return Ok(true);
-                }
-                extend_by(table, constraints, Value::Bool(true), rest, outputs)
-            }
-        },
+        [variable, rest @ ..] => extend_within(table, constraints, variable, rest, outputs),
     }
+}
+
+// Adds the first value of a variable, and then the first values of further ones, with which all
+// constraints hold. Those that need no more outputs than there are hold when it is called.
+#[cycle(search)]
+#[tactic(auto, using(crate::proofs::Searches::earlier_more))]
+fn extend_within(
+    table: &Table,
+    constraints: &[u32],
+    first: &Var,
+    further: &[Var],
+    outputs: &mut Vec<Value>,
+) -> Result<bool, Memory>
+    requires known { IsTrue (list_all (λ c. nat_lt c (table_len table.now)) constraints.now) }
+    requires whole { length outputs.old.items + length further.now + 1 ≡ table_outputs table.now }
+    requires earlier { EarlierHold (expressions_at table.now constraints.now) outputs.old.items }
+    requires newly { IsTrue (all_hold_newly (expressions_at table.now constraints.now) outputs.old.items) }
+    ensures { IfOk result (λ found. Finds (expressions_at table.now constraints.now) (domain first.now ∷ domains_of further.now) outputs.old.items outputs.new.items found) }
+{
+    let range = first.range;
+    for raw in range.low..=range.high {
+        let value = Value::of_raw(first.kind, raw);
+        if extend_by(table, constraints, value, further, outputs)? {
+            return Ok(true);
+        }
+    }
+    Ok(false)
 }
 
 // Adds this value, and then the first values of further outputs with which all constraints hold.
@@ -52,7 +73,7 @@ fn extend_by(
     requires known { IsTrue (list_all (λ c. nat_lt c (table_len table.now)) constraints.now) }
     requires whole { length outputs.old.items + length further.now + 1 ≡ table_outputs table.now }
     requires earlier { EarlierHold (expressions_at table.now constraints.now) (outputs.old.items ++ value ∷ []) }
-    ensures { IfOk result (λ found. FindsBehind value (expressions_at table.now constraints.now) (map (λ v. v.kind) further.now) outputs.old.items outputs.new.items found) }
+    ensures { IfOk result (λ found. FindsBehind value (expressions_at table.now constraints.now) (domains_of further.now) outputs.old.items outputs.new.items found) }
 {
     outputs.push(value)?;
     let found = extend(table, constraints, further, outputs)?;

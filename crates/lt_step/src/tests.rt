@@ -7,7 +7,8 @@ ghost use Rattle.lt_step.specs.Machine.{IfGoing};
 ghost use Rattle.lt_step.specs.View.{machine_state};
 
 use crate::{Machine, Outcome};
-use lt_term::{ExpNode, Kind, Scenario, Table, Term, Value, Var};
+use lt_num::{Kind, Range, Value};
+use lt_term::{ExpNode, Scenario, Table, Term, Var};
 use std::alloc::{AllocError, Global};
 use std::test::Fail;
 
@@ -51,19 +52,40 @@ fn flag(alloc: Global, name: &str) -> Result<Var, Fail> {
     Ok(Var {
         name: String::from_str(alloc, name)?,
         kind: Kind::Bool,
+        range: Range { low: 0, high: 1 },
     })
 }
 
-// A machine for a scenario of two outputs.
+// An int from -1 to 2.
+fn small_int(alloc: Global, name: &str) -> Result<Var, Fail> {
+    Ok(Var {
+        name: String::from_str(alloc, name)?,
+        kind: Kind::Int,
+        range: Range { low: -1, high: 2 },
+    })
+}
+
+// A machine for a scenario of two Boolean outputs.
 fn machine(alloc: Global, body: Term) -> Result<Machine, Fail>
+    requires { IsTrue (is_within 8 (process body)) }
+    ensures inputs { IfOk result (λ m. length (machine_state m).scene.inputs ≡ 0) }
+    ensures number { IfOk result (λ m. IfGoing (machine_state m).phase (λ c. c.step ≡ 1)) }
+{
+    let first = flag(alloc, "a")?;
+    let second = flag(alloc, "b")?;
+    machine_of(alloc, first, second, body)
+}
+
+// A machine for a scenario of two outputs.
+fn machine_of(alloc: Global, first: Var, second: Var, body: Term) -> Result<Machine, Fail>
     requires { IsTrue (is_within 8 (process body)) }
     ensures inputs { IfOk result (λ m. length (machine_state m).scene.inputs ≡ 0) }
     ensures number { IfOk result (λ m. IfGoing (machine_state m).phase (λ c. c.step ≡ 1)) }
 {
     let table = expressions(alloc)?;
     let mut outputs = Vec::new(alloc);
-    outputs.push(flag(alloc, "a")?)?;
-    outputs.push(flag(alloc, "b")?)?;
+    outputs.push(first)?;
+    outputs.push(second)?;
     let scenario = Scenario {
         name: String::from_str(alloc, "n")?,
         decimals: 2,
@@ -153,5 +175,17 @@ fn finds_a_deadlock(rt: HostRuntime) -> Result<(), Fail> {
     let alloc = rt.alloc();
     let mut machine = machine(alloc, Term::Con(NEVER))?;
     assert_eq!(rt; step(alloc, &mut machine, 1), Outcome::Deadlock);
+    Ok(())
+}
+
+// An int that no constraint names has the least value of its range.
+#[test]
+fn takes_ints_from_the_low_end(rt: HostRuntime) -> Result<(), Fail> {
+    let alloc = rt.alloc();
+    let first = small_int(alloc, "n")?;
+    let second = flag(alloc, "b")?;
+    let mut machine = machine_of(alloc, first, second, Term::Con(B))?;
+    assert_eq!(rt; step(alloc, &mut machine, 1), Outcome::Values);
+    assert_eq!(rt; machine.outputs(), [Value::Num(-1), TRUE].as_slice());
     Ok(())
 }

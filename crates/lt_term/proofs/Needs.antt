@@ -2,14 +2,15 @@
 use Rattle.std.proofs.Common.{◌≡◌, ℕ, zero, suc, ◌<◌, ◌≤◌, ◌&&◌, ◌||◌, max, not, IsTrue, List, [], ◌∷◌, ◌++◌, length, refl, ap, sym, ◌∙◌, arith, false, subst}
 use Rattle.std.proofs.lemmas.List.{get_or_append_left}
 use Rattle.std.proofs.Math.Nat.{max-le}
-use Rattle.lt_term.specs.Expression.{Expression, flag, output, negation, conjunction, disjunction, exclusive_disjunction, implication, is_true, exactly_one, outputs_needed, TruthNeedsNoMore}
+use Rattle.lt_num.specs.Value.{is_true}
+use Rattle.lt_num.specs.declared.value.Value.TheVariants as value
+use Rattle.lt_term.specs.Expression.{Expression, flag, output, negation, conjunction, disjunction, exclusive_disjunction, implication, exactly_one, outputs_needed, TruthNeedsNoMore}
 use Rattle.lt_term.specs.Table.{spelled, expression_at, extended, fits, are_ordered, nodes_of}
 use Rattle.lt_term.specs.View.{table_len, table_outputs, table_expressions}
 use Rattle.lt_term.proofs.Tables.{HasPartsBelow, left_of, right_of, length_more, parts_below, length-entries}
 use Rattle.lt_term.specs.declared.table.ExpNode.{ExpNode}
 use Rattle.lt_term.specs.declared.table.ExpNode.TheVariants.{Flag, Output, Not, And, Or, Xor, Implies}
 use Rattle.lt_term.specs.declared.table.Table.{Table}
-use Rattle.lt_term.specs.declared.value.Value.TheVariants as value
 
 pub truth_needs_no_more : TruthNeedsNoMore
 truth_needs_no_more (flag b) outputs more h = refl

@@ -1,8 +1,9 @@
 -- Boolean expressions over the outputs of an instant, and their truth.
 use Rattle.std.specs.Prelude.{◌≡◌, ◌+◌, ◌≤◌, ◌++◌, length, max, ℕ, Bool, true, false, not, ◌&&◌, ◌||◌, List, slice_index_or}
 use Rattle.std.specs.List.{list_all}
-use Rattle.lt_term.specs.declared.value.Value.{Value}
-use Rattle.lt_term.specs.declared.value.Value.TheVariants as value
+use Rattle.lt_num.specs.Value.{is_true}
+use Rattle.lt_num.specs.declared.value.Value.{Value}
+use Rattle.lt_num.specs.declared.value.Value.TheVariants as value
 
 -- a Boolean expression
 pub data Expression : Type 0 where
@@ -20,10 +21,6 @@ pub data Expression : Type 0 where
   exclusive_disjunction : Expression → Expression → Expression
   -- the second wherever the first
   implication : Expression → Expression → Expression
-
--- the truth of a value
-abbrev pub is_true : Value → Bool
-is_true (value.Bool b) = b
 
 -- whether exactly one of two is true
 abbrev pub exactly_one : Bool → Bool → Bool

@@ -1,3 +1,4 @@
+pub mod Domain
 pub mod Expression
 pub mod Table
 pub mod Solution

@@ -1,14 +1,21 @@
 -- A scenario as contracts see it, and where a run of it stands.
 use Rattle.std.specs.Prelude.{ℕ, List, [], map}
+use Rattle.lt_num.specs.declared.kind.Kind.{Kind}
+use Rattle.lt_num.specs.declared.range.Range.{Range}
+use Rattle.lt_num.specs.declared.value.Value.{Value}
+use Rattle.lt_term.specs.Domain.{Domain}
 use Rattle.lt_term.specs.Expression.{Expression}
 use Rattle.lt_term.specs.Process.{Process}
-use Rattle.lt_term.specs.declared.value.Kind.{Kind}
-use Rattle.lt_term.specs.declared.value.Value.{Value}
 
--- a variable: its name, and the kind of its values
+-- a variable: its name, and the kind and the raw numbers of its values
 pub record Variable : Type 0 where
   pub name : List ℕ
   pub kind : Kind
+  pub range : Range
+
+-- the values that a variable may take
+abbrev pub domain_of : Variable → Domain
+domain_of v = record { kind = v.kind; range = v.range }
 
 -- a scenario: its variables, the names of its exceptions, and what it does
 pub record Scene : Type 0 where
@@ -20,9 +27,9 @@ pub record Scene : Type 0 where
   pub exceptions : List (List ℕ)
   pub body : Process Expression
 
--- the kinds of the outputs, in order
-abbrev pub output_kinds : Scene → List Kind
-output_kinds s = map (λ v. v.kind) s.outputs
+-- the domains of the outputs, in order
+abbrev pub output_domains : Scene → List Domain
+output_domains s = map domain_of s.outputs
 
 -- where a run stands between two instants
 pub record Configuration : Type 0 where

@@ -7,7 +7,7 @@ use Rattle.lt_term.specs.declared.scenario.Scenario.{Scenario}
 
 -- a variable
 abbrev pub variable : Var → Variable
-variable v = record { name = string_bytes v.name; kind = v.kind }
+variable v = record { name = string_bytes v.name; kind = v.kind; range = v.range }
 
 -- a scenario, with expressions in place of numbers
 abbrev pub scene : Scenario → Scene

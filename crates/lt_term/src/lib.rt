@@ -14,7 +14,6 @@ mod solution;
 mod table;
 mod term;
 mod tree;
-mod value;
 
 pub use memory::Memory;
 pub use scenario::{Scenario, Var};
@@ -22,4 +21,3 @@ pub use solution::first_solution_is_first;
 pub use table::{ExpNode, Table, truth_needs_no_more};
 pub use term::Term;
 pub use tree::{Tree, TreeNode, offers};
-pub use value::{Kind, Value};

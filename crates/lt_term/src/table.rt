@@ -5,7 +5,7 @@ ghost use Rattle.lt_term.specs.Expression.{truth_of, outputs_needed, TruthNeedsN
 ghost use Rattle.lt_term.specs.Table.{spelled, expression_at, expressions_of, fits, are_ordered, nodes_of, needs_of};
 
 use crate::memory::Memory;
-use crate::value::Value;
+use lt_num::Value;
 use std::alloc::Global;
 
 /// An expression whose parts are given by their numbers in a table.

@@ -8,14 +8,13 @@ use Rattle.lt_term.specs.Expression.{Expression}
 use Rattle.lt_term.specs.Process.{Process}
 use Rattle.lt_term.specs.Offers.{Leaf, vanish, nothing, go, offers_of}
 use Rattle.lt_term.specs.Solution.{first_solution}
-use Rattle.lt_term.specs.Scene.{Scene, Configuration, output_kinds}
+use Rattle.lt_term.specs.Scene.{Scene, Configuration, output_domains}
 use Rattle.lt_step.specs.Drawn.{drawn_leaf}
-use Rattle.lt_term.specs.declared.value.Value.{Value}
+use Rattle.lt_num.specs.declared.value.Value.{Value}
 use Rattle.lt_step.specs.Instant.{Instant, values, normal, deadlock, instant_of, gone_on, taken}
 use Rattle.lt_step.specs.Machine.{Phase, going, over, State, Step, outputs_in, answered, step_of, step_in}
 use Rattle.lt_step.specs.declared.machine.Outcome.TheVariants as outcome
-use Rattle.lurette.specs.Play.{Play, Ending, EndsWell, ended, behind, goes_on, play_from, trace_pieces, joined, trace_text}
-use Rattle.lurette.specs.TraceText.{step_text}
+use Rattle.lurette.specs.Play.{Play, Ending, EndsWell, ended, behind, goes_on, instant_text, play_from, trace_pieces, joined, trace_text}
 use Rattle.lurette.specs.Writing.{AppendsPart}
 use Rattle.lurette.specs.Running.{rest_in, rest_of, IsAt, EndsHere, FailsIn, Follows}
 use Rattle.lurette.specs.Call.{IsCutAt, Shows}
@@ -26,12 +25,12 @@ use Rattle.lurette.specs.declared.status.Device.TheVariants as device
 
 -- A step that answers an end leaves that end of the run.
 
-normal_next : (s : Scene) (c : Configuration) (i : Instant) (new : State) (left : ℕ) → record { outcome = outcome.Normal; state = new } ≡ answered s i → goes_on c i (play_from s left) ≡ ended end.Normal (c.step - 1)
+normal_next : (s : Scene) (c : Configuration) (i : Instant) (new : State) (left : ℕ) → record { outcome = outcome.Normal; state = new } ≡ answered s i → goes_on s c i (play_from s left) ≡ ended end.Normal (c.step - 1)
 normal_next s c (values vs next) new left h = let e = ap (λ (step : Step). step.outcome) h in cc
 normal_next s c normal new left h = refl
 normal_next s c deadlock new left h = let e = ap (λ (step : Step). step.outcome) h in cc
 
-deadlock_next : (s : Scene) (c : Configuration) (i : Instant) (new : State) (left : ℕ) → record { outcome = outcome.Deadlock; state = new } ≡ answered s i → goes_on c i (play_from s left) ≡ ended end.Deadlock c.step
+deadlock_next : (s : Scene) (c : Configuration) (i : Instant) (new : State) (left : ℕ) → record { outcome = outcome.Deadlock; state = new } ≡ answered s i → goes_on s c i (play_from s left) ≡ ended end.Deadlock c.step
 deadlock_next s c (values vs next) new left h = let e = ap (λ (step : Step). step.outcome) h in cc
 deadlock_next s c normal new left h = let e = ap (λ (step : Step). step.outcome) h in cc
 deadlock_next s c deadlock new left h = refl
@@ -74,25 +73,25 @@ leads_taken : (s : Scene) (c : Configuration) (l : Option (Leaf Expression)) →
 leads_taken s c None = tt
 leads_taken s c (Some vanish) = tt
 leads_taken s c (Some nothing) = tt
-leads_taken s c (Some (go es n)) = leads_on c n (first_solution es (output_kinds s))
+leads_taken s c (Some (go es n)) = leads_on c n (first_solution es (output_domains s))
 
 -- what is known after a step of this number that answered values
 abbrev Behind : Scene → ℕ → Play → State → ℕ → Type 0
 Behind s step rest new left =
-    (new.scene ≡ s) × IsAt (step + 1) new.phase × (rest ≡ behind (step_text step (outputs_in new.phase)) (rest_of new left))
+    (new.scene ≡ s) × IsAt (step + 1) new.phase × (rest ≡ behind (instant_text new.scene step (outputs_in new.phase)) (rest_of new left))
 
-values_next : (s : Scene) (c : Configuration) (i : Instant) (new : State) (left : ℕ) → Leads c i → record { outcome = outcome.Values; state = new } ≡ answered s i → Behind s c.step (goes_on c i (play_from s left)) new left
+values_next : (s : Scene) (c : Configuration) (i : Instant) (new : State) (left : ℕ) → Leads c i → record { outcome = outcome.Values; state = new } ≡ answered s i → Behind s c.step (goes_on s c i (play_from s left)) new left
 values_next s c (values vs next) new left l h =
     let e : record { scene = s; phase = going next } ≡ new = sym (ap (λ (step : Step). step.state) h) in
-    let P : State → Type 0 = λ n. Behind s c.step (goes_on c (values vs next) (play_from s left)) n left in
-    subst P e (refl, l.0, ap (λ outputs. behind (step_text c.step outputs) (play_from s left next)) (sym l.1))
+    let P : State → Type 0 = λ n. Behind s c.step (goes_on s c (values vs next) (play_from s left)) n left in
+    subst P e (refl, l.0, ap (λ outputs. behind (instant_text s c.step outputs) (play_from s left next)) (sym l.1))
 values_next s c normal new left l h = absurd (let e = ap (λ (step : Step). step.outcome) h in cc)
 values_next s c deadlock new left l h = absurd (let e = ap (λ (step : Step). step.outcome) h in cc)
 
 values_in : (s : Scene) (p : Phase) (step : ℕ) (new : State) → IsAt step p → record { outcome = outcome.Values; state = new } ≡ step_in s p → (left : ℕ) → Behind s step (rest_in s (suc left) p) new left
 values_in s (going c) step new at h left =
     let P : ℕ → Type 0 = λ k. Behind s k (rest_in s (suc left) (going c)) new left in
-    subst P at (values_next s c (instant_of s c) new left (leads_taken s c (drawn_leaf (output_kinds s) (offers_of c.process))) h)
+    subst P at (values_next s c (instant_of s c) new left (leads_taken s c (drawn_leaf (output_domains s) (offers_of c.process))) h)
 values_in s over step new at h left = absurd at
 
 pub rest_values : (m new : State) (step : ℕ) → IsAt step m.phase → record { outcome = outcome.Values; state = new } ≡ step_of m → (left : ℕ) → Behind m.scene step (rest_of m (suc left)) new left

@@ -1,6 +1,7 @@
 -- A run: what it puts out, and how it ends.
 use Rattle.std.specs.Prelude.{ℕ, zero, suc, ◌-◌, List, [], ◌∷◌}
 use Rattle.std.specs.List.{flat_map}
+use Rattle.lt_num.specs.declared.value.Value.{Value}
 use Rattle.lt_term.specs.Scene.{Scene, Configuration, first_configuration}
 use Rattle.lt_step.specs.Instant as instant
 use Rattle.lt_step.specs.Instant.{Instant, instant_of}
@@ -51,16 +52,20 @@ ended end at = record { pieces = trace_piece (end_text end at) ∷ []; ending = 
 abbrev pub behind : List ℕ → Play → Play
 behind text rest = record { pieces = trace_piece text ∷ rest.pieces; ending = rest.ending }
 
+-- the text of an instant of this number, with these values of the outputs
+abbrev pub instant_text : Scene → ℕ → List Value → List ℕ
+instant_text s step outputs = step_text s.decimals s.outputs step outputs
+
 -- a run in which this is the next instant, and go on what follows it
-abbrev pub goes_on : Configuration → Instant → (Configuration → Play) → Play
-goes_on c (instant.values outputs next) go = behind (step_text c.step outputs) (go next)
-goes_on c instant.normal go = ended Normal (c.step - 1)
-goes_on c instant.deadlock go = ended Deadlock c.step
+abbrev pub goes_on : Scene → Configuration → Instant → (Configuration → Play) → Play
+goes_on s c (instant.values outputs next) go = behind (instant_text s c.step outputs) (go next)
+goes_on s c instant.normal go = ended Normal (c.step - 1)
+goes_on s c instant.deadlock go = ended Deadlock c.step
 
 -- a run of at most so many further steps from here
 abbrev pub play_from : Scene → ℕ → Configuration → Play
 play_from s zero c = ended Limit (c.step - 1)
-play_from s (suc left) c = goes_on c (instant_of s c) (play_from s left)
+play_from s (suc left) c = goes_on s c (instant_of s c) (play_from s left)
 
 -- the run of a scenario with nobody beside the tester
 abbrev pub play_of : Scene → Setup → Play

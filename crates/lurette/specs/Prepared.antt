@@ -1,14 +1,14 @@
 -- The scene of a program that runs.
-use Rattle.std.specs.Prelude.{◌≡◌, ℕ, suc, ◌<◌, ◌≤◌, Bool, true, false, IsTrue, List, [], ◌∷◌, map, if◌then◌else◌}
+use Rattle.std.specs.Prelude.{◌≡◌, ℕ, suc, ◌<◌, ◌≤◌, Bool, true, false, IsTrue, List, [], ◌∷◌, map, if◌then◌else◌, pos}
 use Rattle.std.specs.Str.{bytes_eq}
 use Rattle.lt_ast.specs.Syntax as s
 use Rattle.lt_ast.specs.Syntax.{Exp, Braces, Trace, Traces, Groupings, Declaration}
 use Rattle.lt_ast.specs.declared.expr.BinOp.{BinOp}
 use Rattle.lt_ast.specs.declared.expr.BinOp.TheVariants as bin
+use Rattle.lt_num.specs.declared.kind.Kind.TheVariants as kind
 use Rattle.lt_term.specs.Expression.{Expression, flag, output, negation, conjunction, disjunction, exclusive_disjunction, implication}
 use Rattle.lt_term.specs.Process.{Process, eps, con, seq, loop}
 use Rattle.lt_term.specs.Scene.{Scene, Variable}
-use Rattle.lt_term.specs.declared.value.Kind.TheVariants as kind
 use Rattle.lurette.specs.Form.{group_names}
 
 -- What isn't part of a program that runs has a meaning here too, which nothing asks for.
@@ -62,7 +62,7 @@ abbrev mutual
 
 -- a Boolean output of this name
 abbrev pub output_variable : List ℕ → Variable
-output_variable name = record { name = name; kind = kind.Bool }
+output_variable name = record { name = name; kind = kind.Bool; range = record { low = pos 0; high = pos 1 } }
 
 -- the scene of a node of this name, with so many decimals and these outputs, that does this
 abbrev pub scene_with : List ℕ → ℕ → List (List ℕ) → Process Expression → Scene

@@ -4,8 +4,7 @@ use Rattle.std.specs.Io.KnownBytes.{Appends, Keeps}
 use Rattle.std.specs.declared.option.Option.{Option}
 use Rattle.lt_term.specs.Scene.{Scene}
 use Rattle.lt_step.specs.Machine.{Phase, going, over, State, outputs_in}
-use Rattle.lurette.specs.Play.{Play, EndsWell, ended, behind, play_from, trace_pieces, joined, trace_text}
-use Rattle.lurette.specs.TraceText.{step_text}
+use Rattle.lurette.specs.Play.{Play, EndsWell, ended, behind, instant_text, play_from, trace_pieces, joined, trace_text}
 use Rattle.lurette.specs.Writing.{AppendsPart}
 use Rattle.lurette.specs.declared.ending.End.TheVariants as end
 use Rattle.lurette.specs.declared.status.Status.{Status}
@@ -30,8 +29,8 @@ IsAt step over = ⊥
 pub record GoesOn (step : ℕ) (old new : State) (before now : Option (List ℕ)) : Type 0 where
   pub scene : new.scene ≡ old.scene
   pub at : IsAt (step + 1) new.phase
-  pub rest : (left : ℕ) → rest_of old (suc left) ≡ behind (step_text step (outputs_in new.phase)) (rest_of new left)
-  pub written : Appends before now (step_text step (outputs_in new.phase))
+  pub rest : (left : ℕ) → rest_of old (suc left) ≡ behind (instant_text new.scene step (outputs_in new.phase)) (rest_of new left)
+  pub written : Appends before now (instant_text new.scene step (outputs_in new.phase))
 
 -- The rest of a run was put out, or a write of its first text failed, which has this number, or memory ran out
 -- before one.

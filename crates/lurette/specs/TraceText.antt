@@ -1,11 +1,12 @@
 -- The text of a trace.
 use Rattle.std.specs.Prelude.{ℕ, Bool, true, false, List, [], ◌∷◌, ◌++◌, codes, decimal}
 use Rattle.std.specs.List.{flat_map}
+use Rattle.lt_num.specs.Text.{text_of}
+use Rattle.lt_num.specs.declared.kind.Kind.{Kind}
+use Rattle.lt_num.specs.declared.kind.Kind.TheVariants as kind
+use Rattle.lt_num.specs.declared.value.Value.{Value}
+use Rattle.lt_num.specs.declared.value.Value.TheVariants as value
 use Rattle.lt_term.specs.Scene.{Variable}
-use Rattle.lt_term.specs.declared.value.Kind.{Kind}
-use Rattle.lt_term.specs.declared.value.Kind.TheVariants as kind
-use Rattle.lt_term.specs.declared.value.Value.{Value}
-use Rattle.lt_term.specs.declared.value.Value.TheVariants as value
 use Rattle.lurette.specs.declared.ending.End.{End}
 use Rattle.lurette.specs.declared.ending.End.TheVariants.{Normal, Limit, Deadlock}
 
@@ -16,6 +17,8 @@ line text = text ++ 10 ∷ []
 -- the word of a kind
 abbrev pub kind_text : Kind → List ℕ
 kind_text kind.Bool = codes "bool"
+kind_text kind.Int = codes "int"
+kind_text kind.Real = codes "real"
 
 -- a space, and "NAME":KIND
 abbrev pub declared_text : Variable → List ℕ
@@ -33,13 +36,26 @@ abbrev pub bool_text : Bool → List ℕ
 bool_text true = codes "t"
 bool_text false = codes "f"
 
--- a value
-abbrev pub value_text : Value → List ℕ
-value_text (value.Bool b) = bool_text b
+-- the decimals of a number of a kind, where a real has so many
+abbrev pub decimals_of : ℕ → Kind → ℕ
+decimals_of decimals kind.Real = decimals
+decimals_of decimals kind.Int = 0
+decimals_of decimals kind.Bool = 0
 
--- the number of a step, and its outputs
-abbrev pub step_text : ℕ → List Value → List ℕ
-step_text step outputs = line (codes "#step " ++ decimal step) ++ line (flat_map (λ v. value_text v ++ codes " ") outputs ++ codes "#outs")
+-- a value of a kind, where a real has so many decimals
+abbrev pub value_text : ℕ → Kind → Value → List ℕ
+value_text decimals k (value.Bool b) = bool_text b
+value_text decimals k (value.Num raw) = text_of (decimals_of decimals k) raw
+
+-- the values of outputs, in their order, with a space behind each
+abbrev pub values_text : ℕ → List Variable → List Value → List ℕ
+values_text decimals [] values = []
+values_text decimals (x ∷ outputs) [] = []
+values_text decimals (x ∷ outputs) (v ∷ values) = (value_text decimals x.kind v ++ codes " ") ++ values_text decimals outputs values
+
+-- the number of a step, and the values of its outputs
+abbrev pub step_text : ℕ → List Variable → ℕ → List Value → List ℕ
+step_text decimals outputs step values = line (codes "#step " ++ decimal step) ++ line (values_text decimals outputs values ++ codes "#outs")
 
 -- the word of an end
 abbrev pub end_word : End → List ℕ

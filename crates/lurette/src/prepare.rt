@@ -17,7 +17,8 @@ use lt_ast::{
     BinOp, Bounds, Braced, Decl, Expr, Group, Groups, Name, NodeDecl, Program, TraceExpr, TypeName,
     UnOp,
 };
-use lt_term::{ExpNode, Kind, Memory, Scenario, Table, Term, Var};
+use lt_num::{Kind, Range};
+use lt_term::{ExpNode, Memory, Scenario, Table, Term, Var};
 use std::alloc::{AllocError, AllocFailed, Global};
 
 /// Why a program has no scenario.
@@ -63,8 +64,9 @@ impl<T: Drop> From<AllocFailed<T>> for Unprepared {
 // How many outputs a node has at most.
 const MOST_OUTPUTS: usize = 8;
 
-/// The scenario of a program, exactly where the program can be run. A real has so many decimals.
+/// The scenario of a program, exactly where the program can be run. A real has so many decimals, 0 to 6.
 pub fn scenario_of(alloc: Global, program: &Program, decimals: u32) -> Result<Scenario, Unprepared>
+    requires { decimals ≤ 6 }
     ensures { Prepares result (is_runnable (declarations program.now)) (λ s. scene s ≡ scene_of decimals (declarations program.now)) }
 {
     let Some(node) = only_node(program) else {
@@ -112,7 +114,8 @@ fn scenario_with(
     outputs: &[Name],
     body: &TraceExpr,
 ) -> Result<Scenario, Unprepared>
-    requires { length outputs.now ≤ 8 }
+    requires fine { decimals ≤ 6 }
+    requires few { length outputs.now ≤ 8 }
     ensures { Prepares result (runs_as_trace (name_texts outputs.now) (trace_tree body.now)) (λ s.
         scene s ≡ scene_with (string_bytes name.now.text) decimals (name_texts outputs.now) (process_of (name_texts outputs.now) (trace_tree body.now))) }
 {
@@ -183,6 +186,7 @@ fn variables(alloc: Global, names: &[Name]) -> Result<Vec<Var>, AllocError>
         variables.push(Var {
             name: name.text.clone()?,
             kind: Kind::Bool,
+            range: Range { low: 0, high: 1 },
         })?;
     }
     Ok(variables)

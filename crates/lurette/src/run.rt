@@ -5,9 +5,8 @@ ghost use Rattle.std.specs.Io.KnownBytes.{Appends};
 ghost use Rattle.lt_term.specs.Scene.{Scene};
 ghost use Rattle.lt_step.specs.Machine.{started, outputs_in};
 ghost use Rattle.lt_step.specs.View.{machine_state};
-ghost use Rattle.lurette.specs.Play.{play_of, ended};
+ghost use Rattle.lurette.specs.Play.{play_of, ended, instant_text};
 ghost use Rattle.lurette.specs.Running.{rest_of, IsAt, GoesOn, EndsHere, FailsIn};
-ghost use Rattle.lurette.specs.TraceText.{step_text};
 ghost use Rattle.lurette.specs.Call.{Shows, CountsTrace};
 
 use crate::ending::End;
@@ -102,13 +101,20 @@ fn write_out<S: Sink>(
     trace: &mut S,
 ) -> Option<Status>
     requires { IsAt (step + 1) (machine_state machine.now).phase }
-    ensures written { IfNone result (Appends (S.written trace.old) (S.written trace.new) (step_text step (outputs_in (machine_state machine.now).phase))) }
-    ensures fails { IfSome result (FailsIn step (step_text step (outputs_in (machine_state machine.now).phase)) (S.written trace.old) (S.written trace.new)) }
+    ensures written { IfNone result (Appends (S.written trace.old) (S.written trace.new) (instant_text (machine_state machine.now).scene step (outputs_in (machine_state machine.now).phase))) }
+    ensures fails { IfSome result (FailsIn step (instant_text (machine_state machine.now).scene step (outputs_in (machine_state machine.now).phase)) (S.written trace.old) (S.written trace.new)) }
     ensures calm { IfNone result (S.faults trace.new ≡ S.faults trace.old) }
     ensures faults { IfSome result (λ s. CountsTrace s (S.faults trace.old) (S.faults trace.new)) }
 {
     text.clear();
-    if write_step(text, step, machine.outputs()).is_err() {
+    let written = write_step(
+        text,
+        machine.decimals(),
+        machine.output_vars(),
+        step,
+        machine.outputs(),
+    );
+    if written.is_err() {
         return Some(Status::Memory);
     }
     if put(trace, text).is_err() {

@@ -159,6 +159,7 @@ fn run_typed<S: Sink>(
     trace: &mut S,
 ) -> Status
     requires few { limit ≤ 1000000 }
+    requires fine { decimals ≤ 6 }
     requires typed { IsWellTyped decimals (declarations program.now) }
     ensures tells { RunTells (declarations program.now) limit decimals (S.written trace.old) (S.written trace.new) result }
     ensures trace { CountsTrace result (S.faults trace.old) (S.faults trace.new) }

@@ -1,13 +1,14 @@
 //! The text of a trace: `docs/TRACE.md` has its form.
 
-ghost use Rattle.std.specs.Prelude.{◌≡◌, ◌++◌, [], ◌∷◌, codes, decimal, map, OnOk};
+ghost use Rattle.std.specs.Prelude.{◌≡◌, ◌≤◌, ◌++◌, [], ◌∷◌, codes, decimal, map, OnOk};
 ghost use Rattle.std.specs.List.{flat_map};
 ghost use Rattle.lt_term.specs.SceneView.{variable};
-ghost use Rattle.lurette.specs.TraceText.{header_text, declared_text, kind_text, step_text, value_text, end_text, end_word};
+ghost use Rattle.lurette.specs.TraceText.{header_text, declared_text, decimals_of, kind_text, step_text, value_text, values_text, end_text, end_word};
 
 use crate::ending::End;
 use itoa::Buffer;
-use lt_term::{Kind, Value, Var};
+use lt_num::{Fixed, Kind, Value, print};
+use lt_term::Var;
 use std::alloc::AllocError;
 
 /// Appends the header of a trace: the seed, what the controller takes in, and what it gives out.
@@ -46,29 +47,82 @@ fn kind_word(kind: Kind) -> &'static [u8]
 {
     match kind {
         Kind::Bool => b"bool",
+        Kind::Int => b"int",
+        Kind::Real => b"real",
     }
 }
 
-/// Appends the two lines of a step: its number, from 1, and its outputs.
-pub fn write_step(into: &mut Vec<u8>, step: u64, outputs: &[Value]) -> Result<(), AllocError>
-    ensures { OnOk result (into.new.items ≡ into.old.items ++ step_text step outputs.now) }
+/// Appends the two lines of a step: its number, from 1, and the values of its outputs. A real has so many
+/// decimals, 0 to 6.
+pub fn write_step(
+    into: &mut Vec<u8>,
+    decimals: u32,
+    outputs: &[Var],
+    step: u64,
+    values: &[Value],
+) -> Result<(), AllocError>
+    requires { decimals ≤ 6 }
+    ensures { OnOk result (into.new.items ≡ into.old.items ++ step_text decimals (map variable outputs.now) step values.now) }
 {
     into.extend_from_slice(b"#step ")?;
     write_number(into, step)?;
     into.extend_from_slice(b"\n")?;
-    for output in outputs {
-        into.extend_from_slice(value_word(*output))?;
-        into.extend_from_slice(b" ")?;
-    }
+    write_values(into, decimals, outputs, values)?;
     into.extend_from_slice(b"#outs\n")
 }
 
-fn value_word(value: Value) -> &'static [u8]
-    ensures { result.now ≡ value_text value }
+// Appends the values of outputs, with a space behind each.
+fn write_values(
+    into: &mut Vec<u8>,
+    decimals: u32,
+    outputs: &[Var],
+    values: &[Value],
+) -> Result<(), AllocError>
+    requires { decimals ≤ 6 }
+    ensures { OnOk result (into.new.items ≡ into.old.items ++ values_text decimals (map variable outputs.now) values.now) }
+{
+    let mut outputs = outputs;
+    let mut values = values;
+    while let [output, more_outputs @ ..] = outputs {
+        let [value, more_values @ ..] = values else {
+            return Ok(());
+        };
+        write_value(into, decimals, output.kind, *value)?;
+        into.extend_from_slice(b" ")?;
+        outputs = more_outputs;
+        values = more_values;
+    }
+    Ok(())
+}
+
+// Appends a value of a kind.
+fn write_value(
+    into: &mut Vec<u8>,
+    decimals: u32,
+    kind: Kind,
+    value: Value,
+) -> Result<(), AllocError>
+    requires { decimals ≤ 6 }
+    ensures { OnOk result (into.new.items ≡ into.old.items ++ value_text decimals kind value) }
 {
     match value {
-        Value::Bool(true) => b"t",
-        Value::Bool(false) => b"f",
+        Value::Bool(true) => into.extend_from_slice(b"t"),
+        Value::Bool(false) => into.extend_from_slice(b"f"),
+        Value::Num(raw) => {
+            let mut text = [0; 24];
+            let length = print(Fixed { raw }, decimals_of(decimals, kind), &mut text);
+            into.extend_from_slice(&text[..length])
+        }
+    }
+}
+
+// How many decimals a number of a kind has, where a real has so many.
+fn decimals_of(decimals: u32, kind: Kind) -> u32
+    ensures { result ≡ decimals_of decimals kind }
+{
+    match kind {
+        Kind::Real => decimals,
+        Kind::Int | Kind::Bool => 0,
     }
 }
 

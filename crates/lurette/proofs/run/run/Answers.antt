@@ -1,9 +1,8 @@
 use Rattle.std.proofs.Common.{◌≡◌, ◌+◌, ◌-◌, ℕ, suc, arith, subst, ◌∙◌}
 use Rattle.lt_step.specs.View.{machine_state}
-use Rattle.lurette.specs.Play.{play_of}
+use Rattle.lurette.specs.Play.{instant_text, play_of}
 use Rattle.lt_step.specs.Machine.{outputs_in}
 use Rattle.lurette.specs.Running.{rest_of, IsAt, Follows}
-use Rattle.lurette.specs.TraceText.{step_text}
 use Rattle.lurette.proofs.Runs.{shows, follows_more, rest_limit, ends_same}
 use Rattle.lurette.proofs.run.run.Goals as goal
 
@@ -37,7 +36,7 @@ loop-steps-preserved g c =
     record {
       scene = more.scene ∙ c.loop-steps.invariant.scene;
       at = more.at;
-      follows = follows_more step whole (rest_of old (suc left)) (rest_of new left) (step_text step (outputs_in new.phase)) before now (g.S.Sink.written c.advance.new.trace) (subst P one_more c.loop-steps.invariant.follows) (more.rest left) more.written;
+      follows = follows_more step whole (rest_of old (suc left)) (rest_of new left) (instant_text new.scene step (outputs_in new.phase)) before now (g.S.Sink.written c.advance.new.trace) (subst P one_more c.loop-steps.invariant.follows) (more.rest left) more.written;
       calm = c.in_default.ensures.calm ∙ c.loop-steps.invariant.calm;
     }
 

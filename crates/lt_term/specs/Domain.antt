@@ -1,0 +1,37 @@
+-- The values that a variable may take.
+use Rattle.std.specs.Prelude.{◌≡◌, ◌≤◌, List, [], ◌∷◌, map, ℤ, pos, ◌≤ℤ◌, unsigned_abs}
+use Rattle.lt_num.specs.Answer.{most}
+use Rattle.lt_num.specs.Range.{IsWithin, raws_of}
+use Rattle.lt_num.specs.Value.{value_of}
+use Rattle.lt_num.specs.declared.kind.Kind.{Kind}
+use Rattle.lt_num.specs.declared.kind.Kind.TheVariants as kinds
+use Rattle.lt_num.specs.declared.range.Range.{Range}
+use Rattle.lt_num.specs.declared.value.Value.{Value}
+
+-- A variable of this kind may have this range: it has a raw number, and none that is past 10^12 in size. That of a
+-- Boolean is 0 to 1.
+pub record IsDomain (kind : Kind) (range : Range) : Type 0 where
+  pub some : range.low ≤ℤ range.high
+  pub low : unsigned_abs range.low ≤ most
+  pub high : unsigned_abs range.high ≤ most
+  pub boolean : kind ≡ kinds.Bool → (range.low ≡ pos 0) × (range.high ≡ pos 1)
+
+-- the values that a variable may take: those of a kind whose raw number is in a range
+pub record Domain : Type 0 where
+  pub kind : Kind
+  pub range : Range
+
+-- the values of a domain in the order in which they are tried: from the least raw number up
+abbrev pub values_of : Domain → List Value
+values_of d = map (value_of d.kind) (raws_of d.range)
+
+-- whether a value is one of a domain
+abbrev pub IsOf : Domain → Value → Type 0
+IsOf d v = (raw : ℤ) × IsWithin d.range raw × (v ≡ value_of d.kind raw)
+
+-- one value of each domain
+abbrev pub AreOf : List Domain → List Value → Type 0
+AreOf [] [] = Unit {0}
+AreOf (d ∷ ds) (v ∷ vs) = IsOf d v × AreOf ds vs
+AreOf [] (v ∷ vs) = ⊥
+AreOf (d ∷ ds) [] = ⊥
