@@ -1,7 +1,7 @@
 -- Numbers behind a limit.
 use Rattle.std.proofs.Common.{◌≡◌, ℕ, suc, ◌+◌, ◌-◌, ◌*◌, ◌<◌, ◌≤◌, Bool, true, false, ◌&&◌, List, [], ◌∷◌, length, get_or, drop, drop-cons, None, refl, ap, sym, ◌∙◌, arith, if◌then◌else◌}
 use Rattle.std.proofs.lemmas.Bool.{lt-leb}
-use Rattle.lurette.specs.Words.{is_digit, value_behind, up_to_million}
+use Rattle.lurette.specs.Words.{value_behind, up_to_million}
 
 -- more digits make no smaller number
 value_behind-grows : (ds : List ℕ) (n : ℕ) → n ≤ value_behind n ds

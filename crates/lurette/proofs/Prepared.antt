@@ -1,5 +1,5 @@
 -- Expressions and processes over a table that grows, and the parts of a program.
-use Rattle.std.proofs.Common.{◌≡◌, ℕ, zero, suc, Vec, Global, Result, Ok, Err, append_assoc, ◌==◌, vec_len, rules, ◌<◌, ◌≤◌, Bool, true, false, ◌&&◌, IsTrue, nat_lt, List, [], ◌∷◌, ◌++◌, length, get_or, map, refl, ap, sym, ◌∙◌, subst, arith}
+use Rattle.std.proofs.Common.{◌≡◌, ℕ, zero, suc, Vec, Global, Result, Ok, Err, append_assoc, ◌==◌, vec_len, ◌<◌, ◌≤◌, Bool, true, false, ◌&&◌, nat_lt, List, [], ◌∷◌, ◌++◌, length, get_or, map, refl, ap, sym, ◌∙◌, subst, arith}
 use Rattle.std.proofs.lemmas.Bool.{and_parts, and_from}
 use Rattle.std.proofs.lemmas.Bool.Decides.{nat_tests}
 use Rattle.std.proofs.lemmas.Grind.{common_steps}

@@ -1,5 +1,5 @@
 -- The programs that run so far: one node without inputs, whose outputs are Booleans.
-use Rattle.std.specs.Prelude.{ℕ, Bool, true, false, not, ◌&&◌, nat_le, IsTrue, List, [], ◌∷◌, None, Some, length, map}
+use Rattle.std.specs.Prelude.{ℕ, Bool, true, false, not, ◌&&◌, nat_le, IsTrue, List, [], ◌∷◌, None, length, map}
 use Rattle.std.specs.List.{list_any}
 use Rattle.std.specs.Str.{bytes_eq}
 use Rattle.lt_ast.specs.Syntax as s

@@ -1,5 +1,5 @@
 -- The scene of a program that runs.
-use Rattle.std.specs.Prelude.{◌≡◌, ℕ, suc, ◌<◌, ◌≤◌, Bool, true, false, IsTrue, List, [], ◌∷◌, map, if◌then◌else◌, pos}
+use Rattle.std.specs.Prelude.{ℕ, suc, false, List, [], ◌∷◌, map, if◌then◌else◌, pos}
 use Rattle.std.specs.Str.{bytes_eq}
 use Rattle.lt_ast.specs.Syntax as s
 use Rattle.lt_ast.specs.Syntax.{Exp, Braces, Trace, Traces, Groupings, Declaration}

@@ -1,5 +1,5 @@
 -- Words for the functions that prepare a scenario.
-use Rattle.std.specs.Prelude.{◌≡◌, ℕ, ◌<◌, ◌≤◌, Bool, true, false, ◌&&◌, IsTrue, Result, Ok, Err, List, [], ◌∷◌, map}
+use Rattle.std.specs.Prelude.{◌≡◌, ℕ, ◌<◌, ◌≤◌, Bool, false, ◌&&◌, IsTrue, Result, Ok, Err, List, [], ◌∷◌, map}
 use Rattle.std.specs.Borrow.{Bor}
 use Rattle.lt_ast.specs.declared.name.Name.{Name}
 use Rattle.lt_ast.specs.declared.expr.Expr.{Expr}

@@ -1,4 +1,4 @@
-use Rattle.std.proofs.Common.{◌≡◌, ◌<◌, ◌-◌, ℕ, ◌&&◌, All, Result, Err, OnOk, ap, sym, ◌∙◌, subst, rules, arith, length, List, vec_len}
+use Rattle.std.proofs.Common.{◌≡◌, ◌<◌, ◌-◌, ℕ, ◌&&◌, All, Result, Err, OnOk, sym, subst, rules, arith, List, vec_len}
 use Rattle.std.proofs.lemmas.List.Elements.{All-push, All-take}
 use Rattle.std.specs.Borrow.{Bor}
 use Rattle.lt_ast.specs.View.{exp}

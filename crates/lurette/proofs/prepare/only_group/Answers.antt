@@ -1,4 +1,4 @@
-use Rattle.std.proofs.Common.{◌≡◌, length, arith}
+use Rattle.std.proofs.Common.{arith}
 use Rattle.std.proofs.lemmas.Bool.Decides.{nat_tests}
 use Rattle.lurette.proofs.Prepared.{not_one}
 use Rattle.lurette.proofs.prepare.only_group.Goals as goal

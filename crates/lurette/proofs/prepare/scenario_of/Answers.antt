@@ -3,7 +3,7 @@ use Rattle.lt_ast.specs.Rows.{group_of}
 use Rattle.lt_ast.specs.View.{groupings, program, trace, word}
 use Rattle.lt_term.specs.SceneView.{scene}
 use Rattle.lurette.specs.Form.{are_none, group_names, is_runnable, runs_as_trace}
-use Rattle.lurette.specs.Prepared.{process_of, scene_of, scene_with}
+use Rattle.lurette.specs.Prepared.{process_of, scene_with}
 use Rattle.lurette.specs.Preparing.{Prepares, name_texts}
 use Rattle.lurette.proofs.Prepared.{are_none-empty, no_inputs, prepares_same, runs_so, scene_so}
 use Rattle.lurette.proofs.prepare.scenario_of.Goals as goal
