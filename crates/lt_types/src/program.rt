@@ -74,11 +74,7 @@ pub fn check(alloc: Global, program: Program, decimals: u32) -> Result<Typed, Ty
 
 // A program.
 #[tactic(auto, using(crate::proofs::Leading::leads))]
-pub(crate) fn check_program(
-    alloc: Global,
-    program: &Program,
-    decimals: u32,
-) -> Result<(), TypeRefusal>
+fn check_program(alloc: Global, program: &Program, decimals: u32) -> Result<(), TypeRefusal>
     requires few { decimals ≤ 6 }
     requires read { InDeclarations (declarations program.now) }
     ensures { Checks result (type_refusals decimals (declarations program.now)) }
