@@ -46,7 +46,7 @@ Shows play old new (status.Usage kind) = ⊥
 
 -- The mode `run`.
 
--- this is the first of the rules of types that the program breaks
+-- this is the refusal for the first of the rules of types that the program breaks
 abbrev pub IsTypeRefusal : ℕ → List Declaration → TypeRefusal → Type 0
 IsTypeRefusal decimals program reason = (others : List TypeRefusal) × (type_refusals decimals program ≡ reason ∷ others)
 

@@ -50,7 +50,7 @@ parse_place (parse.Unexpected at) = Some at
 parse_place (parse.TooDeep at) = Some at
 parse_place parse.Memory = None
 
--- the code of a rule of types; want of memory is none
+-- the code of a refusal for types; want of memory is none that a program has
 abbrev pub type_word : TypeRefusal → List ℕ
 type_word (types.Unknown at) = codes "type.Unknown"
 type_word (types.Twice at) = codes "type.Twice"

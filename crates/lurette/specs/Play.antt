@@ -56,7 +56,7 @@ behind text rest = record { pieces = trace_piece text ∷ rest.pieces; ending = 
 abbrev pub instant_text : Scene → ℕ → List Value → List ℕ
 instant_text s step outputs = step_text s.decimals s.outputs step outputs
 
--- a run in which this is the next instant, and go on what follows it
+-- a run in which this is the next instant; where it has values, go gives the run that follows them
 abbrev pub goes_on : Scene → Configuration → Instant → (Configuration → Play) → Play
 goes_on s c (instant.values outputs next) go = behind (instant_text s c.step outputs) (go next)
 goes_on s c instant.normal go = ended Normal (c.step - 1)

@@ -48,11 +48,12 @@ limit_of word = if is_plain word then up_to_million word else None
 abbrev pub LimitsArePrinted : Type 0
 LimitsArePrinted = (word : List ℕ) (n : ℕ) → (limit_of word ≡ Some n) ↔ ((word ≡ decimal n) × (n ≤ 1000000))
 
--- a number of decimals: one of at most 6, spelled as a limit is
+-- a number, where it is one of at most 6
 abbrev pub up_to_six : Option ℕ → Option ℕ
 up_to_six None = None
 up_to_six (Some n) = if nat_le n 6 then Some n else None
 
+-- a number of decimals: one of at most 6, spelled as a limit is
 abbrev pub decimals_of : List ℕ → Option ℕ
 decimals_of word = up_to_six (limit_of word)
 
