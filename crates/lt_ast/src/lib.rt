@@ -12,8 +12,6 @@ mod printer;
 mod program;
 mod sign;
 mod span;
-#[cfg(test)]
-mod tests;
 mod trace;
 
 pub use expr::{Arg, Args, BinOp, Expr, UnOp};

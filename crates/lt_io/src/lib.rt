@@ -24,6 +24,3 @@ pub use mem_sink::MemSink;
 pub use memory::Memory;
 pub use sink::{Failed, Sink};
 pub use std_sink::StdSink;
-
-#[cfg(test)]
-mod tests;

@@ -21,6 +21,3 @@ pub use laws::{one_answer_belongs_to_a_text, tokens_apart_are_the_same, tokens_s
 pub use lexer::lex;
 pub use refusal::LexRefusal;
 pub use token::{Token, TokenKind};
-
-#[cfg(test)]
-mod tests;

@@ -21,8 +21,6 @@ mod laws;
 mod printing;
 mod range;
 mod reading;
-#[cfg(test)]
-mod tests;
 mod value;
 
 pub use arithmetic::{add, div, mul, sub};

@@ -17,8 +17,6 @@ mod groups;
 mod laws;
 mod precedence;
 mod refusal;
-#[cfg(test)]
-mod tests;
 mod text;
 mod token;
 mod traces;

@@ -13,6 +13,3 @@ mod search;
 pub use drawing::{deadlock_means_none_live, draw_is_legal};
 pub use lt_term::Memory;
 pub use machine::{Machine, Outcome};
-
-#[cfg(test)]
-mod tests;

@@ -17,8 +17,6 @@ mod name_stack;
 mod program;
 mod refusal;
 mod scope;
-#[cfg(test)]
-mod tests;
 mod traces;
 mod uses;
 

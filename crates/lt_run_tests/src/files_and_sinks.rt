@@ -1,6 +1,6 @@
 //! Answers with ample memory, which no clause can promise, and those of the real system.
 
-use crate::{DirFiles, Failed, FileRefusal, Files, MemFiles, MemSink, Sink, StdSink};
+use lt_io::{DirFiles, Failed, FileRefusal, Files, MemFiles, MemSink, Sink, StdSink};
 use std::alloc::Global;
 use std::process::Abort;
 use std::test::Fail;

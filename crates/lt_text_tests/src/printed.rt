@@ -1,6 +1,6 @@
 //! That a program is printed where memory is ample: no clause can promise that.
 
-use crate::{
+use lt_ast::{
     Decl, Expr, Group, Groups, Name, Names, NodeDecl, Program, Span, TraceExpr, Traces, TypeName,
     UnOp, print,
 };

@@ -1,15 +1,36 @@
-//! Texts whose outcome follows from the grammar.
+//! Texts whose refusals follow from the lexical rules and the grammar.
 
-use super::*;
-use lt_ast::print;
-use lt_lexer::LexRefusal;
+use lt_lexer::{LexRefusal, lex};
+use lt_parser::{ParseRefusal, parse};
 use std::test::Fail;
 
-// A text, and what its program is printed as.
-#[derive(Clone, Copy)]
-struct Spelled {
-    text: &'static str,
-    printed: &'static str,
+#[test]
+fn texts_with_no_tokens(rt: HostRuntime) {
+    let cases: [(&[u8], LexRefusal); 17] = [
+        (b"1..5", LexRefusal::BadByte(2)),
+        (b".5", LexRefusal::BadByte(0)),
+        (b"_a", LexRefusal::BadByte(0)),
+        (b"&", LexRefusal::BadByte(0)),
+        (b"a & (*", LexRefusal::BadByte(2)),
+        (b"\0", LexRefusal::BadByte(0)),
+        (b"a\xc3\xa9", LexRefusal::BadByte(1)),
+        (b"\x0c", LexRefusal::BadByte(0)),
+        (b"(*)", LexRefusal::OpenComment(0)),
+        (b"(* *", LexRefusal::OpenComment(0)),
+        (b"(*\n--*", LexRefusal::OpenComment(0)),
+        (b"node n() (*", LexRefusal::OpenComment(9)),
+        (b"1234567890123456789", LexRefusal::NumberTooLong(0)),
+        (b"1.234567890123456789", LexRefusal::NumberTooLong(0)),
+        (b"1234567890123456789.", LexRefusal::NumberTooLong(0)),
+        (b"a 1234567890123456789 &", LexRefusal::NumberTooLong(2)),
+        (
+            b"node n() returns (b: bool) = b & b",
+            LexRefusal::BadByte(31),
+        ),
+    ];
+    for (text, refusal) in cases {
+        assert_eq!(rt; lex(rt.alloc(), text).err(), Some(refusal), "{text:?}");
+    }
 }
 
 // A text, and why it is no program.
@@ -20,35 +41,7 @@ struct Refused {
 }
 
 #[test]
-fn programs(rt: HostRuntime) -> Result<(), Fail> {
-    let cases = [
-        Spelled {
-            text: "",
-            printed: "",
-        },
-        Spelled {
-            text: "let m(x: real; t: trace): trace = exist u: int[-1;2] = 0 in t",
-            printed: "let m ( x : real ; t : trace ) : trace = exist u : int [ - 1 ; 2 ] = 0 in t\n",
-        },
-        Spelled {
-            text: "node n() returns (b: bool) = a fby {|2:a|{b|>c}} -- the end\nexception e,f",
-            printed: "node n ( ) returns ( b : bool ) = a fby { | 2 : a | { b |> c } }\nexception e , f\n",
-        },
-        Spelled {
-            text: "node n() returns (b: bool) = try catch e in raise e do loop ~1:2 (a=>not b=not c)",
-            printed: "node n ( ) returns ( b : bool ) = try catch e in raise e do loop ~ 1 : 2 ( a => not b = not c )\n",
-        },
-    ];
-    for case in cases {
-        let program = parse(rt.alloc(), case.text.as_bytes())?;
-        let printed = print(rt.alloc(), &program)?;
-        assert_eq!(rt; printed.as_str(), case.printed, "{}", case.text);
-    }
-    Ok(())
-}
-
-#[test]
-fn refusals(rt: HostRuntime) {
+fn texts_with_no_program(rt: HostRuntime) {
     let cases = [
         Refused {
             text: "node n() (*",
@@ -101,7 +94,7 @@ struct Opener {
 }
 
 #[test]
-fn levels(rt: HostRuntime) -> Result<(), Fail> {
+fn texts_nested_too_deep(rt: HostRuntime) -> Result<(), Fail> {
     let head = "node n() returns (b: bool) = ";
     let openers = [
         Opener {

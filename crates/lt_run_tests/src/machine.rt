@@ -6,8 +6,8 @@ ghost use Rattle.lt_term.specs.View.{process, table_len, table_outputs};
 ghost use Rattle.lt_step.specs.Machine.{IfGoing};
 ghost use Rattle.lt_step.specs.View.{machine_state};
 
-use crate::{Machine, Outcome};
 use lt_num::{Kind, Range, Value};
+use lt_step::{Machine, Outcome};
 use lt_term::{ExpNode, Scenario, Table, Term, Var};
 use std::alloc::{AllocError, Global};
 use std::test::Fail;

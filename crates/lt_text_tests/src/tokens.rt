@@ -1,7 +1,7 @@
 //! Texts whose tokens follow from the rules.
 
-use super::*;
 use lt_ast::{Sign, Span};
+use lt_lexer::{Token, TokenKind, lex};
 use std::test::Fail;
 
 const fn word(start: usize, end: usize) -> Token {
@@ -59,35 +59,6 @@ fn tokens(rt: HostRuntime) -> Result<(), Fail> {
         assert_eq!(rt; tokens.as_slice(), expected, "{text:?}");
     }
     Ok(())
-}
-
-#[test]
-fn refusals(rt: HostRuntime) {
-    let cases: [(&[u8], LexRefusal); 17] = [
-        (b"1..5", LexRefusal::BadByte(2)),
-        (b".5", LexRefusal::BadByte(0)),
-        (b"_a", LexRefusal::BadByte(0)),
-        (b"&", LexRefusal::BadByte(0)),
-        (b"a & (*", LexRefusal::BadByte(2)),
-        (b"\0", LexRefusal::BadByte(0)),
-        (b"a\xc3\xa9", LexRefusal::BadByte(1)),
-        (b"\x0c", LexRefusal::BadByte(0)),
-        (b"(*)", LexRefusal::OpenComment(0)),
-        (b"(* *", LexRefusal::OpenComment(0)),
-        (b"(*\n--*", LexRefusal::OpenComment(0)),
-        (b"node n() (*", LexRefusal::OpenComment(9)),
-        (b"1234567890123456789", LexRefusal::NumberTooLong(0)),
-        (b"1.234567890123456789", LexRefusal::NumberTooLong(0)),
-        (b"1234567890123456789.", LexRefusal::NumberTooLong(0)),
-        (b"a 1234567890123456789 &", LexRefusal::NumberTooLong(2)),
-        (
-            b"node n() returns (b: bool) = b & b",
-            LexRefusal::BadByte(31),
-        ),
-    ];
-    for (text, refusal) in cases {
-        assert_eq!(rt; lex(rt.alloc(), text).err(), Some(refusal), "{text:?}");
-    }
 }
 
 // A token, and what it answers.

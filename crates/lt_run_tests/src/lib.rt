@@ -1,0 +1,12 @@
+//! Tests of what a run is made of: files and sinks, numbers, and the machine of instants.
+//!
+//! They stand in a crate of their own, so that the crates below are proved without them. What a test
+//! expects follows from the rules of `docs/LANGUAGE.md`.
+#![tactic(auto)]
+
+#[cfg(test)]
+mod files_and_sinks;
+#[cfg(test)]
+mod machine;
+#[cfg(test)]
+mod numbers;
