@@ -1,2 +1,4 @@
+pub mod Public
 pub mod Lists
+pub mod Numbers
 pub mod Written

@@ -2,13 +2,13 @@
 use Rattle.std.proofs.Common.{◌≡◌, Vec, Global, map, refl, ap, sym, ◌∙◌}
 use mathlib.Core.Former.{Count}
 use Rattle.lt_ast.specs.Syntax as s
-use Rattle.lt_ast.specs.Lists.{arguments_of, alternatives_of, traces_of, groups_of}
-use Rattle.lt_ast.specs.Rows.{maybe_exp, weighed, group_of}
+use Rattle.lt_ast.specs.inner.Lists.{arguments_of, alternatives_of, traces_of, groups_of}
+use Rattle.lt_ast.specs.inner.Rows.{maybe_exp, part_of, weighed, group_of}
 use Rattle.lt_ast.specs.View.{word, interval, argument, argument_row, trace, trace_row, alternative, alternatives, part_row, groupings, group_row, maybe_exp as held_exp}
 use Rattle.lt_ast.specs.declared.expr.Arg.{Arg}
 use Rattle.lt_ast.specs.declared.expr.Expr.{Row_of-Arg, end_of-Arg, more_of-Arg, items-the_row-Arg, items_hidden-the_row-Arg-0}
 use Rattle.lt_ast.specs.declared.trace.TraceExpr.{TraceExpr, Row_of-TraceExpr, end_of-TraceExpr, more_of-TraceExpr, items-the_row-TraceExpr, items_hidden-the_row-TraceExpr-1}
-use Rattle.lt_ast.specs.declared.trace.Part.{Part, Held-Group-first, Group-first-None', Group-first-Some', view-Group-first}
+use Rattle.lt_ast.specs.declared.trace.Part.{Held-Group-first, Group-first-None', Group-first-Some', view-Group-first}
 use Rattle.lt_ast.specs.declared.trace.Parts.{Parts, Parts', out-Parts, Row_of-Part, end_of-Part, more_of-Part, items-the_row-Part, items_shown-the_row-Part-3}
 use Rattle.lt_ast.specs.declared.group.Groups.{Groups, Groups', out-Groups, Row_of-Group, end_of-Group, more_of-Group, items-the_row-Group, items_shown-the_row-Group-2}
 use Rattle.lt_ast.specs.declared.expr.Arg.TheBlock.{hidden-the_row-TraceExpr-1, hidden-the_row-Arg-0, shown-the_row-Part-3, shown-the_row-Group-2}
@@ -29,9 +29,6 @@ alternative-held (Group-first-Some' e) t = refl
 exp-held : (w : Held-Group-first) → held_exp w ≡ maybe_exp (view-Group-first w)
 exp-held Group-first-None' = refl
 exp-held (Group-first-Some' e) = refl
-
-abbrev pub part_of : Part → s.Alternative
-part_of p = weighed p.weight p.body
 
 part_row-list : {n : Count} (k : Row_of-Part n) → part_row k ≡ alternatives_of (map part_of (items-the_row-Part n k))
 part_row-list end_of-Part = refl

@@ -5,9 +5,9 @@ use Rattle.std.proofs.lemmas.Grind.{common_steps}
 use Rattle.lt_ast.specs.declared.sign.Sign.{Sign}
 use Rattle.lt_ast.specs.declared.sign.Sign.TheVariants.{Comma, Bar, Semicolon}
 use Rattle.lt_ast.specs.Printed.{spaced}
-use Rattle.lt_ast.specs.Lists.{arguments_of, alternatives_of, traces_of, groups_of}
+use Rattle.lt_ast.specs.inner.Lists.{arguments_of, alternatives_of, traces_of, groups_of}
 use Rattle.lt_ast.specs.Tokens.{Written, mark, name_token, names_tokens, more_names, exp_tokens, arguments_tokens, more_arguments, alternatives_tokens, more_alternatives, traces_tokens, more_traces, groupings_tokens, more_groupings, parameters_tokens, in_parentheses}
-use Rattle.lt_ast.specs.Rows.{Writes, behind, separated, tokens_of_name, tokens_of_argument, tokens_of_trace, tokens_of_part, tokens_of_group, call_tokens, params_tokens, group_of}
+use Rattle.lt_ast.specs.inner.Rows.{Writes, behind, separated, tokens_of_name, tokens_of_argument, tokens_of_trace, tokens_of_part, tokens_of_group, call_tokens, params_tokens, group_of, part_of}
 use Rattle.lt_ast.specs.View.{word, named_exp, argument, trace, trace_row, alternatives, groupings, parameters}
 use Rattle.lt_ast.specs.declared.name.Name.{Name}
 use Rattle.lt_ast.specs.declared.expr.Arg.{Arg}
@@ -20,7 +20,7 @@ use Rattle.lt_ast.specs.declared.group.Group.{Group}
 use Rattle.lt_ast.specs.declared.group.Groups.{Groups, out-Groups}
 use Rattle.lt_ast.specs.declared.trace.MacroDecl.{back-MacroDecl-params}
 use Rattle.lt_ast.specs.declared.expr.Arg.TheBlock.{hidden-the_row-TraceExpr-1}
-use Rattle.lt_ast.proofs.Lists.{part_of, traces_list, arguments_list, alternatives_list, groups_list}
+use Rattle.lt_ast.proofs.Lists.{traces_list, arguments_list, alternatives_list, groups_list}
 
 more_names-list : (ns : List Name) → more_names (map word ns) ≡ flat_map (behind Comma tokens_of_name) ns
 more_names-list [] = refl

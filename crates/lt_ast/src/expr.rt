@@ -83,8 +83,41 @@ pub enum BinOp {
     Implies,
 }
 
+/// What an operator with two operands is about.
+#[derive(Clone, Copy, Debug, PartialEq, Eq)]
+pub enum OperatorClass {
+    /// `and`, `or`, `xor`, `=>`: Booleans, and what follows from them.
+    Connective,
+
+    /// `=`, `<>`: whether two values of a type are the same.
+    Equality,
+
+    /// `<`, `<=`, `>`, `>=`: which of two numbers is over the other.
+    Order,
+
+    /// `+`, `-`, `*`, `/`: numbers.
+    Arithmetic,
+
+    /// `div`, `mod`: ints.
+    Whole,
+}
+
 impl BinOp {
+    ghost use Rattle.lt_ast.specs.Operators.{class_of};
     ghost use Rattle.lt_ast.specs.Tokens.{binary_sign};
+
+    /// Its class.
+    pub fn class(self) -> OperatorClass
+        ensures { result ≡ class_of self }
+    {
+        match self {
+            BinOp::And | BinOp::Or | BinOp::Xor | BinOp::Implies => OperatorClass::Connective,
+            BinOp::Eq | BinOp::Ne => OperatorClass::Equality,
+            BinOp::Lt | BinOp::Le | BinOp::Gt | BinOp::Ge => OperatorClass::Order,
+            BinOp::Add | BinOp::Sub | BinOp::Mul | BinOp::Div => OperatorClass::Arithmetic,
+            BinOp::DivWord | BinOp::Mod => OperatorClass::Whole,
+        }
+    }
 
     /// The sign that it is written as.
     pub fn sign(self) -> Sign
@@ -138,6 +171,27 @@ pub enum Expr {
 
     /// `if`, `then` and `else`.
     If(Box<Expr>, Box<Expr>, Box<Expr>, Span),
+}
+
+impl Expr {
+    ghost use Rattle.lt_ast.specs.Places.{span_of};
+    ghost use Rattle.lt_ast.specs.View.{exp};
+
+    /// Its place; that of a name with arguments is the name's.
+    pub fn span(&self) -> Span
+        ensures { result ≡ span_of (exp self.now) }
+    {
+        match self {
+            Expr::Number(literal) => literal.span,
+            Expr::Named(name, _) => name.span,
+            Expr::Flag(_, span)
+            | Expr::Pre(_, span)
+            | Expr::Paren(_, span)
+            | Expr::Unary(_, _, span)
+            | Expr::Binary(_, _, _, span)
+            | Expr::If(_, _, _, span) => *span,
+        }
+    }
 }
 
 // A chain of operators hangs on its left side, which a loop takes apart: its length takes no stack.

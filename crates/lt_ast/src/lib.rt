@@ -14,7 +14,7 @@ mod sign;
 mod span;
 mod trace;
 
-pub use expr::{Arg, Args, BinOp, Expr, UnOp};
+pub use expr::{Arg, Args, BinOp, Expr, OperatorClass, UnOp};
 pub use group::{Group, Groups, Range, TypeName};
 pub use name::{Literal, Name, Names};
 pub use printer::print;

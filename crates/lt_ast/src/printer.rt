@@ -3,7 +3,7 @@
 ghost use Rattle.std.specs.Prelude.{◌≡◌, ◌++◌, [], ◌∷◌, OnOk, IfOk, string_bytes};
 ghost use Rattle.std.specs.List.{flat_map};
 ghost use Rattle.lt_ast.specs.Printed.{joined, printed, spaced};
-ghost use Rattle.lt_ast.specs.Rows.{Writes, behind, separated, tokens_of_name, tokens_of_argument, tokens_of_trace, tokens_of_part, tokens_of_group, call_tokens, maybe_exp, maybe_trace, params_tokens, IsOperand};
+ghost use Rattle.lt_ast.specs.inner.Rows.{Writes, behind, separated, tokens_of_name, tokens_of_argument, tokens_of_trace, tokens_of_part, tokens_of_group, call_tokens, maybe_exp, maybe_trace, params_tokens, IsOperand};
 ghost use Rattle.lt_ast.specs.Signs.{spelled};
 ghost use Rattle.lt_ast.specs.Tokens.{alternatives_tokens, binary_sign, braced_tokens, declaration_tokens, exp_tokens, figure_tokens, first_tokens, groupings_tokens, handler_tokens, in_braces, in_parentheses, interval_tokens, limits_tokens, macro_rest, mark, marked_if, meaning_tokens, number_token, traces_tokens, trace_tokens, type_sign, unary_sign, flag_sign, names_tokens};
 ghost use Rattle.lt_ast.specs.View.{alternatives, braced, declaration, exp, figure, groupings, interval, limits, macro, meaning, program as declarations, trace, words};

@@ -9,3 +9,18 @@ pub struct Span {
     /// The place behind the last byte.
     pub end: usize,
 }
+
+impl Span {
+    ghost use Rattle.std.specs.Prelude.{◌≡◌};
+    ghost use Rattle.lt_ast.specs.Places.{across};
+
+    /// From where this one begins to where another one ends.
+    pub fn to(self, other: Span) -> Span
+        ensures { result ≡ across self other }
+    {
+        Span {
+            start: self.start,
+            end: other.end,
+        }
+    }
+}

@@ -1,18 +1,15 @@
 -- The answer of an operation: the raw number, if it is within bounds.
-use Rattle.std.specs.Prelude.{◌≡◌, ◌≢◌, ℕ, ℤ, pos, unsigned_abs, nat_le, if◌then◌else◌, Ok, Err}
+use Rattle.std.specs.Prelude.{◌≡◌, ◌≢◌, ℤ, pos, unsigned_abs, nat_le, if◌then◌else◌, Ok, Err}
 use Rattle.std.specs.declared.result.Result.{Result}
 use Rattle.lt_num.specs.declared.fault.Arith.{Arith}
 use Rattle.lt_num.specs.declared.fault.Arith.TheVariants.{Overflow}
 use Rattle.lt_num.specs.declared.fixed.Fixed.{Fixed}
+use Rattle.lt_num.specs.Bounds.{most_raw}
 use Rattle.lt_num.specs.Rounding.{IsNearest}
-
--- how large in size a raw number may be
-abbrev pub most : ℕ
-most = 1_000_000_000_000
 
 -- this raw number, or Overflow where it is past the bound
 abbrev pub bounded : ℤ → Result Fixed Arith
-bounded raw = if nat_le (unsigned_abs raw) most then Ok (record { raw = raw }) else Err Overflow
+bounded raw = if nat_le (unsigned_abs raw) most_raw then Ok (record { raw = raw }) else Err Overflow
 
 -- the answer for the rational n / d: the nearest raw number, or Overflow where that one is past the bound
 pub record IsRounded (n d : ℤ) (answer : Result Fixed Arith) : Type 0 where

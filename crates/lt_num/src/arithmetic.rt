@@ -2,12 +2,13 @@
 
 ghost use Rattle.std.specs.Prelude.{◌≡◌, ◌≢◌, ◌^◌, ◌≤◌, pos, ◌+ℤ◌, ◌-ℤ◌, ◌*ℤ◌, unsigned_abs, Err};
 ghost use Rattle.lt_num.specs.Answer.{bounded, IsRounded};
+ghost use Rattle.lt_num.specs.Bounds.{most_decimals};
 ghost use Rattle.lt_num.specs.Rounding.{nearest};
 
 use crate::fault::Arith;
 use crate::fixed::Fixed;
 
-// The most that a raw number may be in size.
+// How large in size a raw number may be: `most_raw` of `specs/Bounds.antt`.
 const MOST: u128 = 1_000_000_000_000;
 
 /// The sum.
@@ -38,7 +39,7 @@ pub fn sub(a: Fixed, b: Fixed) -> Result<Fixed, Arith>
 ///
 /// [`Arith::Overflow`] where the rounded raw product is past 10^12 in size.
 pub fn mul(a: Fixed, b: Fixed, decimals: u32) -> Result<Fixed, Arith>
-    requires { decimals ≤ 6 }
+    requires { decimals ≤ most_decimals }
     ensures { IsRounded (a.raw *ℤ b.raw) (pos (10 ^ decimals)) result }
 {
     rounded(
@@ -54,7 +55,7 @@ pub fn mul(a: Fixed, b: Fixed, decimals: u32) -> Result<Fixed, Arith>
 /// [`Arith::DivisionByZero`] where `b` is 0, and else [`Arith::Overflow`] where the rounded raw
 /// quotient is past 10^12 in size.
 pub fn div(a: Fixed, b: Fixed, decimals: u32) -> Result<Fixed, Arith>
-    requires { decimals ≤ 6 }
+    requires { decimals ≤ most_decimals }
     ensures by_zero { b.raw ≡ pos 0 → result ≡ Err Arith.DivisionByZero }
     ensures rounded { b.raw ≢ pos 0 → IsRounded (a.raw *ℤ pos (10 ^ decimals)) b.raw result }
 {
@@ -77,7 +78,7 @@ pub(crate) fn power_of_ten(exponent: u32) -> u64
 /// A number times 10 to the power of `decimals`.
 pub(crate) fn scaled(value: i128, decimals: u32) -> i128
     requires value { unsigned_abs value ≤ 2 ^ 64 }
-    requires decimals { decimals ≤ 6 }
+    requires decimals { decimals ≤ most_decimals }
     ensures value { result ≡ value *ℤ pos (10 ^ decimals) }
     ensures bound { unsigned_abs result ≤ 2 ^ 126 }
 {

@@ -11,7 +11,7 @@ use Rattle.lt_ast.specs.declared.name.Name.{Name}
 use Rattle.lt_ast.specs.declared.expr.Arg.{Arg}
 use Rattle.lt_ast.specs.declared.expr.Args.{Args}
 use Rattle.lt_ast.specs.declared.expr.Expr.TheVariants.{Named}
-use Rattle.lt_ast.specs.Lists.{arguments_of}
+use Rattle.lt_ast.specs.inner.Lists.{arguments_of}
 use Rattle.lt_ast.specs.View.{argument, exp, word}
 use Rattle.lt_ast.proofs.Lists.{arguments_list}
 use Rattle.lt_ast.specs.Syntax as s

@@ -1,6 +1,6 @@
 -- Lists that the code has, in front of the lists of a tree.
 use Rattle.std.specs.Prelude.{ℕ, List, [], ◌∷◌}
-use Rattle.lt_ast.specs.Rows.{weighed, group_of}
+use Rattle.lt_ast.specs.inner.Rows.{weighed, group_of}
 use Rattle.lt_ast.specs.Syntax as s
 use Rattle.lt_ast.specs.Syntax.{Word, Arguments, Alternatives, Trace, Traces, Groupings, Declaration}
 use Rattle.lt_ast.specs.View.{word, argument, trace, declaration}

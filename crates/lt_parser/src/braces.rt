@@ -1,7 +1,7 @@
 //! What stands in braces.
 
 ghost use Rattle.std.specs.Prelude.{◌≢◌, ◌<◌, ◌≤◌, length, IfOk};
-ghost use Rattle.lt_ast.specs.Rows.{weighed};
+ghost use Rattle.lt_ast.specs.inner.Rows.{weighed};
 ghost use Rattle.lt_ast.specs.Syntax as syntax;
 ghost use Rattle.lt_ast.specs.View.{braced, trace};
 ghost use Rattle.lt_ast.specs.View as view;

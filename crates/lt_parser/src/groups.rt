@@ -1,7 +1,7 @@
 //! Groups of names, and macros.
 
 ghost use Rattle.std.specs.Prelude.{◌<◌, ◌≤◌, length, IfOk};
-ghost use Rattle.lt_ast.specs.Rows.{group_of, maybe_exp};
+ghost use Rattle.lt_ast.specs.inner.Rows.{group_of, maybe_exp};
 ghost use Rattle.lt_ast.specs.View.{groupings, macro, meaning};
 ghost use Rattle.lt_parser.specs.Going.{Goes, parameters_of};
 ghost use Rattle.lt_parser.specs.Lexemes.{lexemes};

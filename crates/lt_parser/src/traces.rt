@@ -1,7 +1,7 @@
 //! Traces, and the items of a sequence.
 
 ghost use Rattle.std.specs.Prelude.{◌<◌, ◌≤◌, length, IfOk};
-ghost use Rattle.lt_ast.specs.Rows.{maybe_trace};
+ghost use Rattle.lt_ast.specs.inner.Rows.{maybe_trace};
 ghost use Rattle.lt_ast.specs.Syntax as syntax;
 ghost use Rattle.lt_ast.specs.View.{exp, limits, trace};
 ghost use Rattle.lt_parser.specs.Going.{Goes};

@@ -1,6 +1,6 @@
 -- The values that a variable may take.
 use Rattle.std.specs.Prelude.{◌≡◌, ◌≤◌, List, [], ◌∷◌, map, ℤ, pos, ◌≤ℤ◌, unsigned_abs}
-use Rattle.lt_num.specs.Answer.{most}
+use Rattle.lt_num.specs.Bounds.{most_raw}
 use Rattle.lt_num.specs.Range.{IsWithin, raws_of}
 use Rattle.lt_num.specs.Value.{value_of}
 use Rattle.lt_num.specs.declared.kind.Kind.{Kind}
@@ -12,8 +12,8 @@ use Rattle.lt_num.specs.declared.value.Value.{Value}
 -- Boolean is 0 to 1.
 pub record IsDomain (kind : Kind) (range : Range) : Type 0 where
   pub some : range.low ≤ℤ range.high
-  pub low : unsigned_abs range.low ≤ most
-  pub high : unsigned_abs range.high ≤ most
+  pub low : unsigned_abs range.low ≤ most_raw
+  pub high : unsigned_abs range.high ≤ most_raw
   pub boolean : kind ≡ kinds.Bool → (range.low ≡ pos 0) × (range.high ≡ pos 1)
 
 -- the values that a variable may take: those of a kind whose raw number is in a range

@@ -8,7 +8,7 @@ use Rattle.lt_ast.specs.declared.expr.Args.{Args}
 use Rattle.lt_ast.specs.declared.expr.Expr.{back-Expr-Named-1}
 use Rattle.lt_ast.specs.Syntax as s
 use Rattle.lt_ast.specs.Syntax.{Word, Arguments}
-use Rattle.lt_ast.specs.Lists.{arguments_of}
+use Rattle.lt_ast.specs.inner.Lists.{arguments_of}
 use Rattle.lt_ast.specs.View.{word, named_exp, argument}
 use Rattle.lt_ast.proofs.Lists.{arguments_list}
 use Rattle.lt_types.specs.Environment.{Environment, macro}

@@ -4,7 +4,8 @@ use Rattle.std.proofs.lemmas.Int.{ints}
 use Rattle.lt_ast.specs.declared.group.TypeName.{TypeName}
 use Rattle.lt_ast.specs.declared.group.TypeName.TheVariants as t
 use Rattle.lt_ast.specs.Syntax.{Figure, Interval}
-use Rattle.lt_num.specs.Answer.{most, bounded}
+use Rattle.lt_num.specs.Answer.{bounded}
+use Rattle.lt_num.specs.Bounds.{most_raw}
 use Rattle.lt_num.specs.Literal.{IsRead, literal_numerator, literal_denominator}
 use Rattle.lt_num.specs.declared.fault.Arith.{Arith}
 use Rattle.lt_num.specs.declared.fault.Arith.TheVariants.{Overflow}
@@ -30,13 +31,13 @@ bounded_ok raw true low e = let same : low ≡ record { raw = raw } = cc in (ref
 bounded_ok raw false low e = absurd (cc)
 
 -- what a literal is read as
-read_is : (f : Figure) (decimals : ℕ) (x : Fixed) → IsRead (figure_text f) decimals (Ok x) → (nat_le (unsigned_abs (raw_of decimals f)) most ≡ true) × (x.raw ≡ raw_of decimals f)
+read_is : (f : Figure) (decimals : ℕ) (x : Fixed) → IsRead (figure_text f) decimals (Ok x) → (nat_le (unsigned_abs (raw_of decimals f)) most_raw ≡ true) × (x.raw ≡ raw_of decimals f)
 read_is f decimals x h =
     let n = literal_numerator (figure_text f) *ℤ pos (10 ^ decimals) in
     let d = pos (literal_denominator (figure_text f)) in
-    bounded_ok (raw_of decimals f) (nat_le (unsigned_abs (raw_of decimals f)) most) x (rounded_is n d (Ok x) (ten-not_zero _) h)
+    bounded_ok (raw_of decimals f) (nat_le (unsigned_abs (raw_of decimals f)) most_raw) x (rounded_is n d (Ok x) (ten-not_zero _) h)
 
-is_read : (f : Figure) (decimals : ℕ) → nat_le (unsigned_abs (raw_of decimals f)) most ≡ true → IsRead (figure_text f) decimals (Ok (record { raw = raw_of decimals f }))
+is_read : (f : Figure) (decimals : ℕ) → nat_le (unsigned_abs (raw_of decimals f)) most_raw ≡ true → IsRead (figure_text f) decimals (Ok (record { raw = raw_of decimals f }))
 is_read f decimals h =
     let n = literal_numerator (figure_text f) *ℤ pos (10 ^ decimals) in
     let d = pos (literal_denominator (figure_text f)) in
@@ -48,11 +49,11 @@ bounded_err : (raw : ℤ) (b : Bool) (e : Arith) → refused e ≡ (if b then Ok
 bounded_err raw true e h = absurd (cc)
 bounded_err raw false e h = refl
 
-read_is_too_large : (f : Figure) (decimals : ℕ) (e : Arith) → IsRead (figure_text f) decimals (Err e) → nat_le (unsigned_abs (raw_of decimals f)) most ≡ false
+read_is_too_large : (f : Figure) (decimals : ℕ) (e : Arith) → IsRead (figure_text f) decimals (Err e) → nat_le (unsigned_abs (raw_of decimals f)) most_raw ≡ false
 read_is_too_large f decimals e h =
     let n = literal_numerator (figure_text f) *ℤ pos (10 ^ decimals) in
     let d = pos (literal_denominator (figure_text f)) in
-    bounded_err (raw_of decimals f) (nat_le (unsigned_abs (raw_of decimals f)) most) e (rounded_is n d (Err e) (ten-not_zero _) h)
+    bounded_err (raw_of decimals f) (nat_le (unsigned_abs (raw_of decimals f)) most_raw) e (rounded_is n d (Err e) (ten-not_zero _) h)
 
 -- what the code is answered of the text of a literal
 answered : (bytes : List ℕ) (f : Figure) (decimals : ℕ) (r s : Result Fixed Arith) → bytes ≡ figure_text f → r ≡ s → IsRead bytes decimals r → IsRead (figure_text f) decimals s
@@ -98,8 +99,8 @@ range_back decimals kind range e =
       high_type = (same (figure_type range.high) kind (Mismatch range.high.span)).back (nil_right (end_type kind range.low) _ types);
       low = record { raw = raw_of decimals range.low };
       high = record { raw = raw_of decimals range.high };
-      low_read = is_read range.low decimals (unless_back (nat_le (unsigned_abs (raw_of decimals range.low)) most) _ (nil_left (end_size decimals range.low) _ sizes));
-      high_read = is_read range.high decimals (unless_back (nat_le (unsigned_abs (raw_of decimals range.high)) most) _ (nil_right (end_size decimals range.low) _ sizes));
+      low_read = is_read range.low decimals (unless_back (nat_le (unsigned_abs (raw_of decimals range.low)) most_raw) _ (nil_left (end_size decimals range.low) _ sizes));
+      high_read = is_read range.high decimals (unless_back (nat_le (unsigned_abs (raw_of decimals range.high)) most_raw) _ (nil_right (end_size decimals range.low) _ sizes));
       ordered = below_or_same (raw_of decimals range.low) (raw_of decimals range.high) (unless_back (not (int_lt (raw_of decimals range.high) (raw_of decimals range.low))) _ last);
     }
 

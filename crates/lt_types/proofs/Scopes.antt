@@ -5,8 +5,8 @@ use Rattle.lt_ast.specs.declared.group.Group.{Group}
 use Rattle.lt_ast.specs.declared.group.Groups.{Groups, out-Groups}
 use Rattle.lt_ast.specs.declared.trace.MacroDecl.{MacroDecl, MacroDecl', out-MacroDecl, view-MacroDecl-params, Held-MacroDecl-params, MacroDecl-params-None', MacroDecl-params-Some'}
 use denote.Hole.Carrier.{out}
-use Rattle.lt_ast.specs.Lists.{groups_of}
-use Rattle.lt_ast.specs.Rows.{group_of}
+use Rattle.lt_ast.specs.inner.Lists.{groups_of}
+use Rattle.lt_ast.specs.inner.Rows.{group_of}
 use Rattle.lt_ast.specs.Syntax as s
 use Rattle.lt_ast.specs.Syntax.{Word, Grouping, Groupings, Parameters, Macro, MaybeExp}
 use Rattle.lt_ast.specs.View.{word, groupings, meaning, macro as macro_seen, parameters as parameters_held}

@@ -1,6 +1,6 @@
 -- The lists of a trace, as the code has them.
 use Rattle.std.proofs.Common.{◌≡◌, List, Vec, Global, Result, map, ap, sym, subst, ◌∙◌}
-use Rattle.lt_ast.specs.Lists.{traces_of, alternatives_of}
+use Rattle.lt_ast.specs.inner.Lists.{traces_of, alternatives_of}
 use Rattle.lt_ast.specs.View.{trace, trace_row, alternatives}
 use Rattle.lt_ast.specs.declared.expr.Arg.TheBlock.{hidden-the_row-TraceExpr-1}
 use Rattle.lt_ast.specs.declared.trace.TraceExpr.{TraceExpr}

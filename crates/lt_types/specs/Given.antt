@@ -10,7 +10,7 @@ use Rattle.lt_ast.specs.declared.program.NodeDecl.{NodeDecl}
 use Rattle.lt_ast.specs.declared.span.Span.{Span}
 use Rattle.lt_ast.specs.Syntax as s
 use Rattle.lt_ast.specs.Syntax.{Word, Exp, Argument, MaybeExp, Parameters, Trace, Declaration}
-use Rattle.lt_ast.specs.Lists.{arguments_of}
+use Rattle.lt_ast.specs.inner.Lists.{arguments_of}
 use Rattle.lt_ast.specs.View.{argument, groupings, trace, word}
 use Rattle.lt_types.specs.Environment.{Environment}
 use Rattle.lt_types.specs.declared.refusal.TypeRefusal.{TypeRefusal}

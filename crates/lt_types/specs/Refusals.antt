@@ -13,7 +13,7 @@ use Rattle.lt_ast.specs.declared.group.TypeName.{TypeName}
 use Rattle.lt_ast.specs.declared.group.TypeName.TheVariants as t
 use Rattle.lt_ast.specs.Syntax as s
 use Rattle.lt_ast.specs.Syntax.{Word, Figure, Interval, Exp, Argument, Arguments, Limits, Braces, Alternative, Alternatives, Trace, Traces, Grouping, Groupings, MaybeExp, MaybeTrace, Parameters, Meaning, Macro, Declaration}
-use Rattle.lt_num.specs.Answer.{most}
+use Rattle.lt_num.specs.Bounds.{most_raw}
 use Rattle.lt_types.specs.Environment.{Parameter, by_value, by_ref, Entry, variable, parameter, macro, Environment, at_start, found, is_among, Role, variables, parameters, with_group, with_groups, with_group_names, with_groups_names, with_parameters, with_macro, with_exceptions, with_declaration, with_inputs_and_outputs}
 use Rattle.lt_types.specs.Operators.{is_value, same_type, serves_as, unary_takes, binary_takes, unary_gives, binary_gives}
 use Rattle.lt_types.specs.Literal.{figure_type, raw_of}
@@ -155,7 +155,7 @@ end_type kind f = unless (same_type (figure_type f) kind) (Mismatch f.span)
 
 -- the end of a range is a number within bounds
 abbrev pub end_size : ℕ → Figure → List TypeRefusal
-end_size decimals f = unless (nat_le (unsigned_abs (raw_of decimals f)) most) (RangeTooLarge f.span)
+end_size decimals f = unless (nat_le (unsigned_abs (raw_of decimals f)) most_raw) (RangeTooLarge f.span)
 
 -- the low end of a range isn't over the high one
 abbrev pub in_order : ℕ → Interval → List TypeRefusal

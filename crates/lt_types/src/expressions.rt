@@ -5,8 +5,8 @@
 //! memory.
 
 ghost use Rattle.std.specs.Prelude.{◌≡◌, IfOk, OnOk, Some, map, string_bytes};
-ghost use Rattle.lt_ast.specs.Lists.{arguments_of};
-ghost use Rattle.lt_ast.specs.Rows.{IsOperand};
+ghost use Rattle.lt_ast.specs.inner.Lists.{arguments_of};
+ghost use Rattle.lt_ast.specs.inner.Rows.{IsOperand};
 ghost use Rattle.lt_ast.specs.Syntax.{called};
 ghost use Rattle.lt_ast.specs.View.{argument, exp, word};
 ghost use Rattle.lt_types.specs.Answer.{Answers, Checks};

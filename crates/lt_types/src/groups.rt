@@ -1,7 +1,7 @@
 //! Groups of variables or parameters, and macros.
 
 ghost use Rattle.std.specs.Prelude.{◌≡◌, ◌≤◌, ◌++◌, [], IfOk, OnOk, length, map};
-ghost use Rattle.lt_ast.specs.Rows.{group_of, maybe_exp};
+ghost use Rattle.lt_ast.specs.inner.Rows.{group_of, maybe_exp};
 ghost use Rattle.lt_ast.specs.View.{groupings, interval, macro, meaning, words};
 ghost use Rattle.lt_types.specs.Answer.{Checks};
 ghost use Rattle.lt_types.specs.Environment.{group_parameters, groups_parameters, parameters_of, with_group, with_groups, with_macro, with_parameters};

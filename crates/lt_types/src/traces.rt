@@ -1,8 +1,8 @@
 //! Traces.
 
 ghost use Rattle.std.specs.Prelude.{◌≡◌, OnOk, Some, map};
-ghost use Rattle.lt_ast.specs.Lists.{traces_of};
-ghost use Rattle.lt_ast.specs.Rows.{maybe_trace, weighed};
+ghost use Rattle.lt_ast.specs.inner.Lists.{traces_of};
+ghost use Rattle.lt_ast.specs.inner.Rows.{maybe_trace, weighed};
 ghost use Rattle.lt_ast.specs.View.{alternatives, braced, exp, limits, trace as trace_view};
 ghost use Rattle.lt_types.specs.Answer.{Checks};
 ghost use Rattle.lt_types.specs.Given.{IsScoped};

@@ -1,7 +1,7 @@
 //! Names that are used, and the arguments that they are given.
 
 ghost use Rattle.std.specs.Prelude.{◌≡◌, IsSome, map, option_map, string_bytes};
-ghost use Rattle.lt_ast.specs.Lists.{arguments_of};
+ghost use Rattle.lt_ast.specs.inner.Lists.{arguments_of};
 ghost use Rattle.lt_ast.specs.Syntax.{called, named, pre};
 ghost use Rattle.lt_ast.specs.View.{argument, exp, word};
 ghost use Rattle.lt_types.specs.Answer.{Answers, Checks};

@@ -6,10 +6,10 @@ use Rattle.std.proofs.lemmas.Grind.{common_steps}
 use Rattle.std.proofs.lemmas.List.{map-append}
 use Rattle.std.specs.List.{list_all}
 use Rattle.std.specs.Borrow.{Bor}
-use Rattle.lt_ast.specs.Lists.{groups_of, traces_of}
+use Rattle.lt_ast.specs.inner.Lists.{groups_of, traces_of}
 use Rattle.lt_ast.specs.Syntax as s
 use Rattle.lt_ast.specs.Syntax.{Word, Exp, Trace, Grouping, Groupings, Declaration}
-use Rattle.lt_ast.specs.Rows.{group_of}
+use Rattle.lt_ast.specs.inner.Rows.{group_of}
 use Rattle.lt_ast.specs.View.{exp, groupings, trace, trace_row}
 use Rattle.lt_ast.specs.declared.group.Group.{Group}
 use Rattle.lt_ast.specs.declared.group.Groups.{Groups, out-Groups}

@@ -2,7 +2,7 @@
 
 ghost use Rattle.std.specs.Prelude.{◌≡◌, ◌<◌, ◌≤◌, ◌&&◌, [], ◌∷◌, IsTrue, IfOk, IfSome, OnOk, MatchOption, false, length, map, string_bytes, vec_len};
 ghost use Rattle.std.specs.List.{list_all};
-ghost use Rattle.lt_ast.specs.Rows.{IsOperand, group_of};
+ghost use Rattle.lt_ast.specs.inner.Rows.{IsOperand, group_of};
 ghost use Rattle.lt_ast.specs.Syntax.{Trace, no_groups, one_group};
 ghost use Rattle.lt_ast.specs.declared.expr.Expr.{size-Expr};
 ghost use Rattle.lt_ast.specs.View.{exp, groupings, program as declarations, trace as trace_tree};

@@ -1,4 +1,4 @@
-use Rattle.lt_ast.specs.Rows.{weighed, group_of}
+use Rattle.lt_ast.specs.inner.Rows.{weighed, group_of}
 use Rattle.lt_ast.specs.Syntax.{called, Trace}
 use Rattle.lt_ast.specs.View.{exp, word, argument, trace, braced}
 use Rattle.lt_parser.proofs.Begins.{no_weight}

@@ -1,6 +1,6 @@
 use Rattle.std.proofs.Common.{rules, sym, subst, ap, ◌∙◌}
 use Rattle.lt_ast.specs.declared.expr.Arg.TheFolds.{the_lemmas}
-use Rattle.lt_ast.specs.Rows.{group_of}
+use Rattle.lt_ast.specs.inner.Rows.{group_of}
 use Rattle.lt_ast.specs.View.{braced, exp, trace}
 use Rattle.lt_types.specs.Readable.{InBraces, InExp, InTrace}
 use Rattle.lt_types.specs.Refusals.{braces_refusals}

@@ -3,7 +3,7 @@ use Rattle.std.specs.List.{flat_map}
 use Rattle.lt_ast.specs.declared.sign.Sign.TheVariants.{Comma, Semicolon, Bar}
 use Rattle.lt_ast.specs.declared.expr.Expr.{size-Expr}
 use Rattle.lt_ast.specs.Printed.{spaced}
-use Rattle.lt_ast.specs.Rows.{behind, sides_tokens, tokens_of_argument, tokens_of_group, tokens_of_part, tokens_of_trace}
+use Rattle.lt_ast.specs.inner.Rows.{behind, sides_tokens, tokens_of_argument, tokens_of_group, tokens_of_part, tokens_of_trace}
 use Rattle.lt_ast.specs.Tokens.{exp_tokens}
 use Rattle.lt_ast.specs.View.{exp}
 use Rattle.lt_ast.proofs.printer.+print.Given as goal

@@ -1,6 +1,6 @@
 use Rattle.std.proofs.Common.{◌≡◌, ◌++◌, map, drop}
-use Rattle.lt_ast.specs.Lists.{groups_of}
-use Rattle.lt_ast.specs.Rows.{group_of}
+use Rattle.lt_ast.specs.inner.Lists.{groups_of}
+use Rattle.lt_ast.specs.inner.Rows.{group_of}
 use Rattle.lt_ast.specs.View.{groupings}
 use Rattle.lt_types.specs.Environment.{groups_parameters}
 use Rattle.lt_types.specs.Scoping.{param_view}

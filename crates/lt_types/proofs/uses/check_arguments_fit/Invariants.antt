@@ -1,5 +1,5 @@
 use Rattle.std.proofs.Common.{◌≡◌, Some, map, length}
-use Rattle.lt_ast.specs.Lists.{arguments_of}
+use Rattle.lt_ast.specs.inner.Lists.{arguments_of}
 use Rattle.lt_ast.specs.View.{argument}
 use Rattle.lt_types.specs.Given.{argument_type}
 use Rattle.lt_types.specs.Refusals.{arguments_misfit}

@@ -1,5 +1,5 @@
 use Rattle.std.proofs.Common.{◌≡◌, ◌∙◌, ℕ, List, true, false, ap, subst, sym, string_bytes}
-use Rattle.lt_ast.specs.Rows.{group_of}
+use Rattle.lt_ast.specs.inner.Rows.{group_of}
 use Rattle.lt_ast.specs.View.{groupings, program, trace, word}
 use Rattle.lt_term.specs.SceneView.{scene}
 use Rattle.lurette.specs.Form.{are_none, group_names, is_runnable, runs_as_trace}

@@ -62,9 +62,13 @@ abbrev pub weighed : Option Expr → TraceExpr → s.Alternative
 weighed None t = s.unweighted (trace t)
 weighed (Some e) t = s.weighted (exp e) (trace t)
 
+-- an alternative as the code has it
+abbrev pub part_of : Part → s.Alternative
+part_of p = weighed p.weight p.body
+
 -- the tokens of an alternative
 abbrev pub tokens_of_part : Part → List Written
-tokens_of_part p = alternative_tokens (weighed p.weight p.body)
+tokens_of_part p = alternative_tokens (part_of p)
 
 -- a group
 abbrev pub group_of : Group → s.Grouping
