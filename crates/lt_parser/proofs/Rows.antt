@@ -9,10 +9,10 @@ use Rattle.lt_ast.specs.declared.trace.TraceExpr.{TraceExpr}
 use Rattle.lt_ast.specs.declared.trace.TraceExpr.TheVariants.{Seq}
 use Rattle.lt_ast.specs.declared.trace.Traces.{Traces}
 use Rattle.lt_ast.specs.inner.Lists.{alternatives_of, groups_of, traces_of}
-use Rattle.lt_ast.specs.inner.Rows.{group_of}
+use Rattle.lt_ast.specs.inner.Rows.{group_of, part_of}
 use Rattle.lt_ast.specs.Syntax as s
 use Rattle.lt_ast.specs.View.{alternatives, braced, groupings, trace}
-use Rattle.lt_ast.proofs.Lists.{alternatives_list, groups_list, part_of, traces_list}
+use Rattle.lt_ast.proofs.Public.{alternatives_list, groups_list, traces_list}
 use Rattle.lt_parser.specs.Onto.{alternatives_onto, groups_onto, traces_onto}
 
 -- traces in turn

@@ -13,7 +13,7 @@ use Rattle.lt_ast.specs.declared.expr.Args.{Args}
 use Rattle.lt_ast.specs.declared.expr.Expr.TheVariants.{Named}
 use Rattle.lt_ast.specs.inner.Lists.{arguments_of}
 use Rattle.lt_ast.specs.View.{argument, exp, word}
-use Rattle.lt_ast.proofs.Lists.{arguments_list}
+use Rattle.lt_ast.proofs.Public.{arguments_list}
 use Rattle.lt_ast.specs.Syntax as s
 use Rattle.lt_ast.specs.Syntax.{Word, Exp, Argument, Arguments, Limits, Braces, Alternative, Alternatives, Trace, Traces, Grouping, Groupings, MaybeExp, MaybeTrace, Parameters, Declaration, Interval}
 use Rattle.lt_parser.specs.declared.refusal.Refusal.{Refusal}

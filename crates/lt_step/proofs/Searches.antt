@@ -4,7 +4,7 @@ use Rattle.std.specs.Prelude.{ℤ, pos, ◌+ℤ◌, ◌≤ℤ◌, ◌<ℤ◌}
 use Rattle.std.proofs.lemmas.Bool.{eqb-true, eqb-false, ltb-true}
 use Rattle.std.specs.declared.option.Option.{Option}
 use Rattle.std.specs.List.{list_all}
-use Rattle.lt_num.proofs.RangeLemmas.{raws_of-more, raws_of-none}
+use Rattle.lt_num.proofs.Public.{raws_of-more, raws_of-none}
 use Rattle.lt_num.specs.Value.{value_of}
 use Rattle.lt_num.specs.declared.kind.Kind.{Kind}
 use Rattle.lt_num.specs.declared.value.Value.{Value}

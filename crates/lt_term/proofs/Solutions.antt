@@ -4,7 +4,7 @@ use Rattle.std.specs.Prelude.{All, Contains, slice_index_or}
 use Rattle.std.specs.declared.option.Option.{Option}
 use Rattle.std.proofs.lemmas.List.{get_or-map, length-map}
 use Rattle.std.proofs.lemmas.List.Elements.{All-contains, All-contains_itself, All-map, All-weaker}
-use Rattle.lt_num.proofs.RangeLemmas.{raws_are_within}
+use Rattle.lt_num.proofs.Public.{raws_are_within}
 use Rattle.lt_num.specs.Range.{raws_of}
 use Rattle.lt_num.specs.Value.{value_of}
 use Rattle.lt_num.specs.declared.value.Value.{Value}

@@ -10,7 +10,7 @@ use Rattle.lt_ast.specs.Syntax as s
 use Rattle.lt_ast.specs.Syntax.{Word, Arguments}
 use Rattle.lt_ast.specs.inner.Lists.{arguments_of}
 use Rattle.lt_ast.specs.View.{word, named_exp, argument}
-use Rattle.lt_ast.proofs.Lists.{arguments_list}
+use Rattle.lt_ast.proofs.Public.{arguments_list}
 use Rattle.lt_types.specs.Environment.{Environment, macro}
 use Rattle.lt_types.specs.Given.{used}
 use Rattle.lt_types.specs.Readable.{InExp}

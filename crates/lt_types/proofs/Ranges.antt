@@ -10,7 +10,7 @@ use Rattle.lt_num.specs.Literal.{IsRead, literal_numerator, literal_denominator}
 use Rattle.lt_num.specs.declared.fault.Arith.{Arith}
 use Rattle.lt_num.specs.declared.fault.Arith.TheVariants.{Overflow}
 use Rattle.lt_num.specs.declared.fixed.Fixed.{Fixed}
-use Rattle.lt_num.proofs.AnswerLemmas.{is_rounded, rounded_is, ten-not_zero}
+use Rattle.lt_num.proofs.Public.{is_rounded, rounded_is, ten-not_zero}
 use Rattle.lt_types.specs.Literal.{figure_type, figure_text, raw_of}
 use Rattle.lt_types.specs.Typing.{IsRange, IsGroupRange}
 use Rattle.lt_types.specs.Refusals.{unless, end_type, end_size, in_order, range_of, range_refusals}

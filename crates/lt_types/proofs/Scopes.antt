@@ -10,7 +10,7 @@ use Rattle.lt_ast.specs.inner.Rows.{group_of}
 use Rattle.lt_ast.specs.Syntax as s
 use Rattle.lt_ast.specs.Syntax.{Word, Grouping, Groupings, Parameters, Macro, MaybeExp}
 use Rattle.lt_ast.specs.View.{word, groupings, meaning, macro as macro_seen, parameters as parameters_held}
-use Rattle.lt_ast.proofs.Lists.{groups_list}
+use Rattle.lt_ast.proofs.Public.{groups_list}
 use Rattle.lt_types.specs.Environment.{Environment, Binding, Entry, Role, variables, with_bindings, with_names, with_group, with_groups, with_group_names, with_parameters, with_macro, with_exceptions, group_entry}
 use Rattle.lt_types.specs.Environment as e
 use Rattle.lt_types.specs.Given.{parameters_view, first_judged, first_type}

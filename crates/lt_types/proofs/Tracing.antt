@@ -5,7 +5,8 @@ use Rattle.lt_ast.specs.View.{trace, trace_row, alternatives}
 use Rattle.lt_ast.specs.declared.expr.Arg.TheBlock.{hidden-the_row-TraceExpr-1}
 use Rattle.lt_ast.specs.declared.trace.TraceExpr.{TraceExpr}
 use Rattle.lt_ast.specs.declared.trace.Parts.{Parts, out-Parts}
-use Rattle.lt_ast.proofs.Lists.{part_of, traces_list, alternatives_list}
+use Rattle.lt_ast.proofs.Public.{traces_list, alternatives_list}
+use Rattle.lt_ast.specs.inner.Rows.{part_of}
 use Rattle.lt_types.specs.Answer.{Checks}
 use Rattle.lt_types.specs.Environment.{Environment}
 use Rattle.lt_types.specs.Readable.{InTraces, InAlternatives}

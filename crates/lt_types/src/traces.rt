@@ -22,7 +22,7 @@ use std::alloc::Global;
 
 // A trace.
 #[cycle(check)]
-#[tactic(auto, using(crate::proofs::Leading::leads, lt_ast::proofs::Lists::traces_list))]
+#[tactic(auto, using(crate::proofs::Leading::leads, lt_ast::proofs::Public::traces_list))]
 pub(crate) fn check_trace(
     alloc: Global,
     scope: &mut Scope,
@@ -78,7 +78,7 @@ fn check_served(kind: TypeName, expr: &Expr) -> Result<(), TypeRefusal>
 
 // What stands in braces.
 #[cycle(check)]
-#[tactic(auto, using(crate::proofs::Leading::leads, lt_ast::proofs::Lists::traces_list))]
+#[tactic(auto, using(crate::proofs::Leading::leads, lt_ast::proofs::Public::traces_list))]
 pub(crate) fn check_braces(
     alloc: Global,
     scope: &mut Scope,

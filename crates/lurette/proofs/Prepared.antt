@@ -15,7 +15,7 @@ use Rattle.lt_ast.specs.declared.group.Group.{Group}
 use Rattle.lt_ast.specs.declared.group.Groups.{Groups, out-Groups}
 use Rattle.lt_ast.specs.declared.trace.TraceExpr.{TraceExpr}
 use Rattle.lt_ast.specs.declared.expr.Arg.TheBlock.{hidden-the_row-TraceExpr-1}
-use Rattle.lt_ast.proofs.Lists.{groups_list, traces_list}
+use Rattle.lt_ast.proofs.Public.{groups_list, traces_list}
 use Rattle.lt_ast.specs.declared.expr.Expr.{Expr}
 use Rattle.lt_ast.specs.declared.expr.BinOp.{BinOp}
 use Rattle.lt_term.specs.Expression.{Expression}

@@ -1,9 +1,8 @@
 use Rattle.std.proofs.Common.{◌≡◌, ◌++◌, ◌<◌, ◌≤◌, Some, All, vec_len, reverse, map, take, drop, length}
 use Rattle.lt_ast.specs.declared.expr.Expr.{size-Expr}
 use Rattle.lt_ast.specs.inner.Lists.{arguments_of, alternatives_of, groups_of, traces_of}
-use Rattle.lt_ast.specs.inner.Rows.{group_of}
+use Rattle.lt_ast.specs.inner.Rows.{group_of, part_of}
 use Rattle.lt_ast.specs.View.{alternatives, argument, exp, groupings, trace}
-use Rattle.lt_ast.proofs.Lists.{part_of}
 use Rattle.lt_types.specs.Chains.{sides_refusals, sides_type}
 use Rattle.lt_types.specs.Environment.{with_groups}
 use Rattle.lt_types.specs.Given.{argument_type}
