@@ -1,4 +1,10 @@
+-- What clauses say of a count of faults, and of what is told only in part.
 pub mod Causes
+-- The names that files were asked for by.
 pub mod Files
+-- The calls of an object in memory: which is to fail, and how they are counted.
+pub mod Calls
+-- Files in memory: their contents by name, and where a call fails.
 pub mod MemFiles
+-- A sink in memory: what clauses see of it, and where a call fails.
 pub mod SinkState

@@ -1,10 +1,11 @@
 -- Files in memory.
-use Rattle.std.specs.Prelude.{ℕ, ◌≡◌, ◌⊎◌, List, [], ◌∷◌, None, Some, Contains, if◌then◌else◌, string_bytes}
+use Rattle.std.specs.Prelude.{ℕ, ◌≡◌, ◌⊎◌, List, [], ◌∷◌, None, Some, if◌then◌else◌, string_bytes}
 use Rattle.std.specs.Str.{bytes_eq}
 use Rattle.std.specs.declared.option.Option.{Option}
 use Rattle.std.specs.declared.string.String.{String}
 use Rattle.std.specs.declared.vec.Vec.{Vec}
 use Rattle.std.specs.declared.alloc.Global.{Global}
+use Rattle.lt_io.specs.Calls.{IsNextToFail}
 use Rattle.lt_io.specs.declared.mem_files.MemFiles.{MemFiles}
 
 -- the contents of the first entry of that name
@@ -16,6 +17,6 @@ first_named (e ∷ es) name = if bytes_eq (string_bytes e.0) name then Some e.1.
 abbrev pub content_of : MemFiles → List ℕ → Option (List ℕ)
 content_of files name = first_named files.entries.items name
 
--- the next call fails at that name: its number is among the failing ones, or no file has the name
+-- the next call fails at that name: it is to fail, or no file has the name
 abbrev pub FailsAt : MemFiles → List ℕ → Type 0
-FailsAt files name = Contains files.failing.items files.calls ⊎ (content_of files name ≡ None)
+FailsAt files name = IsNextToFail files.calls ⊎ (content_of files name ≡ None)

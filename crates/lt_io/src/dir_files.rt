@@ -3,7 +3,7 @@
 ghost use Rattle.std.specs.Prelude.{◌≡◌, ◌≤◌, [], length, IfOk, None};
 ghost use Rattle.lt_io.specs.Files.{names_of};
 
-use crate::files::{FileRefusal, Files, concluded};
+use crate::files::{FileRefusal, Files, recorded};
 use std::alloc::Global;
 use std::io::{ErrorKind, Read};
 use std::{fs, io, rt};
@@ -73,6 +73,10 @@ impl<'a, R: rt::Files> Files for DirFiles<'a, R> {
     /// A name that is not there, a folder and a file that cannot be read are faults.
     fn read(&mut self, alloc: Global, name: &str, most: usize) -> Result<Vec<u8>, FileRefusal> {
         let loaded = load(self.rt, alloc, name, most);
-        concluded(alloc, name, loaded, &mut self.asked, &mut self.faults)
+        let answer = recorded(alloc, name, loaded, &mut self.asked);
+        if let Err(FileRefusal::Failed) = answer {
+            self.faults = self.faults.saturating_add(1);
+        }
+        answer
     }
 }

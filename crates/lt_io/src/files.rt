@@ -2,7 +2,7 @@
 
 ghost use Rattle.std.specs.Prelude.{◌≡◌, ◌≢◌, ℕ, ◌≤◌, ◌<◌, List, [], ◌∷◌, ◌++◌, length, IfOk};
 ghost use Rattle.std.specs.declared.option.Option.{Option};
-ghost use Rattle.lt_io.specs.Causes.{Rose, WhereTold, risen};
+ghost use Rattle.lt_io.specs.Causes.{Rose, WhereTold};
 ghost use Rattle.lt_io.specs.Files.{names_of};
 
 use std::alloc::Global;
@@ -54,24 +54,19 @@ pub trait Files {
         ensures calm { result ≢ Err FileRefusal.Failed → faults self.new ≡ faults self.old };
 }
 
-// Ends a call that read the file `name`: records the name, and counts a fault where the call failed.
-// Where memory runs out, neither changes.
-pub(crate) fn concluded(
+// Records the name that a call asked for, and hands on what it answers. Where memory runs out, the
+// names stay as they were.
+pub(crate) fn recorded(
     alloc: Global,
     name: &str,
     answer: Result<Vec<u8>, FileRefusal>,
     asked: &mut Vec<String>,
-    faults: &mut u64,
 ) -> Result<Vec<u8>, FileRefusal>
     ensures answer { result ≢ Err FileRefusal.Memory → result ≡ answer }
 
     ensures asks { result ≢ Err FileRefusal.Memory →
         names_of asked.new.items ≡ names_of asked.old.items ++ name.now ∷ [] }
     ensures none_asked { result ≡ Err FileRefusal.Memory → names_of asked.new.items ≡ names_of asked.old.items }
-
-    ensures later { faults.old ≤ faults.new }
-    ensures fault { result ≡ Err FileRefusal.Failed → faults.new ≡ risen faults.old }
-    ensures no_fault { result ≢ Err FileRefusal.Failed → faults.new ≡ faults.old }
 {
     if let Err(FileRefusal::Memory) = answer {
         return Err(FileRefusal::Memory);
@@ -81,9 +76,6 @@ pub(crate) fn concluded(
     };
     if asked.push(name).is_err() {
         return Err(FileRefusal::Memory);
-    }
-    if let Err(FileRefusal::Failed) = answer {
-        *faults = faults.saturating_add(1);
     }
     answer
 }

@@ -9,6 +9,7 @@
 //! that blames the outside comes only with a count that rose.
 #![tactic(auto)]
 
+mod calls;
 mod dir_files;
 mod files;
 mod mem_files;
@@ -17,6 +18,7 @@ mod memory;
 mod sink;
 mod std_sink;
 
+pub use calls::Calls;
 pub use dir_files::DirFiles;
 pub use files::{FileRefusal, Files};
 pub use mem_files::MemFiles;

@@ -1,11 +1,13 @@
 //! Files in memory.
 
 ghost use Rattle.std.specs.Prelude.{◌≡◌, ◌≢◌, ◌≤◌, ◌<◌, ◌↔◌, ℕ, List, [], ◌∷◌, ◌++◌, length, IfNone, IfOk, IfSome};
-ghost use Rattle.lt_io.specs.Causes.{Rose, WhereTold, risen};
+ghost use Rattle.lt_io.specs.Calls.{with_success, with_fault};
+ghost use Rattle.lt_io.specs.Causes.{Rose, WhereTold};
 ghost use Rattle.lt_io.specs.Files.{names_of};
 ghost use Rattle.lt_io.specs.MemFiles.{first_named, content_of, FailsAt};
 
-use crate::files::{FileRefusal, Files, concluded};
+use crate::calls::Calls;
+use crate::files::{FileRefusal, Files, recorded};
 use std::alloc::Global;
 
 /// Files that are kept in memory, and fail where they are told to.
@@ -15,12 +17,8 @@ pub struct MemFiles {
     pub entries: Vec<(String, Vec<u8>)>,
     /// The names that were asked for, the last one at the end.
     pub asked: Vec<String>,
-    /// How many calls were answered, up to `u64::MAX`. A call out of memory does not count.
-    pub calls: u64,
-    /// The numbers of the calls that are to fail, where the first call is number 0.
-    pub failing: Vec<u64>,
-    /// How many calls failed, up to `u64::MAX`.
-    pub faults: u64,
+    /// The calls of `read`. One that ran out of memory does not count.
+    pub calls: Calls,
 }
 
 // The first file of that name.
@@ -46,7 +44,7 @@ impl MemFiles {
         ensures fails { result ≢ Err FileRefusal.Memory →
             ((result ≡ Err FileRefusal.Failed) ↔ FailsAt self.now name.now) }
     {
-        if self.failing.contains(&self.calls) {
+        if self.calls.is_next_to_fail() {
             return Err(FileRefusal::Failed);
         }
         let Some(bytes) = found(&self.entries, name) else {
@@ -64,13 +62,13 @@ impl Files for MemFiles {
 
     ghost asked = { λ f. names_of f.asked.items };
 
-    ghost faults = { λ f. f.faults };
+    ghost faults = { λ f. f.calls.faults };
 
     /// Reads the first file of that name.
     ///
-    /// It fails exactly where the call's number is in `failing` or no file has the name, and is
-    /// `TooLong` exactly where it does not fail and the file has more than `most` bytes. Any answer
-    /// may yield to `Memory`, which leaves everything as it was.
+    /// It fails exactly where the call is to fail or no file has the name, and is `TooLong` exactly
+    /// where it does not fail and the file has more than `most` bytes. Any answer may yield to
+    /// `Memory`, which leaves everything as it was.
     fn read(&mut self, alloc: Global, name: &str, most: usize) -> Result<Vec<u8>, FileRefusal>
         ensures told { IfOk result (λ v. WhereTold (content_of self.old name.now) (λ bytes. v.items ≡ bytes)) }
         ensures within { IfOk result (λ v. length v.items ≤ most) }
@@ -81,26 +79,27 @@ impl Files for MemFiles {
             names_of self.new.asked.items ≡ names_of self.old.asked.items ++ name.now ∷ [] }
         ensures none_asked { result ≡ Err FileRefusal.Memory →
             names_of self.new.asked.items ≡ names_of self.old.asked.items }
-        ensures later { self.old.faults ≤ self.new.faults }
-        ensures cause { result ≡ Err FileRefusal.Failed → Rose self.old.faults self.new.faults }
-        ensures calm { result ≢ Err FileRefusal.Failed → self.new.faults ≡ self.old.faults }
+        ensures later { self.old.calls.faults ≤ self.new.calls.faults }
+        ensures cause { result ≡ Err FileRefusal.Failed → Rose self.old.calls.faults self.new.calls.faults }
+        ensures calm { result ≢ Err FileRefusal.Failed → self.new.calls.faults ≡ self.old.calls.faults }
 
         // Beyond the trait: which calls fail, that the others find the file, and what each call leaves.
         ensures fails { result ≢ Err FileRefusal.Memory →
             ((result ≡ Err FileRefusal.Failed) ↔ FailsAt self.old name.now) }
         ensures found { IfOk result (λ v. content_of self.old name.now ≡ Some v.items) }
         ensures entries { self.new.entries ≡ self.old.entries }
-        ensures failing { self.new.failing ≡ self.old.failing }
-        ensures calls { result ≢ Err FileRefusal.Memory → self.new.calls ≡ risen self.old.calls }
+        ensures success { result ≢ Err FileRefusal.Memory → result ≢ Err FileRefusal.Failed →
+            self.new.calls ≡ with_success self.old.calls }
+        ensures fault { result ≡ Err FileRefusal.Failed → self.new.calls ≡ with_fault self.old.calls }
         ensures none_called { result ≡ Err FileRefusal.Memory → self.new.calls ≡ self.old.calls }
-        ensures fault { result ≡ Err FileRefusal.Failed → self.new.faults ≡ risen self.old.faults }
     {
         let copied = self.copied(alloc, name, most);
-        let answer = concluded(alloc, name, copied, &mut self.asked, &mut self.faults);
-        if let Err(FileRefusal::Memory) = answer {
-            return Err(FileRefusal::Memory);
+        let answer = recorded(alloc, name, copied, &mut self.asked);
+        match answer {
+            Err(FileRefusal::Memory) => {}
+            Err(FileRefusal::Failed) => self.calls.count_fault(),
+            Err(FileRefusal::TooLong) | Ok(_) => self.calls.count_success(),
         }
-        self.calls = self.calls.saturating_add(1);
         answer
     }
 }

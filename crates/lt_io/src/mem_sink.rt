@@ -2,9 +2,11 @@
 
 ghost use Rattle.std.specs.Prelude.{◌≡◌, ◌+◌, ◌-◌, ◌<◌, ◌≤◌, ◌↔◌, [], ◌++◌, Some, min, take, length, vec_len, vec_capacity, IfOk, OnErr, IsErr};
 ghost use Rattle.std.specs.Io.KnownBytes.{WriteAppends};
-ghost use Rattle.lt_io.specs.Causes.{HasCause, risen};
+ghost use Rattle.lt_io.specs.Calls.{none_made, with_success, with_fault};
+ghost use Rattle.lt_io.specs.Causes.{HasCause};
 ghost use Rattle.lt_io.specs.SinkState.{SinkState, Fails};
 
+use crate::calls::Calls;
 use crate::memory::Memory;
 use crate::sink::{Failed, Sink};
 use std::alloc::Global;
@@ -15,9 +17,7 @@ use std::marker::Model;
 pub struct MemSink {
     written: Vec<u8>,
     room: usize,
-    calls: u64,
-    failing: Vec<u64>,
-    faults: u64,
+    calls: Calls,
 }
 
 impl Model for MemSink {
@@ -27,8 +27,6 @@ impl Model for MemSink {
       written = s.written.items;
       room = s.room;
       calls = s.calls;
-      failing = s.failing.items;
-      faults = s.faults;
     } };
 
     ghost invariant = { λ s. vec_len s.written + s.room ≤ vec_capacity s.written };
@@ -41,14 +39,12 @@ impl MemSink {
     /// It answers `Memory` where the room could not be reserved.
     pub fn make(alloc: Global, room: usize, failing: Vec<u64>) -> Result<MemSink, Memory>
         ensures { IfOk result (λ s.
-            s ≡ record { written = []; room = room; calls = 0; failing = failing.items; faults = 0 }) }
+            s ≡ record { written = []; room = room; calls = none_made failing }) }
     {
         Ok(MemSink {
             written: Vec::with_capacity(alloc, room)?,
             room,
-            calls: 0,
-            failing,
-            faults: 0,
+            calls: Calls::new(failing),
         })
     }
 
@@ -61,26 +57,26 @@ impl MemSink {
 
     /// How many calls failed, up to `u64::MAX`.
     pub fn faults(&self) -> u64
-        ensures { result ≡ self.now.faults }
+        ensures { result ≡ self.now.calls.faults }
     {
-        self.faults
+        self.calls.faults
     }
 }
 
 impl Sink for MemSink {
     ghost written = { λ s. Some s.written };
 
-    ghost faults = { λ s. s.faults };
+    ghost faults = { λ s. s.calls.faults };
 
     /// Takes as much of the piece as there is room for, which falls by as much.
     ///
-    /// It fails exactly where the call's number is in `failing` or no room is left.
+    /// It fails exactly where the call is to fail or no room is left.
     fn write(&mut self, bytes: &[u8]) -> Result<usize, Failed>
         requires { 0 < length bytes.now }
         ensures some { IfOk result (λ n. 0 < n) }
         ensures within { IfOk result (λ n. n ≤ length bytes.now) }
         ensures appends { WriteAppends (Some self.old.written) (Some self.new.written) result bytes.now }
-        ensures cause { HasCause self.old.faults self.new.faults result }
+        ensures cause { HasCause self.old.calls.faults self.new.calls.faults result }
 
         // Beyond the trait: which calls fail, how much the others take, and what each call leaves.
         ensures fails { IsErr result ↔ Fails self.old }
@@ -88,19 +84,15 @@ impl Sink for MemSink {
         ensures taken { IfOk result (λ n. self.new ≡ record self.old {
           written = self.old.written ++ take n bytes.now;
           room = self.old.room - n;
-          calls = risen self.old.calls;
+          calls = with_success self.old.calls;
         }) }
-        ensures refused { OnErr result (self.new ≡ record self.old {
-          calls = risen self.old.calls;
-          faults = risen self.old.faults;
-        }) }
+        ensures refused { OnErr result (self.new ≡ record self.old { calls = with_fault self.old.calls }) }
     {
-        let call = self.calls;
-        self.calls = call.saturating_add(1);
-        if self.room == 0 || self.failing.contains(&call) {
-            self.faults = self.faults.saturating_add(1);
+        if self.room == 0 || self.calls.is_next_to_fail() {
+            self.calls.count_fault();
             return Err(Failed);
         }
+        self.calls.count_success();
         let count = self.room.min(bytes.len());
         self.written.extend_from_slice(&bytes[..count]).unwrap();
         self.room -= count;

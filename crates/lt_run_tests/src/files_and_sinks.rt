@@ -1,6 +1,6 @@
 //! Answers with ample memory, which no clause can promise, and those of the real system.
 
-use lt_io::{DirFiles, Failed, FileRefusal, Files, MemFiles, MemSink, Sink, StdSink};
+use lt_io::{Calls, DirFiles, Failed, FileRefusal, Files, MemFiles, MemSink, Sink, StdSink};
 use std::alloc::Global;
 use std::process::Abort;
 use std::test::Fail;
@@ -60,9 +60,7 @@ fn files_in_memory_fail_where_told(rt: HostRuntime) -> Result<(), Fail> {
     let mut files = MemFiles {
         entries,
         asked: Vec::new(alloc),
-        calls: 0,
-        failing: [2, 9].to_vec(alloc)?,
-        faults: 0,
+        calls: Calls::new([2, 9].to_vec(alloc)?),
     };
     check_reads(
         &rt,
@@ -76,8 +74,8 @@ fn files_in_memory_fail_where_told(rt: HostRuntime) -> Result<(), Fail> {
             ("none", 0, Ok(b"".as_slice())),
         ],
     );
-    assert_eq!(rt; files.calls, 5);
-    assert_eq!(rt; files.faults, 2);
+    assert_eq!(rt; files.calls.made, 5);
+    assert_eq!(rt; files.calls.faults, 2);
     assert_eq!(rt; files.asked.len(), 5);
     for (asked, wanted) in files.asked.iter().zip(["one", "one", "one", "two", "none"]) {
         assert_eq!(rt; asked.as_str(), wanted);

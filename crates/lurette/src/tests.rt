@@ -3,7 +3,7 @@
 use crate::status::Status;
 use crate::top::{LONGEST, lurette};
 use crate::trace_text::{write_header, write_step};
-use lt_io::{MemFiles, MemSink};
+use lt_io::{Calls, MemFiles, MemSink};
 use lt_num::{Kind, Range, Value};
 use lt_term::Var;
 use std::alloc::{AllocError, Global};
@@ -64,9 +64,7 @@ fn call_of(alloc: Global, words: &[&str], outside: &Outside<'_>) -> Result<Calle
     let mut files = MemFiles {
         entries,
         asked: Vec::new(alloc),
-        calls: 0,
-        failing: Vec::from_slice(alloc, outside.failing_reads)?,
-        faults: 0,
+        calls: Calls::new(Vec::from_slice(alloc, outside.failing_reads)?),
     };
     let failing = Vec::from_slice(alloc, outside.failing_writes)?;
     let mut trace = MemSink::make(alloc, outside.room, failing)?;
