@@ -5,9 +5,11 @@ use Rattle.std.proofs.Math.Nat.{max-le}
 use Rattle.lt_num.specs.Value.{is_true}
 use Rattle.lt_num.specs.declared.value.Value.TheVariants as value
 use Rattle.lt_term.specs.Expression.{Expression, flag, output, negation, conjunction, disjunction, exclusive_disjunction, implication, exactly_one, outputs_needed, TruthNeedsNoMore}
-use Rattle.lt_term.specs.Table.{spelled, expression_at, extended, fits, are_ordered, nodes_of}
+use Rattle.lt_term.specs.Table.{spelled, expression_at, extended, fits, nodes_of}
+use Rattle.lt_term.specs.inner.Entries.{are_ordered}
 use Rattle.lt_term.specs.View.{table_len, table_outputs, table_expressions}
-use Rattle.lt_term.proofs.Tables.{HasPartsBelow, left_of, right_of, length_more, parts_below, length-entries}
+use Rattle.lt_term.proofs.Tables.{HasPartsBelow, length_more, parts_below, length-entries}
+use Rattle.lt_term.proofs.Tests.{left_of, right_of}
 use Rattle.lt_term.specs.declared.table.ExpNode.{ExpNode}
 use Rattle.lt_term.specs.declared.table.ExpNode.TheVariants.{Flag, Output, Not, And, Or, Xor, Implies}
 use Rattle.lt_term.specs.declared.table.Table.{Table}

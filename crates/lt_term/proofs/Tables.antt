@@ -1,25 +1,15 @@
 -- The expressions of a table, and their numbers.
-use Rattle.std.proofs.Common.{◌≡◌, ℕ, zero, suc, ◌+◌, ◌<◌, Bool, true, false, ◌&&◌, nat_lt, IsTrue, List, [], ◌∷◌, ◌++◌, length, map, get_or, refl, ap, sym, ◌∙◌, arith, length-append, subst}
+use Rattle.std.proofs.Common.{◌≡◌, ℕ, zero, suc, ◌+◌, ◌<◌, true, false, ◌&&◌, nat_lt, IsTrue, List, [], ◌∷◌, ◌++◌, length, map, get_or, refl, ap, sym, ◌∙◌, arith, length-append, subst}
 use Rattle.std.proofs.lemmas.List.{get_or_append_left, get_or-map, length-map, map-append}
 use Rattle.std.proofs.lemmas.Bool.{ltb-true}
 use Rattle.std.proofs.Math.Seq.{get_or-append_seam}
 use Rattle.lt_term.specs.Expression.{Expression, flag, negation, conjunction, disjunction, exclusive_disjunction, implication, outputs_needed}
-use Rattle.lt_term.specs.Table.{spelled, expression_at, extended, expressions_of, fits, are_ordered, nodes_of, needs_of}
+use Rattle.lt_term.specs.Table.{spelled, expression_at, extended, expressions_of, fits, nodes_of}
+use Rattle.lt_term.specs.inner.Entries.{are_ordered, needs_of}
 use Rattle.lt_term.specs.declared.table.Entry.{Entry}
 use Rattle.lt_term.specs.declared.table.ExpNode.{ExpNode}
 use Rattle.lt_term.specs.declared.table.ExpNode.TheVariants.{Flag, Output, Not, And, Or, Xor, Implies}
-
-pub both : (a b : Bool) → IsTrue a → IsTrue b → IsTrue (a && b)
-both true b h k = k
-both false b h k = h
-
-pub left_of : (a b : Bool) → IsTrue (a && b) → IsTrue a
-left_of true b h = refl
-left_of false b h = h
-
-pub right_of : (a b : Bool) → IsTrue (a && b) → IsTrue b
-right_of true b h = h
-right_of false b h = absurd (cc)
+use Rattle.lt_term.proofs.Tests.{both, left_of, right_of}
 
 extended-append : (es : List Expression) (ns : List ExpNode) (n : ExpNode) → extended es (ns ++ n ∷ []) ≡ extended es ns ++ expression_at (extended es ns) n ∷ []
 extended-append es [] n = refl

@@ -16,12 +16,12 @@ abbrev pub HasLive : List Domain → Tree Expression → Type 0
 HasLive domains (leaf l) = IsLive domains l
 HasLive domains (pri a b) = HasLive domains a ⊎ HasLive domains b
 
--- P holds of the position that is so many less
-abbrev pub Behind : ℕ → (ℕ → Type 0) → ℕ → Type 0
-Behind before P position = (n : ℕ) × (position ≡ before + n) × P n
+-- the position is so many further on than one of which P holds
+abbrev pub FurtherOn : ℕ → (ℕ → Type 0) → ℕ → Type 0
+FurtherOn steps P position = (n : ℕ) × (position ≡ steps + n) × P n
 
 -- There is a leaf at this position, and it may be taken: it is live, and at each choice on the way to it, it is
 -- on the left, or no leaf on the left is live.
 abbrev pub IsLegal : List Domain → Tree Expression → ℕ → Type 0
 IsLegal domains (leaf l) position = (position ≡ 0) × IsLive domains l
-IsLegal domains (pri a b) position = Behind 1 (IsLegal domains a) position ⊎ ((HasLive domains a → ⊥) × Behind (1 + size a) (IsLegal domains b) position)
+IsLegal domains (pri a b) position = FurtherOn 1 (IsLegal domains a) position ⊎ ((HasLive domains a → ⊥) × FurtherOn (1 + size a) (IsLegal domains b) position)

@@ -38,9 +38,9 @@ abbrev pub followed_by : {C : Type 0} → Process C → Process C → Process C
 followed_by eps b = b
 followed_by a b = seq a b
 
--- one instant, after which the second comes behind what is left of the first
-abbrev pub going_on : {C : Type 0} → Process C → List C → Process C → Tree C
-going_on b cs n = leaf (go cs (followed_by n b))
+-- one instant of a first term, after which the second comes: what is left of the first, and then the second
+abbrev pub instant_before : {C : Type 0} → Process C → List C → Process C → Tree C
+instant_before b cs n = leaf (go cs (followed_by n b))
 
 -- The tree of a term, a line each. A loop goes through its body once more where the body can take an instant,
 -- and else it is over. An end of the body that takes no instant is nothing to the loop: so a body that does no
@@ -48,8 +48,8 @@ going_on b cs n = leaf (go cs (followed_by n b))
 abbrev pub offers_of : {C : Type 0} → Process C → Tree C
 offers_of eps = leaf vanish
 offers_of (con c) = leaf (go (c ∷ []) eps)
-offers_of (seq a b) = with_leaves (going_on b) (offers_of b) (offers_of a)
-offers_of (loop t) = pri (with_leaves (going_on (loop t)) (leaf nothing) (offers_of t)) (leaf vanish)
+offers_of (seq a b) = with_leaves (instant_before b) (offers_of b) (offers_of a)
+offers_of (loop t) = pri (with_leaves (instant_before (loop t)) (leaf nothing) (offers_of t)) (leaf vanish)
 
 -- A tree as the list of its nodes.
 
@@ -57,7 +57,7 @@ offers_of (loop t) = pri (with_leaves (going_on (loop t)) (leaf nothing) (offers
 pub data Node (C : Type 0) : Type 0 where
   -- a leaf
   leaf_node : Leaf C → Node C
-  -- a choice between two trees, which stand behind it
+  -- a choice between two trees, whose nodes follow it
   pri_node : Node C
 
 -- the nodes of a tree in preorder: each node before those below it, and the left ones before the right ones
@@ -77,13 +77,6 @@ leaf_of pri_node = None
 -- the leaf at a position; positions count the nodes in preorder, from 0
 abbrev pub leaf_at : {C : Type 0} → Tree C → ℕ → Option (Leaf C)
 leaf_at t position = option_and_then leaf_of (slice_get (flattened t) position)
-
--- a node as a list of nodes, with f in place of go and v in place of vanish
-abbrev pub grafted : {C : Type 0} → (List C → Process C → List (Node C)) → List (Node C) → Node C → List (Node C)
-grafted f v (leaf_node vanish) = v
-grafted f v (leaf_node nothing) = leaf_node nothing ∷ []
-grafted f v (leaf_node (go cs n)) = f cs n
-grafted f v pri_node = pri_node ∷ []
 
 -- Other constraints.
 

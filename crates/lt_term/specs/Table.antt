@@ -1,5 +1,5 @@
 -- The expressions that a table spells.
-use Rattle.std.specs.Prelude.{ℕ, suc, Bool, true, false, ◌&&◌, nat_lt, List, [], ◌∷◌, ◌++◌, map, slice_index_or}
+use Rattle.std.specs.Prelude.{ℕ, Bool, true, false, ◌&&◌, nat_lt, List, [], ◌∷◌, ◌++◌, map, slice_index_or}
 use Rattle.lt_term.specs.Expression.{Expression, flag, output, negation, conjunction, disjunction, exclusive_disjunction, implication}
 use Rattle.lt_term.specs.declared.table.Entry.{Entry}
 use Rattle.lt_term.specs.declared.table.ExpNode.{ExpNode}
@@ -19,7 +19,7 @@ expression_at es (Or left right) = disjunction (spelled es left) (spelled es rig
 expression_at es (Xor left right) = exclusive_disjunction (spelled es left) (spelled es right)
 expression_at es (Implies left right) = implication (spelled es left) (spelled es right)
 
--- these expressions, and behind them those of the nodes
+-- these expressions, and after them those of the nodes
 abbrev pub extended : List Expression → List ExpNode → List Expression
 extended es [] = es
 extended es (n ∷ ns) = extended (es ++ expression_at es n ∷ []) ns
@@ -32,10 +32,6 @@ expressions_of ns = extended [] ns
 abbrev pub nodes_of : List Entry → List ExpNode
 nodes_of entries = map (λ entry. entry.node) entries
 
--- how many outputs they need
-abbrev pub needs_of : List Entry → List ℕ
-needs_of entries = map (λ entry. entry.needs) entries
-
 -- whether a node's parts are among so many, and its output too
 abbrev pub fits : ℕ → ℕ → ExpNode → Bool
 fits parts outputs (Flag b) = true
@@ -45,8 +41,3 @@ fits parts outputs (And left right) = nat_lt left parts && nat_lt right parts
 fits parts outputs (Or left right) = nat_lt left parts && nat_lt right parts
 fits parts outputs (Xor left right) = nat_lt left parts && nat_lt right parts
 fits parts outputs (Implies left right) = nat_lt left parts && nat_lt right parts
-
--- whether the parts of each node, before which there are so many, have smaller numbers
-abbrev pub are_ordered : ℕ → ℕ → List ExpNode → Bool
-are_ordered before outputs [] = true
-are_ordered before outputs (n ∷ ns) = fits before outputs n && are_ordered (suc before) outputs ns

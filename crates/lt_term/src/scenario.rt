@@ -1,6 +1,7 @@
 //! Scenarios.
 
 ghost use Rattle.std.specs.Prelude.{◌≡◌, ◌≤◌, IsTrue, length};
+ghost use Rattle.lt_num.specs.Bounds.{most_decimals};
 ghost use Rattle.lt_term.specs.Domain.{IsDomain};
 ghost use Rattle.lt_term.specs.Process.{is_within};
 ghost use Rattle.lt_term.specs.View.{process, table_len, table_outputs};
@@ -50,7 +51,7 @@ pub struct Scenario {
     /// What it does, over the expressions of the table.
     pub body: Term,
 
-    pub ghost few: { decimals ≤ 6 },
+    pub ghost few: { decimals ≤ most_decimals },
     pub ghost whole: { table_outputs table ≡ length outputs.items },
     pub ghost within: { IsTrue (is_within (table_len table) (process body)) },
 }

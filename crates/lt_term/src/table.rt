@@ -2,7 +2,8 @@
 
 ghost use Rattle.std.specs.Prelude.{◌≡◌, ℕ, ◌<◌, ◌≤◌, ◌+◌, ◌++◌, [], ◌∷◌, length, map, IsTrue, IfOk, OnOk, OnErr};
 ghost use Rattle.lt_term.specs.Expression.{truth_of, outputs_needed, TruthNeedsNoMore};
-ghost use Rattle.lt_term.specs.Table.{spelled, expression_at, expressions_of, fits, are_ordered, nodes_of, needs_of};
+ghost use Rattle.lt_term.specs.Table.{spelled, expression_at, expressions_of, fits, nodes_of};
+ghost use Rattle.lt_term.specs.inner.Entries.{are_ordered, needs_of};
 
 use crate::memory::Memory;
 use lt_num::Value;

@@ -4,7 +4,8 @@ ghost use Rattle.std.specs.Prelude.{◌≡◌, ℕ, ◌<◌, ◌++◌, [], ◌�
 ghost use Rattle.std.specs.List.{list_all, flat_map};
 ghost use Rattle.lt_term.specs.Expression.{Expression};
 ghost use Rattle.lt_term.specs.Process.{with_constraints, is_within};
-ghost use Rattle.lt_term.specs.Offers.{node_with_constraints, node_is_within, followed_by, going_on, offers_of, flattened, grafted, leaf_node, vanish, nothing};
+ghost use Rattle.lt_term.specs.Offers.{node_with_constraints, node_is_within, followed_by, instant_before, offers_of, flattened, leaf_node, vanish, nothing};
+ghost use Rattle.lt_term.specs.inner.Grafts.{grafted};
 ghost use Rattle.lt_term.specs.declared.term.Term.{size-Term};
 ghost use Rattle.lt_term.specs.View.{process, tree_node, tree_nodes};
 
@@ -24,8 +25,8 @@ pub enum TreeNode {
     /// A leaf: one instant in which these expressions hold, and what comes after it.
     Go { constraints: Vec<u32>, next: Term },
 
-    /// The left one of two trees, or the right one where nothing can be done in the left one. The left
-    /// one stands behind this node, and the right one behind that.
+    /// The left one of two trees, or the right one where nothing can be done in the left one. The nodes
+    /// of the left one follow this node, and then come those of the right one.
     Pri,
 }
 
@@ -91,9 +92,13 @@ fn emit_first<'a>(
         Term::Seq(first, second) => {
             let mut nodes = Vec::new(alloc);
             emit(alloc, &mut nodes, first)?;
-            let goes_on = take_last_vanish(&mut nodes);
+            let vanishes_last = take_last_vanish(&mut nodes);
             put_sequence(alloc, out, nodes, second)?;
-            if goes_on { Ok(Some(second)) } else { Ok(None) }
+            if vanishes_last {
+                Ok(Some(second))
+            } else {
+                Ok(None)
+            }
         }
         Term::Loop(body) => {
             let mut nodes = Vec::new(alloc);
@@ -107,7 +112,7 @@ fn emit_first<'a>(
 }
 
 // The nodes of a first part for a sequence: those of the second part where the first is over, and else
-// the second behind what is left of the first.
+// the second after what is left of the first.
 #[cycle(emit)]
 fn put_sequence(
     alloc: Global,
@@ -115,7 +120,7 @@ fn put_sequence(
     nodes: Vec<TreeNode>,
     second: &Term,
 ) -> Result<(), AllocError>
-    ensures { OnOk result (tree_nodes out.new.items ≡ tree_nodes out.old.items ++ flat_map (grafted (λ cs n. flattened (going_on (process second.now) cs n)) (flattened (offers_of (process second.now)))) (tree_nodes nodes.items)) }
+    ensures { OnOk result (tree_nodes out.new.items ≡ tree_nodes out.old.items ++ flat_map (grafted (λ cs n. flattened (instant_before (process second.now) cs n)) (flattened (offers_of (process second.now)))) (tree_nodes nodes.items)) }
 {
     for node in nodes {
         match node {
@@ -141,14 +146,14 @@ fn take_last_vanish(nodes: &mut Vec<TreeNode>) -> bool
 }
 
 // The nodes of a loop's body for one iteration: nothing where the body is over without an instant, and
-// the loop once more behind what is left of the body.
+// the loop once more after what is left of the body.
 fn put_iteration(
     alloc: Global,
     out: &mut Vec<TreeNode>,
     nodes: Vec<TreeNode>,
     whole: &Term,
 ) -> Result<(), AllocError>
-    ensures { OnOk result (tree_nodes out.new.items ≡ tree_nodes out.old.items ++ flat_map (grafted (λ cs n. flattened (going_on (process whole.now) cs n)) (leaf_node nothing ∷ [])) (tree_nodes nodes.items)) }
+    ensures { OnOk result (tree_nodes out.new.items ≡ tree_nodes out.old.items ++ flat_map (grafted (λ cs n. flattened (instant_before (process whole.now) cs n)) (leaf_node nothing ∷ [])) (tree_nodes nodes.items)) }
 {
     for node in nodes {
         match node {
@@ -162,7 +167,7 @@ fn put_iteration(
     Ok(())
 }
 
-// One instant, after which a second term comes behind what is left of the first one.
+// One instant, after which a second term comes: what is left of the first one, and then the second.
 fn put_instant(
     alloc: Global,
     out: &mut Vec<TreeNode>,
@@ -170,7 +175,7 @@ fn put_instant(
     first: Term,
     second: &Term,
 ) -> Result<(), AllocError>
-    ensures { OnOk result (tree_nodes out.new.items ≡ tree_nodes out.old.items ++ flattened (going_on (process second.now) constraints.items (process first))) }
+    ensures { OnOk result (tree_nodes out.new.items ≡ tree_nodes out.old.items ++ flattened (instant_before (process second.now) constraints.items (process first))) }
 {
     let next = sequence(alloc, first, second)?;
     put(out, TreeNode::Go { constraints, next })

@@ -6,9 +6,9 @@ use Rattle.lt_term.specs.Process.{Process, seq}
 use Rattle.lt_term.specs.View.{process}
 use Rattle.lt_term.proofs.term.+copy.Given as goal
 
--- some terms in sequence, and then what comes behind them
+-- some terms in sequence, and then a last one
 abbrev pub in_sequence : List (Box Term Global) → Process ℕ → Process ℕ
-in_sequence firsts behind = fold (λ p first. seq (process first.value) p) behind (reverse firsts)
+in_sequence firsts last = fold (λ p first. seq (process first.value) p) last (reverse firsts)
 
 -- the copies and what is left are the whole, and what is left is no deeper than it
 abbrev pub invariant-copy-loop-rest : goal.invariant-copy-loop-rest

@@ -1,7 +1,8 @@
 use Rattle.std.proofs.Common.{◌≡◌, ◌≤◌, ◌++◌}
 use Rattle.std.specs.List.{flat_map}
 use Rattle.lt_term.specs.declared.term.Term.{size-Term}
-use Rattle.lt_term.specs.Offers.{going_on, offers_of, flattened, grafted}
+use Rattle.lt_term.specs.Offers.{instant_before, offers_of, flattened}
+use Rattle.lt_term.specs.inner.Grafts.{grafted}
 use Rattle.lt_term.specs.View.{process, tree_nodes}
 use Rattle.lt_term.proofs.tree.+emit.Given as goal
 
@@ -18,4 +19,4 @@ abbrev pub invariant-put_sequence-loop-node : goal.invariant-put_sequence-loop-n
 invariant-put_sequence-loop-node l =
     tree_nodes l.out.items
     ≡ tree_nodes l.fn.out.items
-    ++ flat_map (grafted (λ cs n. flattened (going_on (process l.second) cs n)) (flattened (offers_of (process l.second)))) (tree_nodes l.yielded)
+    ++ flat_map (grafted (λ cs n. flattened (instant_before (process l.second) cs n)) (flattened (offers_of (process l.second)))) (tree_nodes l.yielded)
