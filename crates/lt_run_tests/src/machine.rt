@@ -3,7 +3,7 @@
 ghost use Rattle.std.specs.Prelude.{◌≡◌, ◌≤◌, ◌+◌, IfOk, IsTrue, length};
 ghost use Rattle.lt_term.specs.Process.{seq, loop, is_within};
 ghost use Rattle.lt_term.specs.View.{process, table_len, table_outputs};
-ghost use Rattle.lt_step.specs.Machine.{IfGoing};
+ghost use Rattle.lt_step.specs.Machine.{IfRunning};
 ghost use Rattle.lt_step.specs.View.{machine_state};
 
 use lt_num::{Kind, Range, Value};
@@ -69,7 +69,7 @@ fn small_int(alloc: Global, name: &str) -> Result<Var, Fail> {
 fn machine(alloc: Global, body: Term) -> Result<Machine, Fail>
     requires { IsTrue (is_within 8 (process body)) }
     ensures inputs { IfOk result (λ m. length (machine_state m).scene.inputs ≡ 0) }
-    ensures number { IfOk result (λ m. IfGoing (machine_state m).phase (λ c. c.step ≡ 1)) }
+    ensures number { IfOk result (λ m. IfRunning (machine_state m).phase (λ c. c.step ≡ 1)) }
 {
     let first = flag(alloc, "a")?;
     let second = flag(alloc, "b")?;
@@ -80,7 +80,7 @@ fn machine(alloc: Global, body: Term) -> Result<Machine, Fail>
 fn machine_of(alloc: Global, first: Var, second: Var, body: Term) -> Result<Machine, Fail>
     requires { IsTrue (is_within 8 (process body)) }
     ensures inputs { IfOk result (λ m. length (machine_state m).scene.inputs ≡ 0) }
-    ensures number { IfOk result (λ m. IfGoing (machine_state m).phase (λ c. c.step ≡ 1)) }
+    ensures number { IfOk result (λ m. IfRunning (machine_state m).phase (λ c. c.step ≡ 1)) }
 {
     let table = expressions(alloc)?;
     let mut outputs = Vec::new(alloc);
@@ -113,10 +113,10 @@ fn repeated(alloc: Global, body: Term) -> Result<Term, AllocError>
 // Makes the instant of this number.
 fn step(alloc: Global, machine: &mut Machine, number: u64) -> Outcome
     requires inputs { length (machine_state machine.old).scene.inputs ≡ 0 }
-    requires number { IfGoing (machine_state machine.old).phase (λ c. c.step ≡ number) }
+    requires number { IfRunning (machine_state machine.old).phase (λ c. c.step ≡ number) }
     requires few { number ≤ 1000 }
     ensures inputs { length (machine_state machine.new).scene.inputs ≡ 0 }
-    ensures number { IfGoing (machine_state machine.new).phase (λ c. c.step ≡ number + 1) }
+    ensures number { IfRunning (machine_state machine.new).phase (λ c. c.step ≡ number + 1) }
 {
     machine.step(alloc, &[])
 }
@@ -132,6 +132,8 @@ fn makes_an_instant(rt: HostRuntime) -> Result<(), Fail> {
     assert_eq!(rt; step(alloc, &mut machine, 1), Outcome::Values);
     assert_eq!(rt; machine.outputs(), [FALSE, TRUE].as_slice());
     assert_eq!(rt; step(alloc, &mut machine, 2), Outcome::Normal);
+    assert_eq!(rt; step(alloc, &mut machine, 3), Outcome::Ended);
+    assert_eq!(rt; machine.outputs().len(), 0);
     Ok(())
 }
 
@@ -175,6 +177,7 @@ fn finds_a_deadlock(rt: HostRuntime) -> Result<(), Fail> {
     let alloc = rt.alloc();
     let mut machine = machine(alloc, Term::Con(NEVER))?;
     assert_eq!(rt; step(alloc, &mut machine, 1), Outcome::Deadlock);
+    assert_eq!(rt; step(alloc, &mut machine, 2), Outcome::Ended);
     Ok(())
 }
 

@@ -1,13 +1,14 @@
 -- What is drawn of a tree.
 use Rattle.std.proofs.Common.{◌↔◌, ◌≡◌, ◌+◌, ℕ, zero, suc, arith, Bool, true, false, List, [], ◌∷◌, ◌++◌, map, length, slice_get, Some, None, Ok, Err, IfOk, subst, refl, ap, sym, ◌∙◌, inl, inr, is_some, IsSome, MatchOption, option_and_then, if◌then◌else◌}
+use Rattle.std.specs.Option.{option_or}
 use Rattle.std.specs.declared.option.Option.{Option}
 use Rattle.std.specs.declared.result.Result.{Result}
 use Rattle.lt_num.specs.declared.value.Value.{Value}
 use Rattle.lt_term.specs.Domain.{Domain}
 use Rattle.lt_term.specs.Expression.{Expression}
 use Rattle.lt_term.specs.Process.{Process}
-use Rattle.lt_term.specs.Solution.{first_solution, or_else, IsSatisfiable, IsSolution, IsFirstFrom}
-use Rattle.lt_term.proofs.Solutions.{first_solution_is_first}
+use Rattle.lt_term.specs.Solution.{first_solution, IsFirstSolution}
+use Rattle.lt_term.proofs.Public.{first_solution_is_first}
 use Rattle.lt_term.specs.Offers.{Leaf, vanish, nothing, go, Tree, leaf, pri, Node, leaf_node, pri_node, flattened, size, leaf_of, leaf_at, offers_of}
 use Rattle.lt_term.specs.Live.{IsLive, HasLive, IsLegal}
 use Rattle.lt_term.specs.Scene.{Scene, Configuration, domain_of, output_domains}
@@ -15,10 +16,10 @@ use Rattle.lt_term.specs.SceneView.{variable}
 use Rattle.lt_term.specs.declared.memory.Memory.{Memory}
 use Rattle.lt_term.specs.declared.table.Table.{Table}
 use Rattle.lt_term.specs.declared.scenario.Var.{Var}
-use Rattle.lt_step.specs.Drawn.{is_live, moved, drawn_position, drawn_leaf, DrawIsLegal}
-use Rattle.lt_step.specs.Instant.{deadlock, gone_on, taken, DeadlockMeansNoneLive}
-use Rattle.lt_step.specs.LeafView.{first_live, Solves, Takes}
-use Rattle.lt_step.specs.Search.{domain, domains_of, Finds}
+use Rattle.lt_step.specs.Drawn.{is_live, further_on, drawn_position, drawn_leaf, DrawIsLegal}
+use Rattle.lt_step.specs.Instant.{deadlock, go_instant, leaf_instant, DeadlockMeansNoneLive}
+use Rattle.lt_step.specs.inner.LeafView.{first_live, Solves, Takes}
+use Rattle.lt_step.specs.inner.Search.{domain, domains_of, Finds}
 use Rattle.lt_step.specs.declared.drawing.Taken.{Taken}
 
 -- what is known of a leaf by its test
@@ -26,7 +27,7 @@ abbrev Tested : List Domain → Leaf Expression → Bool → Type 0
 Tested domains l true = IsLive domains l
 Tested domains l false = IsLive domains l → ⊥
 
-tested_go : (domains : List Domain) (es : List Expression) (n : Process Expression) (o : Option (List Value)) → MatchOption o (IsSatisfiable es domains → ⊥) (λ vs. IsSolution es [] domains vs × IsFirstFrom es [] domains vs) → Tested domains (go es n) (is_some o)
+tested_go : (domains : List Domain) (es : List Expression) (n : Process Expression) (o : Option (List Value)) → IsFirstSolution es [] domains o → Tested domains (go es n) (is_some o)
 tested_go domains es n None h = h
 tested_go domains es n (Some vs) h = (vs, h.0)
 
@@ -34,14 +35,14 @@ tested_go domains es n (Some vs) h = (vs, h.0)
 tested : (domains : List Domain) (l : Leaf Expression) → Tested domains l (is_live domains l)
 tested domains vanish = tt
 tested domains nothing = λ h. h
-tested domains (go es n) = tested_go domains es n (first_solution es domains) (first_solution_is_first es domains)
+tested domains (go es n) = tested_go domains es n (first_solution es domains) (first_solution_is_first es [] domains)
 
-one_more : (b : Bool) (l : Leaf Expression) (all first second : Option (Leaf Expression)) → all ≡ or_else first second → (if b then Some l else all) ≡ or_else (if b then Some l else first) second
+one_more : (b : Bool) (l : Leaf Expression) (all first second : Option (Leaf Expression)) → all ≡ option_or first second → (if b then Some l else all) ≡ option_or (if b then Some l else first) second
 one_more true l all first second e = refl
 one_more false l all first second e = e
 
 -- the first live leaf of two lists of nodes
-first_live-append : (domains : List Domain) (ms ns : List (Node Expression)) → first_live domains (ms ++ ns) ≡ or_else (first_live domains ms) (first_live domains ns)
+first_live-append : (domains : List Domain) (ms ns : List (Node Expression)) → first_live domains (ms ++ ns) ≡ option_or (first_live domains ms) (first_live domains ns)
 first_live-append domains [] ns = refl
 first_live-append domains (pri_node ∷ ms) ns = first_live-append domains ms ns
 first_live-append domains (leaf_node l ∷ ms) ns = one_more (is_live domains l) l _ _ _ (first_live-append domains ms ns)
@@ -67,18 +68,18 @@ get-right [] ns p q e = ap (slice_get ns) (e ∙ omega arith)
 get-right (m ∷ ms) ns p zero e = absurd (omega arith)
 get-right (m ∷ ms) ns p (suc q) e = get-right ms ns p q (omega arith)
 
--- the node behind the first one and so many more
+-- the node after the first one and so many more
 get-next : (ns : List (Node Expression)) (p q : ℕ) → q ≡ 1 + p → slice_get (pri_node ∷ ns) q ≡ slice_get ns p
 get-next ns p q e = get-right (pri_node ∷ []) ns p q e
 
-tells_pri : (domains : List Domain) (a b : Tree Expression) (x y : Option ℕ) → Tells domains a x → Tells domains b y → Tells domains (pri a b) (or_else (moved 1 x) (moved (1 + size a) y))
+tells_pri : (domains : List Domain) (a b : Tree Expression) (x y : Option ℕ) → Tells domains a x → Tells domains b y → Tells domains (pri a b) (option_or (further_on 1 x) (further_on (1 + size a) y))
 tells_pri domains a b (Some p) y h k = (
   inl (p, refl, h.0),
   inl h.1,
   (
     h.2.0,
     get-next (flattened a ++ flattened b) p (1 + p) refl ∙ get-left (flattened a) (flattened b) p (leaf_node h.2.0) h.2.1,
-    first_live-append domains (flattened a) (flattened b) ∙ ap (λ o. or_else o (first_live domains (flattened b))) h.2.2,
+    first_live-append domains (flattened a) (flattened b) ∙ ap (λ o. option_or o (first_live domains (flattened b))) h.2.2,
     h.2.3,
   ),
 )
@@ -88,13 +89,13 @@ tells_pri domains a b None (Some p) h k = (
   (
     k.2.0,
     get-next (flattened a ++ flattened b) (size a + p) (1 + size a + p) (omega arith) ∙ get-right (flattened a) (flattened b) p (size a + p) refl ∙ k.2.1,
-    first_live-append domains (flattened a) (flattened b) ∙ ap (λ o. or_else o (first_live domains (flattened b))) h.1 ∙ k.2.2,
+    first_live-append domains (flattened a) (flattened b) ∙ ap (λ o. option_or o (first_live domains (flattened b))) h.1 ∙ k.2.2,
     k.2.3,
   ),
 )
 tells_pri domains a b None None h k = (
   λ live. elim live [ inl l ↦ h.0 l | inr r ↦ k.0 r ],
-  first_live-append domains (flattened a) (flattened b) ∙ ap (λ o. or_else o (first_live domains (flattened b))) h.1 ∙ k.1,
+  first_live-append domains (flattened a) (flattened b) ∙ ap (λ o. option_or o (first_live domains (flattened b))) h.1 ∙ k.1,
 )
 
 tells : (domains : List Domain) (t : Tree Expression) → Tells domains t (drawn_position domains t)
@@ -121,19 +122,19 @@ pub drawn_leaf-first : (domains : List Domain) (t : Tree Expression) → drawn_l
 drawn_leaf-first domains t = drawn_first domains t (drawn_position domains t) (tells domains t)
 
 -- an instant that takes a live leaf is no deadlock
-goes_on : (c : Configuration) (n : Process Expression) (o : Option (List Value)) → is_some o ≡ true → gone_on c n o ≡ deadlock → ⊥
-goes_on c n None h e = absurd (cc)
-goes_on c n (Some vs) h e = absurd (cc)
+go_lives : (c : Configuration) (n : Process Expression) (o : Option (List Value)) → is_some o ≡ true → go_instant c n o ≡ deadlock → ⊥
+go_lives c n None h e = absurd (cc)
+go_lives c n (Some vs) h e = absurd (cc)
 
-lives : (s : Scene) (c : Configuration) (l : Leaf Expression) → is_live (output_domains s) l ≡ true → taken s c (Some l) ≡ deadlock → ⊥
+lives : (s : Scene) (c : Configuration) (l : Leaf Expression) → is_live (output_domains s) l ≡ true → leaf_instant s c (Some l) ≡ deadlock → ⊥
 lives s c vanish h e = absurd (cc)
 lives s c nothing h e = absurd (cc)
-lives s c (go es n) h e = goes_on c n (first_solution es (output_domains s)) h e
+lives s c (go es n) h e = go_lives c n (first_solution es (output_domains s)) h e
 
-tree_deadlock : (s : Scene) (c : Configuration) (t : Tree Expression) (o : Option ℕ) → Tells (output_domains s) t o → (taken s c (leaf_there t o) ≡ deadlock) ↔ (HasLive (output_domains s) t → ⊥)
+tree_deadlock : (s : Scene) (c : Configuration) (t : Tree Expression) (o : Option ℕ) → Tells (output_domains s) t o → (leaf_instant s c (leaf_there t o) ≡ deadlock) ↔ (HasLive (output_domains s) t → ⊥)
 tree_deadlock s c t None h = (λ _. h.0, λ _. refl)
 tree_deadlock s c t (Some p) h =
-    (λ is. absurd (lives s c h.2.0 h.2.3 (ap (λ n. taken s c (option_and_then leaf_of n)) (sym h.2.1) ∙ is)), λ none. absurd (none h.1))
+    (λ is. absurd (lives s c h.2.0 h.2.3 (ap (λ n. leaf_instant s c (option_and_then leaf_of n)) (sym h.2.1) ∙ is)), λ none. absurd (none h.1))
 
 pub deadlock_means_none_live : DeadlockMeansNoneLive
 deadlock_means_none_live s c = tree_deadlock s c (offers_of c.process) (drawn_position (output_domains s) (offers_of c.process)) (tells (output_domains s) (offers_of c.process))

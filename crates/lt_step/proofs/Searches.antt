@@ -2,6 +2,7 @@
 use Rattle.std.proofs.Common.{◌≡◌, ℕ, ◌+◌, add-zero, append-nil, map, ◌<◌, ◌≤◌, Bool, true, false, IsTrue, nat_eq, nat_lt, if◌then◌else◌, List, [], ◌∷◌, ◌++◌, length, Some, None, refl, ap, sym, ◌∙◌, arith, length-append}
 use Rattle.std.specs.Prelude.{ℤ, pos, ◌+ℤ◌, ◌≤ℤ◌, ◌<ℤ◌}
 use Rattle.std.proofs.lemmas.Bool.{eqb-true, eqb-false, ltb-true}
+use Rattle.std.specs.Option.{option_or}
 use Rattle.std.specs.declared.option.Option.{Option}
 use Rattle.std.specs.List.{list_all}
 use Rattle.lt_num.proofs.Public.{raws_of-more, raws_of-none}
@@ -9,16 +10,14 @@ use Rattle.lt_num.specs.Value.{value_of}
 use Rattle.lt_num.specs.declared.kind.Kind.{Kind}
 use Rattle.lt_num.specs.declared.value.Value.{Value}
 use Rattle.lt_term.specs.Domain.{Domain}
-use Rattle.lt_term.proofs.Needs.{truth_needs_no_more, needs_within}
-use Rattle.lt_term.proofs.Solutions.{Tells, tells}
-use Rattle.lt_term.proofs.Tables.{both, left_of, right_of}
+use Rattle.lt_term.proofs.Public.{both, left_of, right_of, first_solution_is_first, truth_needs_no_more, needs_within}
 use Rattle.lt_term.specs.Expression.{Expression, truth_of, outputs_needed, all_hold}
-use Rattle.lt_term.specs.Solution.{or_else, first_some, with_first, first_solution_from}
+use Rattle.lt_term.specs.Solution.{first_some, with_first, first_solution_from, IsFirstSolution}
 use Rattle.lt_term.specs.Table.{spelled}
 use Rattle.lt_term.specs.View.{table_len, table_outputs, table_expressions}
 use Rattle.lt_term.specs.declared.scenario.Var.{Var}
 use Rattle.lt_term.specs.declared.table.Table.{Table}
-use Rattle.lt_step.specs.Search.{domains_of, Finds, FindsBehind, expressions_at, EarlierHold, holds_newly, all_hold_newly}
+use Rattle.lt_step.specs.inner.Search.{domains_of, Finds, FindsWith, expressions_at, EarlierHold, holds_newly, all_hold_newly}
 
 -- before the first output nothing was judged
 pub earlier_none : (es : List Expression) → EarlierHold es []
@@ -53,13 +52,13 @@ newly_before [] outputs more h = refl
 newly_before (e ∷ es) outputs more h =
     both _ _ (newly_by e outputs more (nat_eq (outputs_needed e) (length outputs)) refl (left_of _ _ h)) (newly_before es outputs more (right_of (truth_of (outputs ++ more) e) _ h))
 
-none_by : (es : List Expression) (outputs : List Value) (domains : List Domain) (o : Option (List Value)) → Tells es outputs domains o → all_hold_newly es outputs ≡ false → o ≡ None
+none_by : (es : List Expression) (outputs : List Value) (domains : List Domain) (o : Option (List Value)) → IsFirstSolution es outputs domains o → all_hold_newly es outputs ≡ false → o ≡ None
 none_by es outputs domains None h n = refl
 none_by es outputs domains (Some vs) h n = let all = newly_before es outputs vs h.0.holds in absurd (cc)
 
 -- where one is broken, no further outputs make all of them hold
 pub broken : (es : List Expression) (outputs : List Value) (domains : List Domain) → all_hold_newly es outputs ≡ false → first_solution_from es outputs domains ≡ None
-broken es outputs domains n = none_by es outputs domains (first_solution_from es outputs domains) (tells es outputs domains) n
+broken es outputs domains n = none_by es outputs domains (first_solution_from es outputs domains) (first_solution_is_first es outputs domains) n
 
 -- with all outputs, all of them were judged
 all_judged : (table : Table) (numbers : List ℕ) (outputs : List Value) → IsTrue (list_all (λ c. nat_lt c (table_len table)) numbers) → length outputs ≡ table_outputs table
@@ -86,23 +85,23 @@ first_among es fixed ds kind raws = first_some (λ v. with_first v (first_soluti
 
 -- those from one that isn't over the greatest: that one, or else those from the next one on
 from_next : (es : List Expression) (fixed : List Value) (ds : List Domain) (v : Var) (low high : ℤ) (o : Option (List Value)) → low ≤ℤ high → first_solution_from es (fixed ++ value_of v.kind low ∷ []) ds ≡ o
-    → first_solution_from es fixed (domain_from v low high ∷ ds) ≡ or_else (with_first (value_of v.kind low) o) (first_solution_from es fixed (domain_from v (low +ℤ pos 1) high ∷ ds))
+    → first_solution_from es fixed (domain_from v low high ∷ ds) ≡ option_or (with_first (value_of v.kind low) o) (first_solution_from es fixed (domain_from v (low +ℤ pos 1) high ∷ ds))
 from_next es fixed ds v low high o h is =
     ap (first_among es fixed ds v.kind) (raws_of-more low high h)
-    ∙ ap (λ o. or_else (with_first (value_of v.kind low) o) (first_solution_from es fixed (domain_from v (low +ℤ pos 1) high ∷ ds))) is
+    ∙ ap (λ o. option_or (with_first (value_of v.kind low) o) (first_solution_from es fixed (domain_from v (low +ℤ pos 1) high ∷ ds))) is
 
--- there are none behind the greatest
-pub none_behind : (es : List Expression) (fixed : List Value) (ds : List Domain) (v : Var) (low high : ℤ) → high <ℤ low → first_solution_from es fixed (domain_from v low high ∷ ds) ≡ None
-none_behind es fixed ds v low high h = ap (first_among es fixed ds v.kind) (raws_of-none low high h)
+-- there are none above the greatest
+pub none_above : (es : List Expression) (fixed : List Value) (ds : List Domain) (v : Var) (low high : ℤ) → high <ℤ low → first_solution_from es fixed (domain_from v low high ∷ ds) ≡ None
+none_above es fixed ds v low high h = ap (first_among es fixed ds v.kind) (raws_of-none low high h)
 
--- where a value behind these was tried: the first solution that begins with it, if any
+-- where a value after these was tried: the first solution that begins with it, if any
 tried : (es : List Expression) (old now : List Value) (ds : List Domain) (u v : Value) (o : Option (List Value)) → u ≡ v → now ≡ old → first_solution_from es (now ++ u ∷ []) ds ≡ o → first_solution_from es (old ++ v ∷ []) ds ≡ o
 tried es old now ds u v o value same is =
     ap (λ vs. first_solution_from es (vs ++ v ∷ []) ds) (sym same) ∙ ap (λ w. first_solution_from es (now ++ w ∷ []) ds) (sym value) ∙ is
 
 -- the value that was tried leads to the first solution
 pub found_at : (es : List Expression) (old now new : List Value) (ds : List Domain) (v : Var) (low high : ℤ) (u : Value) (b : Bool) (whole : Option (List Value)) → low ≤ℤ high → u ≡ value_of v.kind low → b ≡ true
-    → whole ≡ first_solution_from es old (domain_from v low high ∷ ds) → now ≡ old → FindsBehind u es ds now new b
+    → whole ≡ first_solution_from es old (domain_from v low high ∷ ds) → now ≡ old → FindsWith u es ds now new b
     → (further : List Value) × (whole ≡ Some further) × (new ≡ old ++ further)
 found_at es old now new ds v low high u true whole h value is left same f = (
   value_of v.kind low ∷ f.0,
@@ -113,7 +112,7 @@ found_at es old now new ds v low high u false whole h value is left same f = abs
 
 -- it leads to none, and is left to the next ones
 pub missed_at : (es : List Expression) (old now new : List Value) (ds : List Domain) (v : Var) (low high : ℤ) (u : Value) (b : Bool) (whole : Option (List Value)) → low ≤ℤ high → u ≡ value_of v.kind low → b ≡ false
-    → whole ≡ first_solution_from es old (domain_from v low high ∷ ds) → now ≡ old → FindsBehind u es ds now new b
+    → whole ≡ first_solution_from es old (domain_from v low high ∷ ds) → now ≡ old → FindsWith u es ds now new b
     → (whole ≡ first_solution_from es old (domain_from v (low +ℤ pos 1) high ∷ ds)) × (new ≡ old)
 missed_at es old now new ds v low high u false whole h value is left same f =
     (left ∙ from_next es old ds v low high None h (tried es old now ds u (value_of v.kind low) None value same f.0), f.1 ∙ same)

@@ -1,9 +1,10 @@
 -- Which leaf of a tree an instant takes.
 use Rattle.std.specs.Prelude.{ℕ, ◌+◌, Bool, true, false, List, None, Some, if◌then◌else◌, is_some, IsSome, MatchOption, option_map, option_and_then}
+use Rattle.std.specs.Option.{option_or}
 use Rattle.std.specs.declared.option.Option.{Option}
 use Rattle.lt_term.specs.Domain.{Domain}
 use Rattle.lt_term.specs.Expression.{Expression}
-use Rattle.lt_term.specs.Solution.{first_solution, or_else}
+use Rattle.lt_term.specs.Solution.{first_solution}
 use Rattle.lt_term.specs.Offers.{Leaf, vanish, nothing, go, Tree, leaf, pri, size, leaf_at}
 use Rattle.lt_term.specs.Live.{HasLive, IsLegal}
 
@@ -14,14 +15,14 @@ is_live domains nothing = false
 is_live domains (go es n) = is_some (first_solution es domains)
 
 -- a position that is so many further on
-abbrev pub moved : ℕ → Option ℕ → Option ℕ
-moved before position = option_map (λ n. before + n) position
+abbrev pub further_on : ℕ → Option ℕ → Option ℕ
+further_on steps position = option_map (λ n. steps + n) position
 
 -- The position of the leaf that is drawn, where there is one: at a choice the one of the left tree, and where
 -- that has none, the one of the right tree.
 abbrev pub drawn_position : List Domain → Tree Expression → Option ℕ
 drawn_position domains (leaf l) = if is_live domains l then Some 0 else None
-drawn_position domains (pri a b) = or_else (moved 1 (drawn_position domains a)) (moved (1 + size a) (drawn_position domains b))
+drawn_position domains (pri a b) = option_or (further_on 1 (drawn_position domains a)) (further_on (1 + size a) (drawn_position domains b))
 
 -- the leaf that is drawn, where there is one
 abbrev pub drawn_leaf : List Domain → Tree Expression → Option (Leaf Expression)

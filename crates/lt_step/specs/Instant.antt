@@ -12,7 +12,7 @@ use Rattle.lt_step.specs.Drawn.{drawn_leaf}
 
 -- what an instant is
 pub data Instant : Type 0 where
-  -- the outputs have these values, and the run goes on from there
+  -- the outputs have these values, and the run stands there afterwards
   values : List Value → Configuration → Instant
   -- the scenario is over
   normal : Instant
@@ -23,21 +23,21 @@ pub data Instant : Type 0 where
 abbrev pub next_configuration : Configuration → Process Expression → List Value → Configuration
 next_configuration c n vs = record { process = n; step = c.step + 1; outputs = vs }
 
--- an instant that goes on with a term, once its outputs are found
-abbrev pub gone_on : Configuration → Process Expression → Option (List Value) → Instant
-gone_on c n None = deadlock
-gone_on c n (Some vs) = values vs (next_configuration c n vs)
+-- an instant of a leaf that leaves this term to be done: its outputs are these, where there are some
+abbrev pub go_instant : Configuration → Process Expression → Option (List Value) → Instant
+go_instant c n None = deadlock
+go_instant c n (Some vs) = values vs (next_configuration c n vs)
 
 -- the instant that takes this leaf, if any
-abbrev pub taken : Scene → Configuration → Option (Leaf Expression) → Instant
-taken s c None = deadlock
-taken s c (Some vanish) = normal
-taken s c (Some nothing) = deadlock
-taken s c (Some (go es n)) = gone_on c n (first_solution es (output_domains s))
+abbrev pub leaf_instant : Scene → Configuration → Option (Leaf Expression) → Instant
+leaf_instant s c None = deadlock
+leaf_instant s c (Some vanish) = normal
+leaf_instant s c (Some nothing) = deadlock
+leaf_instant s c (Some (go es n)) = go_instant c n (first_solution es (output_domains s))
 
 -- the instant of a configuration
 abbrev pub instant_of : Scene → Configuration → Instant
-instant_of s c = taken s c (drawn_leaf (output_domains s) (offers_of c.process))
+instant_of s c = leaf_instant s c (drawn_leaf (output_domains s) (offers_of c.process))
 
 -- An instant is a deadlock exactly where no leaf of what the term offers is live.
 abbrev pub DeadlockMeansNoneLive : Type 0

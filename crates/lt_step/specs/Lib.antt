@@ -1,6 +1,10 @@
+-- which leaf of a tree an instant takes
 pub mod Drawn
+-- the rules of one instant
 pub mod Instant
+-- a machine of instants: what a step answers, and what it leaves
 pub mod Machine
-pub mod Search
-pub mod LeafView
+-- the state that a machine of the code stands for
 pub mod View
+-- words of the private functions alone
+pub mod inner

@@ -10,8 +10,8 @@ ghost use Rattle.lt_term.specs.View.{process, process_over, table_len, tree_node
 ghost use Rattle.lt_term.specs.SceneView.{scene};
 ghost use Rattle.lt_step.specs.Drawn.{drawn_leaf, DrawIsLegal};
 ghost use Rattle.lt_step.specs.Instant.{DeadlockMeansNoneLive};
-ghost use Rattle.lt_step.specs.LeafView.{nodes_over, first_live, Solves, Takes, taken_is_within};
-ghost use Rattle.lt_step.specs.Search.{expressions_at};
+ghost use Rattle.lt_step.specs.inner.LeafView.{nodes_over, first_live, Solves, Takes, taken_is_within};
+ghost use Rattle.lt_step.specs.inner.Search.{expressions_at};
 
 use crate::search::extend;
 use lt_num::Value;
@@ -27,11 +27,11 @@ pub enum Taken {
     /// A leaf at which the term is over.
     Vanish,
 
-    /// A leaf that goes on with this term.
+    /// A leaf that is an instant, after which this term is left to be done.
     Go(Term),
 }
 
-/// The leaf that is drawn of what a term offers. Where it goes on, the outputs are the first solution
+/// The leaf that is drawn of what a term offers. Where it is an instant, the outputs are the first solution
 /// of its constraints.
 pub fn drawn(
     alloc: Global,

@@ -2,7 +2,7 @@
 //!
 //! A [`Machine`] makes one instant of a scenario after another: it takes the tree of the term that it
 //! holds, draws a live leaf of it, gives the outputs the first solution of the leaf's constraints, and
-//! goes on with the term behind that leaf. `specs/Instant.antt` has the rules of one instant, and
+//! goes on with what that leaf leaves to be done. `specs/Instant.antt` has the rules of one instant, and
 //! `specs/Machine.antt` what a step answers.
 #![tactic(auto)]
 

@@ -1,9 +1,10 @@
 //! The machine.
 
 ghost use Rattle.std.specs.Prelude.{◌≡◌, ◌≢◌, ◌≤◌, ℕ, IsTrue, IfOk, length, map, string_bytes};
+ghost use Rattle.lt_num.specs.Bounds.{most_decimals};
 ghost use Rattle.lt_term.specs.Process.{is_within};
 ghost use Rattle.lt_term.specs.View.{process, table_len};
-ghost use Rattle.lt_step.specs.Machine.{going, over, started, step_of, outputs_in, IfGoing, IsGoing};
+ghost use Rattle.lt_step.specs.Machine.{finished, most_steps, started, step_of, outputs_in, IfRunning, IsRunning};
 
 use crate::drawing::{Taken, drawn};
 use lt_num::Value;
@@ -36,7 +37,7 @@ pub struct Machine {
     term: Term,
     step: u64,
     outputs: Vec<Value>,
-    is_over: bool,
+    is_finished: bool,
     ghost within: { IsTrue (is_within (table_len scenario.table) (process term)) },
 }
 
@@ -61,21 +62,21 @@ impl Machine {
             term,
             step: 1,
             outputs: Vec::new(alloc),
-            is_over: false,
+            is_finished: false,
         })
     }
 
     /// Makes the next instant. The inputs are what the controller answered in the instant before: one
-    /// value for each input of the scenario, in their order. A machine makes at most a million steps.
-    /// After an end every step answers `Ended` and changes nothing. Memory may run out at any instant
-    /// of a run that goes on, which ends it too.
+    /// value for each input of the scenario, in their order. A machine makes at most 1,000,000 steps.
+    /// After an end every step answers `Ended` and changes nothing. Memory may run out at any instant,
+    /// which ends the run too.
     pub fn step(&mut self, alloc: Global, inputs: &[Value]) -> Outcome
         requires inputs { length inputs.now ≡ length (machine_state self.old).scene.inputs }
-        requires few { IfGoing (machine_state self.old).phase (λ c. c.step ≤ 1000000) }
+        requires few { IfRunning (machine_state self.old).phase (λ c. c.step ≤ most_steps) }
         ensures steps { result ≢ Outcome.Memory → record { outcome = result; state = machine_state self.new } ≡ step_of (machine_state self.old) }
-        ensures memory { result ≡ Outcome.Memory → IsGoing (machine_state self.old).phase × (machine_state self.new ≡ record (machine_state self.old) { phase = over }) }
+        ensures memory { result ≡ Outcome.Memory → IsRunning (machine_state self.old).phase × (machine_state self.new ≡ record (machine_state self.old) { phase = finished }) }
     {
-        if self.is_over {
+        if self.is_finished {
             return Outcome::Ended;
         }
         match drawn(alloc, &self.scenario, &self.term, &mut self.outputs) {
@@ -85,15 +86,15 @@ impl Machine {
                 Outcome::Values
             }
             Ok(Taken::Vanish) => {
-                self.is_over = true;
+                self.is_finished = true;
                 Outcome::Normal
             }
             Ok(Taken::Nothing) => {
-                self.is_over = true;
+                self.is_finished = true;
                 Outcome::Deadlock
             }
             Err(Memory) => {
-                self.is_over = true;
+                self.is_finished = true;
                 Outcome::Memory
             }
         }
@@ -104,7 +105,7 @@ impl Machine {
     pub fn outputs(&self) -> &[Value]
         ensures { result.now ≡ outputs_in (machine_state self.now).phase }
     {
-        if self.is_over { &[] } else { &self.outputs }
+        if self.is_finished { &[] } else { &self.outputs }
     }
 
     /// The inputs of the scenario.
@@ -131,7 +132,7 @@ impl Machine {
     /// How many decimals a real number has: 0 to 6.
     pub fn decimals(&self) -> u32
         ensures is { result ≡ (machine_state self.now).scene.decimals }
-        ensures few { result ≤ 6 }
+        ensures few { result ≤ most_decimals }
     {
         self.scenario.decimals
     }

@@ -3,7 +3,7 @@
 ghost use Rattle.std.specs.Prelude.{◌≡◌, ◌<◌, ◌+◌, ℕ, ◌++◌, [], ◌∷◌, length, IfOk, IsTrue, nat_lt};
 ghost use Rattle.std.specs.List.{list_all};
 ghost use Rattle.lt_term.specs.View.{table_len, table_outputs};
-ghost use Rattle.lt_step.specs.Search.{domain, domains_of, expressions_at, EarlierHold, all_hold_newly, Finds, FindsBehind};
+ghost use Rattle.lt_step.specs.inner.Search.{domain, domains_of, expressions_at, EarlierHold, all_hold_newly, Finds, FindsWith};
 
 use lt_num::Value;
 use lt_term::{Memory, Table, Var};
@@ -73,7 +73,7 @@ fn extend_by(
     requires known { IsTrue (list_all (λ c. nat_lt c (table_len table.now)) constraints.now) }
     requires whole { length outputs.old.items + length further.now + 1 ≡ table_outputs table.now }
     requires earlier { EarlierHold (expressions_at table.now constraints.now) (outputs.old.items ++ value ∷ []) }
-    ensures { IfOk result (λ found. FindsBehind value (expressions_at table.now constraints.now) (domains_of further.now) outputs.old.items outputs.new.items found) }
+    ensures { IfOk result (λ found. FindsWith value (expressions_at table.now constraints.now) (domains_of further.now) outputs.old.items outputs.new.items found) }
 {
     outputs.push(value)?;
     let found = extend(table, constraints, further, outputs)?;

@@ -3,7 +3,7 @@ use Rattle.lt_term.specs.Offers.{offers_of}
 use Rattle.lt_term.specs.Scene.{output_domains}
 use Rattle.lt_term.specs.SceneView.{scene}
 use Rattle.lt_term.specs.View.{process_over, table_expressions}
-use Rattle.lt_step.specs.LeafView.{nodes_over}
+use Rattle.lt_step.specs.inner.LeafView.{nodes_over}
 use Rattle.lt_step.proofs.Draws.{takes_drawn}
 use Rattle.lt_step.proofs.drawing.drawn.Goals as goal
 

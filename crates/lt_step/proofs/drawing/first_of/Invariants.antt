@@ -5,7 +5,7 @@ use Rattle.lt_term.specs.Offers.{node_is_within}
 use Rattle.lt_term.specs.Scene.{output_domains}
 use Rattle.lt_term.specs.SceneView.{scene}
 use Rattle.lt_term.specs.View.{table_len, tree_nodes}
-use Rattle.lt_step.specs.LeafView.{nodes_over, first_live}
+use Rattle.lt_step.specs.inner.LeafView.{nodes_over, first_live}
 use Rattle.lt_step.proofs.drawing.first_of.Given as goal
 
 -- it is left to the nodes that were not looked at

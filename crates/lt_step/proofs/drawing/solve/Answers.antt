@@ -1,4 +1,4 @@
-use Rattle.lt_step.specs.Search.{expressions_at}
+use Rattle.lt_step.specs.inner.Search.{expressions_at}
 use Rattle.lt_step.proofs.Draws.{solves}
 use Rattle.lt_step.proofs.drawing.solve.Goals as goal
 

@@ -2,8 +2,8 @@ use Rattle.std.proofs.Common.{◌≡◌, ap, sym, ◌∙◌, ◌∷◌, arith, t
 use Rattle.std.specs.Prelude.{pos, ◌+ℤ◌, ◌≤ℤ◌, ◌<ℤ◌}
 use Rattle.std.proofs.lemmas.Int.{ints}
 use Rattle.lt_term.specs.Solution.{first_solution_from}
-use Rattle.lt_step.specs.Search.{domain, domains_of, expressions_at, all_hold_newly}
-use Rattle.lt_step.proofs.Searches.{domain_from, found_at, missed_at, none_behind, search_ends}
+use Rattle.lt_step.specs.inner.Search.{domain, domains_of, expressions_at, all_hold_newly}
+use Rattle.lt_step.proofs.Searches.{domain_from, found_at, missed_at, none_above, search_ends}
 use Rattle.lt_step.proofs.search.+search.Goals as goal
 
 pub extend-returns-in-empty : goal.extend-returns-in-empty
@@ -41,8 +41,8 @@ pub extend_within-returns : goal.extend_within-returns
 extend_within-returns t c =
     let low = to_z w64 c.loop-raw.raw-bits in
     let high = to_z w64 (of_z w64 c.args.first.now.range.high) in
-    let over : high <ℤ low = omega (arith, ints) in
-    (c.loop-raw.invariant.left ∙ none_behind (expressions_at c.args.table.now c.args.constraints.now) c.args.outputs.now.items (domains_of c.args.further.now) c.args.first.now low high over, c.loop-raw.invariant.same)
+    let above : high <ℤ low = omega (arith, ints) in
+    (c.loop-raw.invariant.left ∙ none_above (expressions_at c.args.table.now c.args.constraints.now) c.args.outputs.now.items (domains_of c.args.further.now) c.args.first.now low high above, c.loop-raw.invariant.same)
 
 pub extend_within-returns-else-branch : goal.extend_within-returns-else-branch
 extend_within-returns-else-branch t c =
@@ -55,4 +55,4 @@ extend_within-returns-else-branch t c =
     missed_at es c.args.outputs.now.items c.loop-raw.outputs.items c.extend_by.new.outputs.items (domains_of c.args.further.now) c.args.first.now low high c.of_raw-value.result _
     (first_solution_from es c.args.outputs.now.items (domain c.args.first.now ∷ domains_of c.args.further.now))
     under c.of_raw-value.ensures c.if-branch.false c.loop-raw.invariant.left c.loop-raw.invariant.same c.in_ok-extend_by.ensures in
-    (missed.0 ∙ none_behind es c.args.outputs.now.items (domains_of c.args.further.now) c.args.first.now (low +ℤ pos 1) high last, missed.1)
+    (missed.0 ∙ none_above es c.args.outputs.now.items (domains_of c.args.further.now) c.args.first.now (low +ℤ pos 1) high last, missed.1)

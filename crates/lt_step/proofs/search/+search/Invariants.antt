@@ -1,6 +1,6 @@
 use Rattle.std.proofs.Common.{◌≡◌, ◌+◌, ◌*◌, ◌∷◌, length}
 use Rattle.lt_term.specs.Solution.{first_solution_from}
-use Rattle.lt_step.specs.Search.{domain, domains_of, expressions_at}
+use Rattle.lt_step.specs.inner.Search.{domain, domains_of, expressions_at}
 use Rattle.lt_step.proofs.Searches.{domain_from}
 use Rattle.lt_step.proofs.search.+search.Given as goal
 

@@ -1,7 +1,7 @@
 use Rattle.std.proofs.Common.{◌≡◌, IsTrue, drop, nat_lt}
 use Rattle.std.specs.List.{list_all}
 use Rattle.lt_term.specs.View.{table_len}
-use Rattle.lt_step.specs.Search.{expressions_at, all_hold_newly}
+use Rattle.lt_step.specs.inner.Search.{expressions_at, all_hold_newly}
 use Rattle.lt_step.proofs.search.all_hold_newly_in.Given as goal
 
 -- it is left to the constraints that were not looked at

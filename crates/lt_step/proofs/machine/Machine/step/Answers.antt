@@ -15,16 +15,16 @@ pub returns-in-Ok-Go-clause-steps : goal.returns-in-Ok-Go-clause-steps
 returns-in-Ok-Go-clause-steps c = λ _.
     let m = c.args.self.now in
     let is = ap (instant_by m.scenario.table (standing m) c.drawn.new.outputs.items) c.in-Ok-Go.field-0-is in
-    answers_values (scene m.scenario) m.is_over (standing m) _ _ c.if-self.false (takes_instant (scene m.scenario) (standing m) m.scenario.table _ _ c.in-Ok-Go.ensures.takes ∙ is)
+    answers_values (scene m.scenario) m.is_finished (standing m) _ _ c.if-self.false (takes_instant (scene m.scenario) (standing m) m.scenario.table _ _ c.in-Ok-Go.ensures.takes ∙ is)
 
 pub returns-in-Ok-Vanish-clause-steps : goal.returns-in-Ok-Vanish-clause-steps
 returns-in-Ok-Vanish-clause-steps c = λ _.
     let m = c.args.self.now in
     let is = ap (instant_by m.scenario.table (standing m) c.drawn.new.outputs.items) c.in-Ok-Vanish.field-0-is in
-    answers (scene m.scenario) m.is_over (standing m) normal c.if-self.false (takes_instant (scene m.scenario) (standing m) m.scenario.table _ _ c.in-Ok-Vanish.ensures.takes ∙ is)
+    answers (scene m.scenario) m.is_finished (standing m) normal c.if-self.false (takes_instant (scene m.scenario) (standing m) m.scenario.table _ _ c.in-Ok-Vanish.ensures.takes ∙ is)
 
 pub returns-in-Ok-Nothing-clause-steps : goal.returns-in-Ok-Nothing-clause-steps
 returns-in-Ok-Nothing-clause-steps c = λ _.
     let m = c.args.self.now in
     let is = ap (instant_by m.scenario.table (standing m) c.drawn.new.outputs.items) c.in-Ok-Nothing.field-0-is in
-    answers (scene m.scenario) m.is_over (standing m) deadlock c.if-self.false (takes_instant (scene m.scenario) (standing m) m.scenario.table _ _ c.in-Ok-Nothing.ensures.takes ∙ is)
+    answers (scene m.scenario) m.is_finished (standing m) deadlock c.if-self.false (takes_instant (scene m.scenario) (standing m) m.scenario.table _ _ c.in-Ok-Nothing.ensures.takes ∙ is)

@@ -13,7 +13,7 @@ use Rattle.lt_term.specs.declared.table.Table.{Table}
 use Rattle.lt_term.specs.declared.tree.TreeNode.{TreeNode}
 use Rattle.lt_step.specs.Drawn.{is_live}
 use Rattle.lt_step.specs.declared.drawing.Taken.{Taken}
-use Rattle.lt_step.specs.declared.drawing.Taken.TheVariants as taken
+use Rattle.lt_step.specs.declared.drawing.Taken.TheVariants as took
 
 -- the nodes of the code's tree with the expressions of this table
 abbrev pub nodes_over : Table → List TreeNode → List (Node Expression)
@@ -30,14 +30,14 @@ abbrev pub Solves : Option (List Value) → List Value → Bool → Type 0
 Solves solution vs true = solution ≡ Some vs
 Solves solution vs false = solution ≡ None
 
--- what is taken is this leaf, where there is one; where it goes on, these outputs are the first solution
+-- what is taken is this leaf, where there is one; where it is an instant, these outputs are the first solution
 abbrev pub Takes : List Domain → Table → Option (Leaf Expression) → Taken → List Value → Type 0
-Takes domains table l taken.Nothing vs = l ≡ None
-Takes domains table l taken.Vanish vs = l ≡ Some vanish
-Takes domains table l (taken.Go next) vs = (es : List Expression) × (l ≡ Some (go es (process_over table next))) × (first_solution es domains ≡ Some vs)
+Takes domains table l took.Nothing vs = l ≡ None
+Takes domains table l took.Vanish vs = l ≡ Some vanish
+Takes domains table l (took.Go next) vs = (es : List Expression) × (l ≡ Some (go es (process_over table next))) × (first_solution es domains ≡ Some vs)
 
 -- whether each constraint of what comes next is one of so many
 abbrev pub taken_is_within : ℕ → Taken → Bool
-taken_is_within n taken.Nothing = true
-taken_is_within n taken.Vanish = true
-taken_is_within n (taken.Go next) = is_within n (process next)
+taken_is_within n took.Nothing = true
+taken_is_within n took.Vanish = true
+taken_is_within n (took.Go next) = is_within n (process next)

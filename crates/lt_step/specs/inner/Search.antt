@@ -37,13 +37,13 @@ holds_newly outputs e = if nat_eq (outputs_needed e) (length outputs) then truth
 abbrev pub all_hold_newly : List Expression → List Value → Bool
 all_hold_newly es outputs = list_all (holds_newly outputs) es
 
--- Where something was found, the new values are the old ones and the first solution behind them; else there is
+-- Where something was found, the new values are the old ones and the first solution after them; else there is
 -- none, and they are as before.
 abbrev pub Finds : List Expression → List Domain → List Value → List Value → Bool → Type 0
 Finds es domains old new true = (further : List Value) × (first_solution_from es old domains ≡ Some further) × (new ≡ old ++ further)
 Finds es domains old new false = (first_solution_from es old domains ≡ None) × (new ≡ old)
 
--- the same where the values behind the old ones begin with this one
-abbrev pub FindsBehind : Value → List Expression → List Domain → List Value → List Value → Bool → Type 0
-FindsBehind v es domains old new true = (further : List Value) × (first_solution_from es (old ++ v ∷ []) domains ≡ Some further) × (new ≡ old ++ v ∷ further)
-FindsBehind v es domains old new false = (first_solution_from es (old ++ v ∷ []) domains ≡ None) × (new ≡ old)
+-- the same where the further values begin with this one
+abbrev pub FindsWith : Value → List Expression → List Domain → List Value → List Value → Bool → Type 0
+FindsWith v es domains old new true = (further : List Value) × (first_solution_from es (old ++ v ∷ []) domains ≡ Some further) × (new ≡ old ++ v ∷ further)
+FindsWith v es domains old new false = (first_solution_from es (old ++ v ∷ []) domains ≡ None) × (new ≡ old)
