@@ -4,10 +4,11 @@ use Rattle.std.specs.List.{list_all, AllByRecursion}
 use Rattle.std.specs.Char.{is_ascii_digit, is_ascii_alphabetic}
 use Rattle.std.proofs.lemmas.Bool.Decides.{nat_tests}
 use Rattle.std.proofs.lemmas.List.{drop_at, take_at, drop-drop}
-use Rattle.lt_lexer.specs.Byte.{is_blank, is_word_byte, is_point, begins_with}
+use Rattle.lt_lexer.specs.Byte.{is_blank, is_word_byte, begins_with}
+use Rattle.lt_num.specs.Literal.{is_point, continues_number}
 use Rattle.lt_ast.specs.Signs.{spelled}
 use Rattle.lt_lexer.specs.Symbol.{IsSymbol}
-use Rattle.lt_lexer.specs.Piece.{Piece, blank, token, IsToken, IsTaken, begins_comment, begins_line_comment, begins_block_comment, continues_number}
+use Rattle.lt_lexer.specs.Piece.{Piece, blank, token, IsToken, IsTaken, begins_comment, begins_line_comment, begins_block_comment}
 use Rattle.lt_lexer.specs.Tokenization.{Divides, tokens_from}
 use Rattle.lt_lexer.specs.Source.{token_bytes, StandInTurn}
 use Rattle.lt_lexer.specs.Apart.{Spaced, apart, unplaced_token, ReadsApart}

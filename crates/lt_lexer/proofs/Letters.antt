@@ -6,11 +6,12 @@ use Rattle.std.specs.Str.{IsAscii, IsUtf8}
 use Rattle.std.proofs.lemmas.Bool.Decides.{nat_tests}
 use Rattle.std.proofs.lemmas.Str.{IsUtf8-from_ascii}
 use Rattle.std.proofs.lemmas.Str.Ascii.{IsAscii-nil, IsAscii-cons}
+use Rattle.lt_num.specs.Literal.{is_point, continues_number}
 use Rattle.lt_ast.specs.Signs.{spelled}
 use Rattle.lt_ast.specs.declared.sign.Sign.{Sign}
 use Rattle.lt_ast.specs.declared.sign.Sign.TheVariants as s
-use Rattle.lt_lexer.specs.Byte.{is_word_byte, is_point}
-use Rattle.lt_lexer.specs.Piece.{IsToken, continues_number}
+use Rattle.lt_lexer.specs.Byte.{is_word_byte}
+use Rattle.lt_lexer.specs.Piece.{IsToken}
 use Rattle.lt_lexer.specs.declared.token.TokenKind.{TokenKind}
 use Rattle.lt_lexer.specs.declared.token.TokenKind.TheVariants.{Word, Number, Symbol}
 use Rattle.lt_lexer.proofs.Bools.{left_of, right_of, other_or}

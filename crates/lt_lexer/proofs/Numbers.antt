@@ -3,8 +3,8 @@ use Rattle.std.proofs.Common.{◌≡◌, ℕ, ◌≤◌, Bool, true, false, cond
 use Rattle.std.specs.List.{list_all}
 use Rattle.std.specs.Char.{is_ascii_digit, is_ascii_alphabetic}
 use Rattle.std.proofs.lemmas.Bool.{cond_both, cond-true}
-use Rattle.lt_lexer.specs.Byte.{is_point}
-use Rattle.lt_lexer.specs.Piece.{IsToken, IsLongest, is_number, continues_number}
+use Rattle.lt_num.specs.Literal.{is_point, is_number, continues_number}
+use Rattle.lt_lexer.specs.Piece.{IsToken, IsLongest}
 use Rattle.lt_lexer.specs.declared.token.TokenKind.TheVariants.{Number}
 use Rattle.lt_lexer.specs.Reading.{leading, behind, fraction, behind_fraction, number_bytes}
 use Rattle.lt_lexer.proofs.Bools.{both, left_of, right_of, left_or, right_or, other_or, is_false, first_or, left_false}

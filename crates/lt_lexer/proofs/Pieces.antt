@@ -4,10 +4,11 @@ use Rattle.std.specs.declared.option.Option.{Option}
 use Rattle.std.specs.Char.{is_ascii_digit, is_ascii_alphabetic}
 use Rattle.std.proofs.lemmas.Bool.{cond_both, cond-true, cond-false, leb-true, leb-false}
 use Rattle.std.proofs.lemmas.List.{take_at, drop_at, append_cancel_left}
+use Rattle.lt_num.specs.Bounds.{most_digits}
 use Rattle.lt_ast.specs.Signs.{spelled}
 use Rattle.lt_ast.specs.declared.sign.Sign.{Sign}
 use Rattle.lt_lexer.specs.Byte.{is_blank, is_word_byte, is_in_line, begins_with}
-use Rattle.lt_lexer.specs.Piece.{Piece, blank, line_comment, block_comment, token, bytes_of, IsPiece, IsTaken, IsToken, IsLongest, IsShort, HasClose, begins_line_comment, begins_block_comment, begins_comment, most_digits}
+use Rattle.lt_lexer.specs.Piece.{Piece, blank, line_comment, block_comment, token, bytes_of, IsPiece, IsTaken, IsToken, IsLongest, IsShort, HasClose, begins_line_comment, begins_block_comment, begins_comment}
 use Rattle.lt_lexer.specs.Tokenization.{Fault, bad_byte, open_comment, number_too_long, Fails, IsOpen, IsTooLong}
 use Rattle.lt_lexer.specs.Reading.{leading, behind, Parts, closed, behind_fraction, number_bytes, first_symbol, Next, done, next, fails, next_comment, next_number, next_symbol, next_of}
 use Rattle.lt_lexer.specs.declared.token.TokenKind.{TokenKind}

@@ -7,7 +7,7 @@ use Rattle.std.specs.declared.alloc.Global.{Global}
 use Rattle.std.proofs.lemmas.List.Elements.{All-from_recursion}
 use Rattle.std.specs.List.{AllByRecursion}
 use Rattle.std.proofs.lemmas.List.{drop_at, take_at, drop-drop}
-use Rattle.lt_lexer.specs.Piece.{Piece, token, bytes_of, kind_of, IsToken, IsTaken}
+use Rattle.lt_lexer.specs.Piece.{Piece, token, bytes_of, kind_of, IsToken, IsShort, IsTaken}
 use Rattle.lt_lexer.specs.Tokenization.{Divides, tokens_from, IsTokenization}
 use Rattle.lt_lexer.specs.Source.{IsTokenOf, IsGap, StandInTurn}
 use Rattle.lt_lexer.specs.declared.token.Token.{Token}
@@ -60,7 +60,7 @@ stand (token kind bytes ∷ ps) text from gs rest n h k d place whole =
     let Q : List ℕ → Type 0 = λ l. IsTaken kind l (drop (n + length bytes) text) in (
       omega arith,
       gap text from n gs rest h k here,
-      record { ordered = omega arith; within = omega arith; is_token = subst (IsToken kind) own d.2.is_token },
+      record { ordered = omega arith; within = omega arith; is_token = subst (IsToken kind) own d.2.is_token; short = subst (IsShort kind) own d.2.short },
       subst Q own (subst P (sym behind) d.2),
       stand ps text (n + length bytes) [] d.0 (n + length bytes) behind tt d.3 (omega arith) (omega arith),
     )

@@ -4,11 +4,12 @@ use Rattle.std.specs.List.{list_all}
 use Rattle.std.specs.Char.{is_ascii_digit, is_ascii_alphabetic}
 use Rattle.std.proofs.lemmas.Bool.{eqb-true}
 use Rattle.std.proofs.lemmas.Bool.Decides.{nat_tests}
+use Rattle.lt_num.specs.Literal.{continues_number}
 use Rattle.lt_ast.specs.Signs.{spelled}
 use Rattle.lt_ast.specs.declared.sign.Sign.{Sign}
 use Rattle.lt_ast.specs.declared.sign.Sign.TheVariants as s
 use Rattle.lt_lexer.specs.Byte.{is_blank, is_word_byte, begins_with}
-use Rattle.lt_lexer.specs.Piece.{IsToken, IsLongest, continues_number}
+use Rattle.lt_lexer.specs.Piece.{IsToken, IsLongest}
 use Rattle.lt_lexer.specs.declared.token.TokenKind.{TokenKind}
 use Rattle.lt_lexer.specs.declared.token.TokenKind.TheVariants.{Word, Number, Symbol}
 use Rattle.lt_lexer.specs.Reading.{leading, behind}

@@ -15,17 +15,9 @@ is_word_byte b = is_ascii_alphabetic b || is_ascii_digit b || b == 95
 abbrev pub line_feed : ℕ
 line_feed = 10
 
--- the point of a real number
-abbrev pub point : ℕ
-point = 46
-
 -- any byte but a line feed
 abbrev pub is_in_line : ℕ → Bool
 is_in_line b = not (b == line_feed)
-
--- whether a byte is the point of a number
-abbrev pub is_point : ℕ → Bool
-is_point b = b == point
 
 -- whether a text begins with these bytes
 abbrev pub begins_with : List ℕ → List ℕ → Bool

@@ -1,9 +1,11 @@
 -- The pieces of a text: blanks, comments and tokens.
-use Rattle.std.specs.Prelude.{◌≡◌, ℕ, ◌≤◌, Bool, true, false, ◌&&◌, ◌||◌, IsTrue, List, [], ◌∷◌, ◌++◌, length, count_by, codes, Some, None}
+use Rattle.std.specs.Prelude.{◌≡◌, ℕ, ◌≤◌, Bool, false, ◌&&◌, ◌||◌, IsTrue, List, [], ◌∷◌, ◌++◌, length, count_by, codes, Some, None}
 use Rattle.std.specs.declared.option.Option.{Option}
 use Rattle.std.specs.List.{list_all}
 use Rattle.std.specs.Char.{is_ascii_digit, is_ascii_alphabetic}
-use Rattle.lt_lexer.specs.Byte.{is_blank, is_word_byte, is_in_line, is_point, line_feed, begins_with}
+use Rattle.lt_num.specs.Bounds.{most_digits}
+use Rattle.lt_num.specs.Literal.{is_number}
+use Rattle.lt_lexer.specs.Byte.{is_blank, is_word_byte, is_in_line, line_feed, begins_with}
 use Rattle.lt_lexer.specs.Symbol.{IsSymbol}
 use Rattle.lt_lexer.specs.declared.token.TokenKind.{TokenKind}
 use Rattle.lt_lexer.specs.declared.token.TokenKind.TheVariants.{Word, Number, Symbol}
@@ -12,16 +14,6 @@ use Rattle.lt_lexer.specs.declared.token.TokenKind.TheVariants.{Word, Number, Sy
 abbrev pub is_word : List ℕ → Bool
 is_word [] = false
 is_word (b ∷ bs) = is_ascii_alphabetic b && list_all is_word_byte bs
-
--- what may follow a number's first digit: digits, and maybe a point behind them, with or without digits after it
-abbrev pub continues_number : List ℕ → Bool
-continues_number [] = true
-continues_number (b ∷ bs) = (is_ascii_digit b && continues_number bs) || (is_point b && list_all is_ascii_digit bs)
-
--- digits, and maybe a point behind them, with or without digits after it
-abbrev pub is_number : List ℕ → Bool
-is_number [] = false
-is_number (b ∷ bs) = is_ascii_digit b && continues_number bs
 
 -- the bytes are a token of a kind, however many digits a number has
 abbrev pub IsToken : TokenKind → List ℕ → Type 0
@@ -33,10 +25,6 @@ IsToken Symbol bytes = IsSymbol bytes
 abbrev pub IsLongest : List ℕ → List ℕ → Type 0
 IsLongest bytes after =
     (kind : TokenKind) (front rest : List ℕ) → bytes ++ after ≡ front ++ rest → IsToken kind front → length front ≤ length bytes
-
--- how many digits a number may have in all
-abbrev pub most_digits : ℕ
-most_digits = 18
 
 -- if it is a number, it has no more digits than it may have
 abbrev pub IsShort : TokenKind → List ℕ → Type 0

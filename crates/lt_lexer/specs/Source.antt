@@ -1,11 +1,10 @@
 -- What a token is in the text that it is a token of, and where the tokens of a text stand.
-use Rattle.std.specs.Prelude.{◌≡◌, ℕ, ◌≤◌, ◌<◌, List, [], ◌∷◌, None, drop, length, slice_range, Contains}
+use Rattle.std.specs.Prelude.{◌≡◌, ℕ, ◌≤◌, ◌<◌, List, [], ◌∷◌, None, drop, length, slice_range}
 use Rattle.std.specs.List.{AllByRecursion}
 use Rattle.lt_ast.specs.Signs.{spelled}
 use Rattle.lt_ast.specs.declared.sign.Sign.{Sign}
 use Rattle.lt_ast.specs.declared.sign.Sign.TheVariants as s
-use Rattle.lt_lexer.specs.Byte.{point}
-use Rattle.lt_lexer.specs.Piece.{Piece, kind_of, IsToken, IsTaken}
+use Rattle.lt_lexer.specs.Piece.{Piece, kind_of, IsToken, IsShort, IsTaken}
 use Rattle.lt_lexer.specs.Tokenization.{Divides}
 use Rattle.lt_lexer.specs.declared.token.Token.{Token}
 use Rattle.lt_lexer.specs.declared.token.TokenKind.TheVariants as kind
@@ -14,21 +13,18 @@ use Rattle.lt_lexer.specs.declared.token.TokenKind.TheVariants as kind
 abbrev pub token_bytes : List ℕ → Token → List ℕ
 token_bytes text t = slice_range text t.span.start t.span.end
 
--- a token stands in the text, and its bytes are a token of its kind
+-- a token stands in the text, and its bytes are a token of its kind, a number none of too many digits
 pub record IsTokenOf (text : List ℕ) (t : Token) : Type 0 where
   pub ordered : t.span.start < t.span.end
   pub within : t.span.end ≤ length text
   pub is_token : IsToken t.kind (token_bytes text t)
+  pub short : IsShort t.kind (token_bytes text t)
 
 -- Which sign a token is: a word that is no keyword is a name.
 abbrev pub IsSign : List ℕ → Token → Sign → Type 0
 IsSign text t s.Name = (t.kind ≡ kind.Word) × ((sign : Sign) → token_bytes text t ≡ spelled sign → ⊥)
 IsSign text t s.Number = t.kind ≡ kind.Number
 IsSign text t sign = token_bytes text t ≡ spelled sign
-
--- the token is a number with a point
-abbrev pub IsReal : List ℕ → Token → Type 0
-IsReal text t = (t.kind ≡ kind.Number) × Contains (token_bytes text t) point
 
 -- from one place of the text up to another stand blanks and comments, and nothing else
 abbrev pub IsGap : List ℕ → ℕ → ℕ → Type 0

@@ -4,8 +4,10 @@ use Rattle.std.specs.Char.{is_ascii_digit}
 use Rattle.std.specs.declared.result.Result.{Result}
 use Rattle.std.specs.declared.vec.Vec.{Vec}
 use Rattle.std.specs.declared.alloc.Global.{Global}
+use Rattle.lt_num.specs.Bounds.{most_digits}
+use Rattle.lt_num.specs.Literal.{is_number}
 use Rattle.lt_lexer.specs.Byte.{is_blank}
-use Rattle.lt_lexer.specs.Piece.{Piece, blank, line_comment, block_comment, token, bytes_of, IsPiece, IsToken, IsLongest, most_digits, begins_comment, HasClose, is_number}
+use Rattle.lt_lexer.specs.Piece.{Piece, blank, line_comment, block_comment, token, bytes_of, IsPiece, IsToken, IsLongest, begins_comment, HasClose}
 use Rattle.lt_lexer.specs.declared.token.Token.{Token}
 use Rattle.lt_lexer.specs.declared.token.TokenKind.{TokenKind}
 use Rattle.lt_lexer.specs.declared.refusal.LexRefusal.{LexRefusal}

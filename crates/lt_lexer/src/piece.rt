@@ -9,7 +9,7 @@ use crate::refusal::LexRefusal;
 use crate::symbol::first_symbol;
 use crate::token::TokenKind;
 
-// How many digits a number may have.
+// How many digits a number may have: `most_digits` of lt_num's `specs/Bounds.antt`.
 const MOST_DIGITS: usize = 18;
 
 /// A blank, a comment or a token at the front of a text.

@@ -1,7 +1,9 @@
 //! Tokens.
 
-ghost use Rattle.std.specs.Prelude.{◌≡◌, ◌↔◌, IsTrue};
-ghost use Rattle.lt_lexer.specs.Source.{IsTokenOf, token_bytes, IsSign, IsReal};
+ghost use Rattle.std.specs.Prelude.{◌≡◌};
+ghost use Rattle.lt_num.specs.Literal.{IsNumber};
+ghost use Rattle.lt_lexer.specs.Source.{IsTokenOf, token_bytes, IsSign};
+ghost use Rattle.lt_lexer.specs.declared.token.TokenKind.{TokenKind};
 
 use crate::keyword::keyword;
 use crate::symbol::first_symbol;
@@ -32,10 +34,11 @@ pub struct Token {
 }
 
 impl Token {
-    /// Its bytes, in the text that it is a token of.
+    /// Its bytes, in the text that it is a token of. Those of a number are a number.
     pub fn bytes<'a>(&self, text: &'a [u8]) -> &'a [u8]
         requires { IsTokenOf text.now self.now }
-        ensures { result.now ≡ token_bytes text.now self.now }
+        ensures bytes { result.now ≡ token_bytes text.now self.now }
+        ensures number { self.now.kind ≡ TokenKind.Number → IsNumber result.now }
     {
         &text[self.span.start..self.span.end]
     }
@@ -43,7 +46,8 @@ impl Token {
     /// The same as letters.
     pub fn letters<'a>(&self, text: &'a [u8]) -> &'a str
         requires { IsTokenOf text.now self.now }
-        ensures { result.now ≡ token_bytes text.now self.now }
+        ensures bytes { result.now ≡ token_bytes text.now self.now }
+        ensures number { self.now.kind ≡ TokenKind.Number → IsNumber result.now }
     {
         str::from_utf8(self.bytes(text)).unwrap()
     }
@@ -58,13 +62,5 @@ impl Token {
             TokenKind::Number => Sign::Number,
             TokenKind::Symbol => first_symbol(self.bytes(text)).unwrap(),
         }
-    }
-
-    /// Whether it is the number of a real: one with a point.
-    pub fn is_real(&self, text: &[u8]) -> bool
-        requires { IsTokenOf text.now self.now }
-        ensures { IsTrue result ↔ IsReal text.now self.now }
-    {
-        self.kind == TokenKind::Number && self.bytes(text).contains(&b'.')
     }
 }

@@ -67,16 +67,14 @@ struct Asked {
     token: Token,
     sign: Sign,
     letters: &'static str,
-    is_real: bool,
 }
 
-// A token that is not the number of a real.
-const fn no_real(token: Token, sign: Sign, letters: &'static str) -> Asked {
+// One of them.
+const fn case(token: Token, sign: Sign, letters: &'static str) -> Asked {
     Asked {
         token,
         sign,
         letters,
-        is_real: false,
     }
 }
 
@@ -84,15 +82,12 @@ const fn no_real(token: Token, sign: Sign, letters: &'static str) -> Asked {
 fn questions(rt: HostRuntime) -> Result<(), Fail> {
     let text = b"loop loops 2.0 3 => <";
     let expected = [
-        no_real(word(0, 4), Sign::Loop, "loop"),
-        no_real(word(5, 10), Sign::Name, "loops"),
-        Asked {
-            is_real: true,
-            ..no_real(number(11, 14), Sign::Number, "2.0")
-        },
-        no_real(number(15, 16), Sign::Number, "3"),
-        no_real(symbol(17, 19), Sign::Implies, "=>"),
-        no_real(symbol(20, 21), Sign::Less, "<"),
+        case(word(0, 4), Sign::Loop, "loop"),
+        case(word(5, 10), Sign::Name, "loops"),
+        case(number(11, 14), Sign::Number, "2.0"),
+        case(number(15, 16), Sign::Number, "3"),
+        case(symbol(17, 19), Sign::Implies, "=>"),
+        case(symbol(20, 21), Sign::Less, "<"),
     ];
     let tokens = lex(rt.alloc(), text)?;
     assert_eq!(rt; tokens.len(), expected.len());
@@ -101,7 +96,6 @@ fn questions(rt: HostRuntime) -> Result<(), Fail> {
         assert_eq!(rt; token.sign(text), asked.sign);
         assert_eq!(rt; token.bytes(text), asked.letters.as_bytes());
         assert_eq!(rt; token.letters(text), asked.letters);
-        assert_eq!(rt; token.is_real(text), asked.is_real);
     }
     Ok(())
 }

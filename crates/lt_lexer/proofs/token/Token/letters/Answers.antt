@@ -5,5 +5,5 @@ use Rattle.lt_lexer.proofs.token.Token.letters.Goals as goal
 
 pub unwrap-requires : goal.unwrap-requires
 unwrap-requires c =
-    let letters : IsUtf8 c.bytes.result.now = rw c.bytes.ensures (token_utf8 c.args.self.now.kind _ c.requires.is_token) in
+    let letters : IsUtf8 c.bytes.result.now = rw c.bytes.ensures.bytes (token_utf8 c.args.self.now.kind _ c.requires.is_token) in
     search rules
