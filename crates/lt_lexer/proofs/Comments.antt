@@ -5,7 +5,7 @@ use Rattle.std.specs.List.{list_all}
 use Rattle.std.proofs.lemmas.Bool.{cond_both, cond-true, cond-false, eqb-true}
 use Rattle.lt_lexer.specs.Byte.{is_in_line, begins_with}
 use Rattle.lt_lexer.specs.Piece.{HasClose, IsLineEnd}
-use Rattle.lt_lexer.specs.Reading.{leading, behind, Parts, parts_more, closed}
+use Rattle.lt_lexer.specs.inner.Reading.{leading, behind, Parts, parts_more, closed}
 use Rattle.lt_lexer.proofs.Bools.{left_of, right_of, is_false}
 use Rattle.lt_lexer.proofs.Starts.{begins_two}
 

@@ -7,7 +7,7 @@ use Rattle.std.proofs.lemmas.Bool.Decides.{nat_tests}
 use Rattle.std.proofs.lemmas.List.Sums.{sum_by-cons, sum_by-append}
 use Rattle.lt_num.specs.Literal.{is_point}
 use Rattle.lt_lexer.specs.Byte.{begins_with}
-use Rattle.lt_lexer.specs.Reading.{leading, behind, fraction, number_bytes}
+use Rattle.lt_lexer.specs.inner.Reading.{leading, behind, fraction, number_bytes}
 use Rattle.lt_lexer.proofs.Bools.{left_of, right_of}
 use Rattle.lt_lexer.proofs.Runs.{leading-passes, length-leading}
 

@@ -3,7 +3,7 @@ use Rattle.std.proofs.Common.{◌≡◌, ℕ, zero, suc, ◌-◌, ◌≤◌, ◌
 use Rattle.std.specs.declared.option.Option.{Option}
 use Rattle.lt_lexer.specs.Piece.{Piece, blank, line_comment, block_comment, token, bytes_of, IsPiece}
 use Rattle.lt_lexer.specs.Tokenization.{Divides, tokens_from, IsTokenization, Fault, refusal_at, IsRefusal}
-use Rattle.lt_lexer.specs.Reading.{Next, done, next, fails, next_of}
+use Rattle.lt_lexer.specs.inner.Reading.{Next, done, next, fails, next_of}
 use Rattle.lt_lexer.specs.declared.token.Token.{Token}
 use Rattle.lt_lexer.specs.declared.refusal.LexRefusal.{LexRefusal}
 use Rattle.lt_lexer.proofs.Starts.{token_start}

@@ -6,7 +6,7 @@ use Rattle.std.proofs.lemmas.Bool.{cond_both, cond-true}
 use Rattle.lt_num.specs.Literal.{is_point, is_number, continues_number}
 use Rattle.lt_lexer.specs.Piece.{IsToken, IsLongest}
 use Rattle.lt_lexer.specs.declared.token.TokenKind.TheVariants.{Number}
-use Rattle.lt_lexer.specs.Reading.{leading, behind, fraction, behind_fraction, number_bytes}
+use Rattle.lt_lexer.specs.inner.Reading.{leading, behind, fraction, behind_fraction, number_bytes}
 use Rattle.lt_lexer.proofs.Bools.{both, left_of, right_of, left_or, right_or, other_or, is_false, first_or, left_false}
 use Rattle.lt_lexer.proofs.Runs.{leading-longest, leading-behind, leading-passes}
 use Rattle.lt_lexer.proofs.Digits.{digit-point}

@@ -10,7 +10,7 @@ use Rattle.lt_ast.specs.declared.sign.Sign.{Sign}
 use Rattle.lt_lexer.specs.Byte.{is_blank, is_word_byte, is_in_line, begins_with}
 use Rattle.lt_lexer.specs.Piece.{Piece, blank, line_comment, block_comment, token, bytes_of, IsPiece, IsTaken, IsToken, IsLongest, IsShort, HasClose, begins_line_comment, begins_block_comment, begins_comment}
 use Rattle.lt_lexer.specs.Tokenization.{Fault, bad_byte, open_comment, number_too_long, Fails, IsOpen, IsTooLong}
-use Rattle.lt_lexer.specs.Reading.{leading, behind, Parts, closed, behind_fraction, number_bytes, first_symbol, Next, done, next, fails, next_comment, next_number, next_symbol, next_of}
+use Rattle.lt_lexer.specs.inner.Reading.{leading, behind, Parts, closed, behind_fraction, number_bytes, first_symbol, Next, done, next, fails, next_comment, next_number, next_symbol, next_of}
 use Rattle.lt_lexer.specs.declared.token.TokenKind.{TokenKind}
 use Rattle.lt_lexer.specs.declared.token.TokenKind.TheVariants.{Word, Number, Symbol}
 use Rattle.lt_lexer.proofs.Bools.{both, neither, left_neither, right_neither, is_false}

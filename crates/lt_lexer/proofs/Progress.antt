@@ -3,7 +3,7 @@ use Rattle.std.proofs.Common.{◌≡◌, ℕ, ◌+◌, ◌-◌, ◌≤◌, ◌<�
 use Rattle.std.proofs.lemmas.List.{drop_at}
 use Rattle.lt_lexer.specs.Piece.{Piece, token, bytes_of, IsPiece, kind_of}
 use Rattle.lt_lexer.specs.Tokenization.{Divides, token_at, tokens_from, IsTokenization, refusal_at, IsRefusal}
-use Rattle.lt_lexer.specs.Reading.{Next, done, next, fails, next_of, Gives}
+use Rattle.lt_lexer.specs.inner.Reading.{Next, done, next, fails, next_of, Gives}
 use Rattle.lt_lexer.specs.declared.piece.Piece as code
 use Rattle.lt_lexer.specs.declared.token.Token.{Token}
 use Rattle.lt_lexer.specs.declared.token.TokenKind.{TokenKind}

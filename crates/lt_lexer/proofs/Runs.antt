@@ -3,7 +3,7 @@ use Rattle.std.proofs.Common.{◌≡◌, ℕ, ◌+◌, ◌≤◌, Bool, true, fa
 use Rattle.std.specs.List.{prefix_len, list_all}
 use Rattle.std.proofs.lemmas.Bool.{cond_both, cond-true}
 use Rattle.std.proofs.lemmas.List.Sums.{prefix_len-le-length}
-use Rattle.lt_lexer.specs.Reading.{leading, behind}
+use Rattle.lt_lexer.specs.inner.Reading.{leading, behind}
 use Rattle.lt_lexer.proofs.Bools.{both, left_of, right_of}
 
 -- there are as many as std counts

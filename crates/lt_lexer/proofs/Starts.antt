@@ -12,7 +12,7 @@ use Rattle.lt_lexer.specs.Byte.{is_blank, is_word_byte, begins_with}
 use Rattle.lt_lexer.specs.Piece.{IsToken, IsLongest}
 use Rattle.lt_lexer.specs.declared.token.TokenKind.{TokenKind}
 use Rattle.lt_lexer.specs.declared.token.TokenKind.TheVariants.{Word, Number, Symbol}
-use Rattle.lt_lexer.specs.Reading.{leading, behind}
+use Rattle.lt_lexer.specs.inner.Reading.{leading, behind}
 use Rattle.lt_lexer.proofs.Bools.{left_of, right_of}
 use Rattle.lt_lexer.proofs.Runs.{leading-longest, leading-behind}
 use Rattle.lt_lexer.proofs.Symbols.{as_symbol, each_symbol}

@@ -8,7 +8,7 @@ use Rattle.lt_ast.specs.Signs.{spelled}
 use Rattle.lt_ast.specs.declared.sign.Sign.{Sign}
 use Rattle.lt_ast.specs.declared.sign.Sign.TheVariants as s
 use Rattle.lt_lexer.specs.Symbol.{is_symbol}
-use Rattle.lt_lexer.specs.Reading.{symbols, symbol_spelled, or_else, first_symbol}
+use Rattle.lt_lexer.specs.inner.Reading.{symbols, symbol_spelled, or_else, first_symbol}
 use Rattle.lt_lexer.proofs.Finds.{find_passes}
 
 -- a symbol itself, and a parenthesis in place of any other sign

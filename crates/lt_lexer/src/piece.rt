@@ -2,7 +2,7 @@
 
 ghost use Rattle.std.specs.Option.{option_map};
 ghost use Rattle.std.specs.Prelude.{◌≡◌, ◌<◌, ◌≤◌, ◌+◌, length, None, Some, IfSome};
-ghost use Rattle.lt_lexer.specs.Reading.{closed, next_of, next_comment, next_number, next_symbol, first_symbol, fraction, Gives};
+ghost use Rattle.lt_lexer.specs.inner.Reading.{closed, next_of, next_comment, next_number, next_symbol, first_symbol, fraction, Gives};
 
 use crate::byte::{digits, is_blank, line_bytes, word_bytes};
 use crate::refusal::LexRefusal;

@@ -1,5 +1,7 @@
 //! Why a text has no tokens.
 
+ghost use Rattle.std.specs.Prelude.{◌≡◌};
+
 use std::alloc::AllocFailed;
 use thiserror::Error;
 
@@ -23,8 +25,35 @@ pub enum LexRefusal {
     Memory,
 }
 
+impl LexRefusal {
+    ghost use Rattle.lt_lexer.specs.Refusals.{lex_code, lex_place};
+
+    /// Its code, by which a call tells it: `lex.` and the name of the variant.
+    pub fn code(self) -> &'static str
+        ensures { result.now ≡ lex_code self }
+    {
+        match self {
+            LexRefusal::BadByte(_) => "lex.BadByte",
+            LexRefusal::OpenComment(_) => "lex.OpenComment",
+            LexRefusal::NumberTooLong(_) => "lex.NumberTooLong",
+            LexRefusal::Memory => "lex.Memory",
+        }
+    }
+
+    /// The place of the byte at which it shows, where it has one.
+    pub fn place(self) -> Option<usize>
+        ensures { result ≡ lex_place self }
+    {
+        match self {
+            LexRefusal::BadByte(place)
+            | LexRefusal::OpenComment(place)
+            | LexRefusal::NumberTooLong(place) => Some(place),
+            LexRefusal::Memory => None,
+        }
+    }
+}
+
 impl<T: Drop> From<AllocFailed<T>> for LexRefusal {
-    ghost use Rattle.std.specs.Prelude.{◌≡◌};
     ghost use Rattle.lt_lexer.specs.declared.refusal.LexRefusal.TheVariants.{Memory};
 
     ghost from_gives = { λ _ e. e ≡ Memory };

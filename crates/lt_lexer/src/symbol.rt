@@ -1,7 +1,7 @@
 //! Symbols.
 
 ghost use Rattle.std.specs.Prelude.{◌≡◌, [], ◌∷◌};
-ghost use Rattle.lt_lexer.specs.Reading.{symbol_spelled, first_symbol};
+ghost use Rattle.lt_lexer.specs.inner.Reading.{symbol_spelled, first_symbol};
 
 use lt_ast::Sign;
 

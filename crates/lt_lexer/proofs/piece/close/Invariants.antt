@@ -1,6 +1,6 @@
 use Rattle.std.proofs.Common.{◌≡◌, ◌+◌, length}
 use Rattle.std.specs.Option.{option_map}
-use Rattle.lt_lexer.specs.Reading.{closed}
+use Rattle.lt_lexer.specs.inner.Reading.{closed}
 use Rattle.lt_lexer.proofs.piece.close.Given as goal
 
 -- no comment is closed so far, and it is closed where the rest is

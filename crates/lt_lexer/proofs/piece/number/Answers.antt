@@ -1,5 +1,5 @@
 use Rattle.std.proofs.Common.{arith, ap, ◌∙◌, length}
-use Rattle.lt_lexer.specs.Reading.{fraction}
+use Rattle.lt_lexer.specs.inner.Reading.{fraction}
 use Rattle.std.proofs.lemmas.List.{take_rest}
 use Rattle.lt_lexer.proofs.Giving.{gives_short, gives_long}
 use Rattle.lt_lexer.proofs.piece.number.Goals as goal

@@ -1,0 +1,3 @@
+-- Words that the contracts of private functions cite.
+-- how the first piece of a text is found
+pub mod Reading
