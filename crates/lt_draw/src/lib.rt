@@ -1,0 +1,22 @@
+//! Drawing by position: the words of a seed, and what a word decides.
+//!
+//! Each decision of a run has a *slot* in its step, and is made by the word of the seed at that slot, whatever
+//! was decided before: [`word`] gives one, [`StepWords`] those of one step, and [`SlotWords`] one after another
+//! from a slot on. [`pick`] is the decision among weights, [`target`] that among the numbers of a range.
+//!
+//! Words are those of the generator PCG64 (`Lcg128Xsl64` of `rand_pcg`, made by `seed_from_u64`), whose quality
+//! and values are that crate's. `specs/Word.antt` says which word stands where, `specs/Pick.antt` and
+//! `specs/Target.antt` what a word decides.
+#![tactic(auto)]
+
+mod laws;
+mod targets;
+mod weights;
+mod words;
+
+pub use laws::{
+    each_is_a_target, picks_by_weight, picks_the_first_over, places_are_apart, words_are_answers,
+};
+pub use targets::target;
+pub use weights::pick;
+pub use words::{SlotWords, StepWords, word};
