@@ -1,9 +1,11 @@
-//! Tests of what a run is made of: files and sinks, numbers, and the machine of instants.
+//! Tests of what a run is made of: files and sinks, numbers, drawing, and the machine of instants.
 //!
 //! They stand in a crate of their own, so that the crates below are proved without them. What a test
 //! expects follows from the rules of `docs/LANGUAGE.md`.
 #![tactic(auto)]
 
+#[cfg(test)]
+mod drawing;
 #[cfg(test)]
 mod files_and_sinks;
 #[cfg(test)]
