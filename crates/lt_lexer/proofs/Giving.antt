@@ -9,7 +9,8 @@ use Rattle.std.proofs.lemmas.Bool.{cond-true, cond-false, le-leb, lt-leb}
 use Rattle.lt_num.specs.Bounds.{most_digits}
 use Rattle.lt_lexer.specs.Byte.{is_blank, is_word_byte, is_in_line, begins_with}
 use Rattle.lt_lexer.specs.Piece.{blank, line_comment, token, begins_line_comment, begins_block_comment}
-use Rattle.lt_lexer.specs.inner.Reading.{leading, behind, Parts, parts_more, closed, fraction, number_bytes, Next, next, next_comment, next_number, next_symbol, first_symbol, next_of, Gives}
+use Rattle.lt_lexer.specs.inner.Reading.{leading, behind, Parts, parts_more, closed, fraction, number_bytes, Next, next, next_comment, next_number, next_symbol, next_of, Gives}
+use Rattle.lt_lexer.specs.inner.Spelling.{first_symbol}
 use Rattle.lt_lexer.specs.declared.piece.Piece as code
 use Rattle.lt_lexer.specs.declared.refusal.LexRefusal.{LexRefusal}
 use Rattle.lt_lexer.specs.declared.refusal.LexRefusal.TheVariants.{NumberTooLong}

@@ -11,11 +11,12 @@ use Rattle.lt_ast.specs.Signs.{spelled}
 use Rattle.lt_ast.specs.declared.sign.Sign.{Sign}
 use Rattle.lt_ast.specs.declared.sign.Sign.TheVariants as s
 use Rattle.lt_lexer.specs.Byte.{is_word_byte}
+use Rattle.lt_lexer.specs.Symbol.{is_symbol}
 use Rattle.lt_lexer.specs.Piece.{IsToken}
 use Rattle.lt_lexer.specs.declared.token.TokenKind.{TokenKind}
 use Rattle.lt_lexer.specs.declared.token.TokenKind.TheVariants.{Word, Number, Symbol}
 use Rattle.lt_lexer.proofs.Bools.{left_of, right_of, other_or}
-use Rattle.lt_lexer.proofs.Symbols.{as_symbol, each_symbol}
+use Rattle.lt_lexer.proofs.Symbols.{or_open, each_that}
 
 -- bytes are ASCII, where each passes a test that only bytes below 128 pass
 ascii_by : (p : ℕ → Bool) → ((b : ℕ) → p b ≡ true → b < 128) → (bytes : List ℕ) → list_all p bytes ≡ true → IsAscii bytes
@@ -52,7 +53,7 @@ continues_ascii [] h = IsAscii-nil
 continues_ascii (b ∷ bs) h = continues_step (is_ascii_digit b && continues_number bs) b bs refl (continues_ascii bs) h
 
 -- so are the letters of a symbol, by cases
-symbol_ascii-each : (sign : Sign) → IsTrue (list_all (λ b. nat_lt b 128) (spelled (as_symbol sign)))
+symbol_ascii-each : (sign : Sign) → IsTrue (list_all (λ b. nat_lt b 128) (spelled (or_open is_symbol sign)))
 symbol_ascii-each s.Open = refl
 symbol_ascii-each sign = refl
 
@@ -62,7 +63,7 @@ token_ascii Word [] h = IsAscii-nil
 token_ascii Word (b ∷ bs) h = IsAscii-cons b bs (letter-below b (left_of (is_ascii_alphabetic b) (list_all is_word_byte bs) h)) (ascii_by is_word_byte word_byte-below bs (right_of (is_ascii_alphabetic b) (list_all is_word_byte bs) h))
 token_ascii Number [] h = IsAscii-nil
 token_ascii Number (b ∷ bs) h = IsAscii-cons b bs (digit-below b (left_of (is_ascii_digit b) (continues_number bs) h)) (continues_ascii bs (right_of (is_ascii_digit b) (continues_number bs) h))
-token_ascii Symbol bytes h = subst IsAscii (sym h.2) (ascii_by (λ b. nat_lt b 128) ascii-below (spelled h.0) (each_symbol (λ sign. IsTrue (list_all (λ b. nat_lt b 128) (spelled sign))) symbol_ascii-each h.0 h.1))
+token_ascii Symbol bytes h = subst IsAscii (sym h.2) (ascii_by (λ b. nat_lt b 128) ascii-below (spelled h.0) (each_that is_symbol (λ sign. IsTrue (list_all (λ b. nat_lt b 128) (spelled sign))) symbol_ascii-each h.0 h.1))
 
 -- so they are the UTF-8 of letters
 pub token_utf8 : (kind : TokenKind) (bytes : List ℕ) → IsToken kind bytes → IsUtf8 bytes

@@ -1,3 +1,4 @@
+pub mod Public
 pub mod Bools
 pub mod Runs
 pub mod Digits
@@ -7,6 +8,7 @@ pub mod Numbers
 pub mod Finds
 pub mod Symbols
 pub mod Comments
+pub mod Signs
 pub mod Pieces
 pub mod Divisions
 pub mod Progress

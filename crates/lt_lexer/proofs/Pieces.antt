@@ -10,7 +10,8 @@ use Rattle.lt_ast.specs.declared.sign.Sign.{Sign}
 use Rattle.lt_lexer.specs.Byte.{is_blank, is_word_byte, is_in_line, begins_with}
 use Rattle.lt_lexer.specs.Piece.{Piece, blank, line_comment, block_comment, token, bytes_of, IsPiece, IsTaken, IsToken, IsLongest, IsShort, HasClose, begins_line_comment, begins_block_comment, begins_comment}
 use Rattle.lt_lexer.specs.Tokenization.{Fault, bad_byte, open_comment, number_too_long, Fails, IsOpen, IsTooLong}
-use Rattle.lt_lexer.specs.inner.Reading.{leading, behind, Parts, closed, behind_fraction, number_bytes, first_symbol, Next, done, next, fails, next_comment, next_number, next_symbol, next_of}
+use Rattle.lt_lexer.specs.inner.Reading.{leading, behind, Parts, closed, behind_fraction, number_bytes, Next, done, next, fails, next_comment, next_number, next_symbol, next_of}
+use Rattle.lt_lexer.specs.inner.Spelling.{first_symbol}
 use Rattle.lt_lexer.specs.declared.token.TokenKind.{TokenKind}
 use Rattle.lt_lexer.specs.declared.token.TokenKind.TheVariants.{Word, Number, Symbol}
 use Rattle.lt_lexer.proofs.Bools.{both, neither, left_neither, right_neither, is_false}
@@ -92,7 +93,7 @@ symbol_holds b bs None e plain no_blank letter digit = record {
   no_token = λ kind front rest f t. no_token b bs front rest kind e letter digit f t;
 }
 symbol_holds b bs (Some sign) e plain no_blank letter digit =
-    let it = first_symbol-spelled (b ∷ bs) sign e in (
+    let it = first_symbol-spelled b bs sign letter e in (
       it.1,
       record {
         is_token = (sign, it.0, refl);

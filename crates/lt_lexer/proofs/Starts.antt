@@ -9,13 +9,14 @@ use Rattle.lt_ast.specs.Signs.{spelled}
 use Rattle.lt_ast.specs.declared.sign.Sign.{Sign}
 use Rattle.lt_ast.specs.declared.sign.Sign.TheVariants as s
 use Rattle.lt_lexer.specs.Byte.{is_blank, is_word_byte, begins_with}
+use Rattle.lt_lexer.specs.Symbol.{is_symbol}
 use Rattle.lt_lexer.specs.Piece.{IsToken, IsLongest}
 use Rattle.lt_lexer.specs.declared.token.TokenKind.{TokenKind}
 use Rattle.lt_lexer.specs.declared.token.TokenKind.TheVariants.{Word, Number, Symbol}
 use Rattle.lt_lexer.specs.inner.Reading.{leading, behind}
 use Rattle.lt_lexer.proofs.Bools.{left_of, right_of}
 use Rattle.lt_lexer.proofs.Runs.{leading-longest, leading-behind}
-use Rattle.lt_lexer.proofs.Symbols.{as_symbol, each_symbol}
+use Rattle.lt_lexer.proofs.Symbols.{or_open, each_that}
 
 -- the two bytes that a text begins with
 pub begins_two : (x y b : ℕ) (bs : List ℕ) → begins_with (x ∷ y ∷ []) (b ∷ bs) ≡ true → (b ≡ x) × (bs ≡ y ∷ drop 1 bs)
@@ -47,9 +48,9 @@ pub record Start (kind : TokenKind) (bytes : List ℕ) : Type 0 where
   pub no_blank : is_blank byte ≡ false
 
 -- a symbol begins with a byte that no word and no number begins with, by cases
-symbol_start-each : (sign : Sign) → Start Symbol (spelled (as_symbol sign))
+symbol_start-each : (sign : Sign) → Start Symbol (spelled (or_open is_symbol sign))
 symbol_start-each s.Open = record { byte = 40; behind = []; parts = refl; starts = (refl, refl); no_blank = refl }
-symbol_start-each sign = record { byte = get_or (spelled (as_symbol sign)) 0 0; behind = drop 1 (spelled (as_symbol sign)); parts = refl; starts = (refl, refl); no_blank = refl }
+symbol_start-each sign = record { byte = get_or (spelled (or_open is_symbol sign)) 0 0; behind = drop 1 (spelled (or_open is_symbol sign)); parts = refl; starts = (refl, refl); no_blank = refl }
 
 -- a token begins with a byte of its kind, and not with a blank
 pub token_start : (kind : TokenKind) (bytes : List ℕ) → IsToken kind bytes → Start kind bytes
@@ -57,7 +58,7 @@ token_start Word [] h = absurd (cc)
 token_start Word (b ∷ bs) h = let letter = left_of (is_ascii_alphabetic b) (list_all is_word_byte bs) h in record { byte = b; behind = bs; parts = refl; starts = letter; no_blank = letter-blank b letter }
 token_start Number [] h = absurd (cc)
 token_start Number (b ∷ bs) h = let digit = left_of (is_ascii_digit b) (continues_number bs) h in record { byte = b; behind = bs; parts = refl; starts = (digit-letter b digit, digit); no_blank = digit-blank b digit }
-token_start Symbol bytes h = subst (Start Symbol) (sym h.2) (each_symbol (λ sign. Start Symbol (spelled sign)) symbol_start-each h.0 h.1)
+token_start Symbol bytes h = subst (Start Symbol) (sym h.2) (each_that is_symbol (λ sign. Start Symbol (spelled sign)) symbol_start-each h.0 h.1)
 
 -- which kind the first byte tells
 pub same_kind : (k j : TokenKind) (b : ℕ) → Starts k b → Starts j b → k ≡ j

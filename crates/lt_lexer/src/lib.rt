@@ -9,12 +9,11 @@
 #![tactic(auto)]
 
 mod byte;
-mod keyword;
 mod laws;
 mod lexer;
 mod piece;
 mod refusal;
-mod symbol;
+mod spelling;
 mod token;
 
 pub use laws::{one_answer_belongs_to_a_text, tokens_apart_are_the_same, tokens_stand_in_turn};

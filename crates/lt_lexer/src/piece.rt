@@ -2,11 +2,12 @@
 
 ghost use Rattle.std.specs.Option.{option_map};
 ghost use Rattle.std.specs.Prelude.{◌≡◌, ◌<◌, ◌≤◌, ◌+◌, length, None, Some, IfSome};
-ghost use Rattle.lt_lexer.specs.inner.Reading.{closed, next_of, next_comment, next_number, next_symbol, first_symbol, fraction, Gives};
+ghost use Rattle.lt_lexer.specs.inner.Reading.{closed, next_of, next_comment, next_number, next_symbol, fraction, Gives};
+ghost use Rattle.lt_lexer.specs.inner.Spelling.{first_symbol};
 
 use crate::byte::{digits, is_blank, line_bytes, word_bytes};
 use crate::refusal::LexRefusal;
-use crate::symbol::first_symbol;
+use crate::spelling::first_symbol;
 use crate::token::TokenKind;
 
 // How many digits a number may have: `most_digits` of lt_num's `specs/Bounds.antt`.

@@ -5,8 +5,7 @@ ghost use Rattle.lt_num.specs.Literal.{IsNumber};
 ghost use Rattle.lt_lexer.specs.Source.{IsTokenOf, token_bytes, IsSign};
 ghost use Rattle.lt_lexer.specs.declared.token.TokenKind.{TokenKind};
 
-use crate::keyword::keyword;
-use crate::symbol::first_symbol;
+use crate::spelling::sign_spelled;
 use lt_ast::{Sign, Span};
 use std::str;
 
@@ -53,14 +52,15 @@ impl Token {
     }
 
     /// Which sign it is.
+    #[tactic(auto, using(crate::proofs::Signs::token_signs))]
     pub fn sign(&self, text: &[u8]) -> Sign
         requires { IsTokenOf text.now self.now }
         ensures { IsSign text.now self.now result }
     {
         match self.kind {
-            TokenKind::Word => keyword(self.bytes(text)).unwrap_or(Sign::Name),
+            TokenKind::Word => sign_spelled(self.bytes(text)).unwrap_or(Sign::Name),
             TokenKind::Number => Sign::Number,
-            TokenKind::Symbol => first_symbol(self.bytes(text)).unwrap(),
+            TokenKind::Symbol => sign_spelled(self.bytes(text)).unwrap(),
         }
     }
 }

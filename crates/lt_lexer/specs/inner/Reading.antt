@@ -1,18 +1,16 @@
 -- How the first piece of a text is found: the middle between the rules and the code.
-use Rattle.std.specs.Prelude.{◌≡◌, ℕ, Bool, nat_eq, nat_le, List, [], ◌∷◌, ◌++◌, drop, length, count_by, Some, None, Ok, Err, if◌then◌else◌, codes}
+use Rattle.std.specs.Prelude.{◌≡◌, ℕ, Bool, nat_le, List, [], ◌∷◌, ◌++◌, drop, length, count_by, Some, None, Ok, Err, if◌then◌else◌, codes}
 use Rattle.std.specs.declared.option.Option.{Option}
 use Rattle.std.specs.declared.result.Result.{Result}
-use Rattle.std.specs.Cmp.Lexicographic.{pointwise}
-use Rattle.std.specs.List.{find}
 use Rattle.std.specs.Char.{is_ascii_digit, is_ascii_alphabetic}
 use Rattle.lt_num.specs.Bounds.{most_digits}
 use Rattle.lt_num.specs.Literal.{is_point}
 use Rattle.lt_ast.specs.Signs.{spelled}
 use Rattle.lt_ast.specs.declared.sign.Sign.{Sign}
-use Rattle.lt_ast.specs.declared.sign.Sign.TheVariants as s
 use Rattle.lt_lexer.specs.Byte.{is_blank, is_word_byte, is_in_line, begins_with}
 use Rattle.lt_lexer.specs.Piece.{Piece, blank, line_comment, block_comment, token, bytes_of, begins_line_comment, begins_block_comment, kind_of}
 use Rattle.lt_lexer.specs.Tokenization.{Fault, bad_byte, open_comment, number_too_long, refusal_at}
+use Rattle.lt_lexer.specs.inner.Spelling.{first_symbol}
 use Rattle.lt_lexer.specs.declared.token.TokenKind.TheVariants.{Word, Number, Symbol}
 use Rattle.lt_lexer.specs.declared.refusal.LexRefusal.{LexRefusal}
 use Rattle.lt_lexer.specs.declared.piece.Piece as code
@@ -26,30 +24,6 @@ leading p (b ∷ bs) = if p b then b ∷ leading p bs else []
 abbrev pub behind : (ℕ → Bool) → List ℕ → List ℕ
 behind p [] = []
 behind p (b ∷ bs) = if p b then behind p bs else b ∷ bs
-
--- every symbol
-abbrev pub symbols : List Sign
-symbols =
-    s.Open ∷ s.Close ∷ s.OpenBrace ∷ s.CloseBrace ∷ s.OpenBracket ∷ s.CloseBracket
-    ∷ s.Colon ∷ s.Semicolon ∷ s.Comma ∷ s.Equal ∷ s.Unequal ∷ s.Less
-    ∷ s.LessEqual ∷ s.Greater ∷ s.GreaterEqual ∷ s.Plus ∷ s.Minus ∷ s.Star
-    ∷ s.Slash ∷ s.Implies ∷ s.Bar ∷ s.Priority ∷ s.Parallel ∷ s.Tilde
-    ∷ []
-
--- the symbol that is spelled so
-abbrev pub symbol_spelled : List ℕ → Option Sign
-symbol_spelled bytes = find (λ sign. pointwise nat_eq (spelled sign) bytes) symbols
-
--- the first of two that is there
-abbrev pub or_else : {X : Type 0} → Option X → Option X → Option X
-or_else None other = other
-or_else (Some x) other = Some x
-
--- the longest symbol at the front
-abbrev pub first_symbol : List ℕ → Option Sign
-first_symbol [] = None
-first_symbol (a ∷ []) = symbol_spelled (a ∷ [])
-first_symbol (a ∷ b ∷ bs) = or_else (symbol_spelled (a ∷ b ∷ [])) (symbol_spelled (a ∷ []))
 
 -- what is first in a text: nothing, where it is over, a piece and what follows it, or a fault
 pub data Next : Type 0 where

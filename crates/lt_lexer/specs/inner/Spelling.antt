@@ -1,0 +1,32 @@
+-- Signs by their letters.
+use Rattle.std.specs.Prelude.{ℕ, nat_eq, List, [], ◌∷◌, None}
+use Rattle.std.specs.declared.option.Option.{Option}
+use Rattle.std.specs.Cmp.Lexicographic.{pointwise}
+use Rattle.std.specs.List.{find}
+use Rattle.std.specs.Option.{option_or}
+use Rattle.lt_ast.specs.Signs.{spelled}
+use Rattle.lt_ast.specs.declared.sign.Sign.{Sign}
+use Rattle.lt_ast.specs.declared.sign.Sign.TheVariants as s
+
+-- every sign that has letters of its own
+abbrev pub signs : List Sign
+signs =
+    s.Node ∷ s.Returns ∷ s.Let ∷ s.In ∷ s.Exist ∷ s.Bool ∷ s.Int ∷ s.Real
+    ∷ s.Trace ∷ s.Ref ∷ s.Fby ∷ s.Loop ∷ s.Assert ∷ s.Raise ∷ s.Catch ∷ s.Do
+    ∷ s.Trap ∷ s.Try ∷ s.Exception ∷ s.Pre ∷ s.Not ∷ s.And ∷ s.Or ∷ s.Xor
+    ∷ s.If ∷ s.Then ∷ s.Else ∷ s.Div ∷ s.Mod ∷ s.True ∷ s.False ∷ s.Run
+    ∷ s.Open ∷ s.Close ∷ s.OpenBrace ∷ s.CloseBrace ∷ s.OpenBracket ∷ s.CloseBracket
+    ∷ s.Colon ∷ s.Semicolon ∷ s.Comma ∷ s.Equal ∷ s.Unequal ∷ s.Less
+    ∷ s.LessEqual ∷ s.Greater ∷ s.GreaterEqual ∷ s.Plus ∷ s.Minus ∷ s.Star
+    ∷ s.Slash ∷ s.Implies ∷ s.Bar ∷ s.Priority ∷ s.Parallel ∷ s.Tilde
+    ∷ []
+
+-- the one that is spelled so
+abbrev pub sign_spelled : List ℕ → Option Sign
+sign_spelled bytes = find (λ sign. pointwise nat_eq (spelled sign) bytes) signs
+
+-- the longest symbol at the front of a text that begins with no letter: each symbol has one byte or two
+abbrev pub first_symbol : List ℕ → Option Sign
+first_symbol [] = None
+first_symbol (a ∷ []) = sign_spelled (a ∷ [])
+first_symbol (a ∷ b ∷ bs) = option_or (sign_spelled (a ∷ b ∷ [])) (sign_spelled (a ∷ []))
