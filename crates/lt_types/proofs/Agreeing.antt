@@ -4,7 +4,7 @@ use Rattle.lt_ast.specs.declared.span.Span.{Span}
 use Rattle.lt_ast.specs.declared.group.TypeName.{TypeName}
 use Rattle.lt_ast.specs.declared.group.TypeName.TheVariants as t
 use Rattle.lt_types.specs.Operators.{same_type, is_value}
-use Rattle.lt_types.specs.Refusals.{unless, or_else, typed, operands, branches}
+use Rattle.lt_types.specs.Refusals.{unless, first_nonempty, typed, operands, branches}
 use Rattle.lt_types.specs.declared.refusal.TypeRefusal.{TypeRefusal}
 use Rattle.lt_types.specs.declared.refusal.TypeRefusal.TheVariants.{Mismatch}
 
@@ -25,16 +25,16 @@ pub nil_right : (xs ys : List TypeRefusal) → xs ++ ys ≡ [] → ys ≡ []
 nil_right [] ys e = e
 nil_right (x ∷ xs) ys e = absurd (cc)
 
-pub nil_or_else : {xs ys : List TypeRefusal} → xs ≡ [] → ys ≡ [] → or_else xs ys ≡ []
-nil_or_else p q = λ i. or_else (p i) (q i)
+pub nil_first_nonempty : {xs ys : List TypeRefusal} → xs ≡ [] → ys ≡ [] → first_nonempty xs ys ≡ []
+nil_first_nonempty p q = λ i. first_nonempty (p i) (q i)
 
-pub or_else_left : (xs ys : List TypeRefusal) → or_else xs ys ≡ [] → xs ≡ []
-or_else_left [] ys e = refl
-or_else_left (x ∷ xs) ys e = e
+pub first_nonempty_left : (xs ys : List TypeRefusal) → first_nonempty xs ys ≡ [] → xs ≡ []
+first_nonempty_left [] ys e = refl
+first_nonempty_left (x ∷ xs) ys e = e
 
-pub or_else_right : (xs ys : List TypeRefusal) → or_else xs ys ≡ [] → ys ≡ []
-or_else_right [] ys e = e
-or_else_right (x ∷ xs) ys e = absurd (cc)
+pub first_nonempty_right : (xs ys : List TypeRefusal) → first_nonempty xs ys ≡ [] → ys ≡ []
+first_nonempty_right [] ys e = e
+first_nonempty_right (x ∷ xs) ys e = absurd (cc)
 
 -- of a test
 pub unless_clean : {b : Bool} (r : TypeRefusal) → b ≡ true → unless b r ≡ []
@@ -243,8 +243,8 @@ with_choice {C} {H} {J} {cs} {rs} {ss} {c} {o} {q} at d a b = record {
       let h = a.back (nil_left rs _ rest) in
       let last = nil_right rs _ rest in
       let j = b.back (nil_left ss _ last) in
-      let own : or_else (unless (same_type g.0 t.Bool) (Mismatch at)) (operands is_value o q at) ≡ [] = sym (ap (λ x. branches x o q at) (d.is_shown g.0 g.1)) ∙ nil_right ss _ last in
-      let s = operands_back is_value at (a.is_shown h.0 h.1) (b.is_shown j.0 j.1) (or_else_right (unless (same_type g.0 t.Bool) (Mismatch at)) _ own) in
-      let condition = same-is g.0 t.Bool (unless_back (same_type g.0 t.Bool) _ (or_else_left (unless (same_type g.0 t.Bool) (Mismatch at)) _ own)) in
+      let own : first_nonempty (unless (same_type g.0 t.Bool) (Mismatch at)) (operands is_value o q at) ≡ [] = sym (ap (λ x. branches x o q at) (d.is_shown g.0 g.1)) ∙ nil_right ss _ last in
+      let s = operands_back is_value at (a.is_shown h.0 h.1) (b.is_shown j.0 j.1) (first_nonempty_right (unless (same_type g.0 t.Bool) (Mismatch at)) _ own) in
+      let condition = same-is g.0 t.Bool (unless_back (same_type g.0 t.Bool) _ (first_nonempty_left (unless (same_type g.0 t.Bool) (Mismatch at)) _ own)) in
       (h.0, (subst C condition g.1, h.1, subst J s.0 j.1, s.1));
 }

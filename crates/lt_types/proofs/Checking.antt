@@ -5,16 +5,9 @@ use Rattle.lt_types.specs.Answer.{Leads, first, memory}
 use Rattle.lt_types.specs.declared.refusal.TypeRefusal.{TypeRefusal}
 use Rattle.lt_types.specs.declared.refusal.TypeRefusal.TheVariants.{Memory}
 use Rattle.lt_types.proofs.Leading.{Leads_more, Leads_behind}
-use Rattle.lt_types.specs.Readable.{InDeclarations}
 use Rattle.lt_types.specs.Refusals.{type_refusals}
-use Rattle.lt_types.specs.Spelled.{HasText}
 use Rattle.lt_types.specs.Typing.{IsWellTyped}
 use Rattle.lt_types.proofs.WellTyped.{well_typed_is_unrefused}
-use Rattle.lt_types.proofs.Literals.{readable}
-
--- the ranges of a spelled program can be read
-pub spelled_read : (ds : List Declaration) → HasText ds → InDeclarations ds
-spelled_read ds h = readable ds h
 
 -- where no rule is broken, the program is well typed
 pub unrefused_typed : (decimals : ℕ) (ds : List Declaration) → type_refusals decimals ds ≡ [] → IsWellTyped decimals ds
@@ -28,4 +21,4 @@ leads_nothing r rs (memory rs') e = refl
 pub well_typed_only : (r : TypeRefusal) (decimals : ℕ) (ds : List Declaration) → Leads r (type_refusals decimals ds) → IsWellTyped decimals ds → r ≡ Memory
 well_typed_only r decimals ds h k = leads_nothing r (type_refusals decimals ds) h ((well_typed_is_unrefused decimals ds).0 k)
 
-pub ruleset checked = (Leads_more, Leads_behind, spelled_read, unrefused_typed, well_typed_only)
+pub ruleset checked = (Leads_more, Leads_behind, unrefused_typed, well_typed_only)

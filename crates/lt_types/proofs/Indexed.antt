@@ -10,8 +10,8 @@ use Rattle.std.proofs.lemmas.List.{length-map, length-reverse}
 use Rattle.std.proofs.lemmas.Map.Text.{hash_map_updates_text}
 use Rattle.std.proofs.lemmas.Slice.Eq.{bytes_eq-Decides}
 use Rattle.indexmap.specs.IndexMap.{IndexMap, get_by_text}
-use Rattle.lt_types.specs.Scoping.{newest}
-use Rattle.lt_types.specs.Stacks.{item_name, names_of, Hides, Leads_to, IsIndexed}
+use Rattle.lt_types.specs.inner.Scoping.{newest}
+use Rattle.lt_types.specs.inner.Stacks.{item_name, names_of, Hides, Leads_to, IsIndexed}
 use Rattle.lt_types.specs.declared.name_stack.Item.{Item}
 use Rattle.lt_types.proofs.Stacks.{turned}
 

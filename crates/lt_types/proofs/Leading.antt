@@ -1,7 +1,7 @@
 -- What is refused first stays so, where more follows.
 use Rattle.std.proofs.Common.{◌≡◌, List, [], ◌∷◌, ◌++◌, sym, subst}
 use Rattle.lt_types.specs.Answer.{Leads, first, memory}
-use Rattle.lt_types.specs.Refusals.{or_else}
+use Rattle.lt_types.specs.Refusals.{first_nonempty}
 use Rattle.lt_types.specs.declared.refusal.TypeRefusal.{TypeRefusal}
 use Rattle.lt_types.specs.declared.refusal.TypeRefusal.TheVariants.{Memory}
 
@@ -27,14 +27,14 @@ pub Leads_first : (r : TypeRefusal) (rs : List TypeRefusal) → Leads r (r ∷ r
 Leads_first r rs = first r rs
 
 -- where the second list counts only if the first is empty
-pub Leads_or_else : {r : TypeRefusal} {xs : List TypeRefusal} (ys : List TypeRefusal) → Leads r xs → Leads r (or_else xs ys)
-Leads_or_else ys (first r rs) = first r rs
-Leads_or_else ys (memory rs) = memory (or_else rs ys)
+pub Leads_first_nonempty : {r : TypeRefusal} {xs : List TypeRefusal} (ys : List TypeRefusal) → Leads r xs → Leads r (first_nonempty xs ys)
+Leads_first_nonempty ys (first r rs) = first r rs
+Leads_first_nonempty ys (memory rs) = memory (first_nonempty rs ys)
 
 -- and the first is
-pub Leads_else : {r : TypeRefusal} {xs ys : List TypeRefusal} → xs ≡ [] → Leads r ys → Leads r (or_else xs ys)
-Leads_else {r} {xs} {ys} e h = subst (λ zs. Leads r (or_else zs ys)) (sym e) h
+pub Leads_else : {r : TypeRefusal} {xs ys : List TypeRefusal} → xs ≡ [] → Leads r ys → Leads r (first_nonempty xs ys)
+Leads_else {r} {xs} {ys} e h = subst (λ zs. Leads r (first_nonempty zs ys)) (sym e) h
 
 pub ruleset leads = (Leads_more, Leads_behind, Leads_memory, Leads_alone, Leads_first)
 
-pub ruleset leads_in_ranges = (Leads_more, Leads_behind, Leads_memory, Leads_alone, Leads_first, Leads_or_else, Leads_else)
+pub ruleset leads_in_ranges = (Leads_more, Leads_behind, Leads_memory, Leads_alone, Leads_first, Leads_first_nonempty, Leads_else)

@@ -7,6 +7,5 @@ pub mod Stacks
 pub mod Naming
 pub mod Scopes
 pub mod Tracing
-pub mod Literals
 pub mod Checking
 pub mod Indexed

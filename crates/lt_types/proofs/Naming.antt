@@ -1,5 +1,5 @@
 -- Names that are used, and their arguments.
-use Rattle.std.proofs.Common.{◌≡◌, ◌≢◌, ◌<◌, ◌≤◌, suc, true, false, List, [], ◌∷◌, Option, Some, None, map, length, refl, ap, subst, arith}
+use Rattle.std.proofs.Common.{◌≡◌, ◌≢◌, ◌<◌, ◌≤◌, suc, true, false, List, [], ◌∷◌, Option, Some, None, map, length, refl, ap, arith}
 use Rattle.lt_ast.specs.declared.group.TypeName.{TypeName}
 use Rattle.lt_ast.specs.declared.group.TypeName.TheVariants as t
 use Rattle.lt_ast.specs.declared.name.Name.{Name}
@@ -12,12 +12,11 @@ use Rattle.lt_ast.specs.inner.Lists.{arguments_of}
 use Rattle.lt_ast.specs.View.{word, named_exp, argument}
 use Rattle.lt_ast.proofs.Public.{arguments_list}
 use Rattle.lt_types.specs.Environment.{Environment, macro}
-use Rattle.lt_types.specs.Given.{used}
-use Rattle.lt_types.specs.Readable.{InExp}
+use Rattle.lt_types.specs.inner.Given.{used}
 use Rattle.lt_types.specs.Operators.{same_type, serves_as}
-use Rattle.lt_types.specs.Refusals.{span_of, alone, as_many, arguments_misfit}
+use Rattle.lt_types.specs.Refusals.{alone, as_many, arguments_misfit}
 use Rattle.lt_types.specs.Answer.{Leads, first}
-use Rattle.lt_types.specs.Scoping.{param_view}
+use Rattle.lt_types.specs.inner.Scoping.{param_view}
 use Rattle.lt_types.specs.declared.entry.Param.{Param}
 use Rattle.lt_types.specs.declared.refusal.TypeRefusal.TheVariants.{Arity}
 
@@ -25,17 +24,6 @@ use Rattle.lt_types.specs.declared.refusal.TypeRefusal.TheVariants.{Arity}
 pub named_used : (n : Name) (o : Option Args) → named_exp n (back-Expr-Named-1 o) ≡ used (word n) o
 named_used n None = refl
 named_used n (Some args) = ap (s.called (word n)) (arguments_list args.items)
-
--- the ranges in it
-pub named_read : (n : Name) (o : Option Args) → InExp (named_exp n (back-Expr-Named-1 o)) → InExp (used (word n) o)
-named_read n o h = subst InExp (named_used n o) h
-
-pub ruleset named_steps = (named_used, named_read)
-
--- its place
-pub named_place : (n : Name) (o : Option Args) → span_of (named_exp n (back-Expr-Named-1 o)) ≡ n.span
-named_place n None = refl
-named_place n (Some args) = refl
 
 -- as many arguments as parameters
 pub as_many_same : (args : List Arg) (params : List Param) → length args ≡ length params → as_many (arguments_of (map argument args)) (map param_view params) ≡ true

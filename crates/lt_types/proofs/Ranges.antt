@@ -11,12 +11,13 @@ use Rattle.lt_num.specs.declared.fault.Arith.{Arith}
 use Rattle.lt_num.specs.declared.fault.Arith.TheVariants.{Overflow}
 use Rattle.lt_num.specs.declared.fixed.Fixed.{Fixed}
 use Rattle.lt_num.proofs.Public.{is_rounded, rounded_is, ten-not_zero}
-use Rattle.lt_types.specs.Literal.{figure_type, figure_text, raw_of}
+use Rattle.lt_ast.specs.Literals.{figure_type, figure_text}
+use Rattle.lt_types.specs.Literal.{raw_of}
 use Rattle.lt_types.specs.Typing.{IsRange, IsGroupRange}
 use Rattle.lt_types.specs.Refusals.{unless, end_type, end_size, in_order, range_of, range_refusals}
 use Rattle.lt_types.specs.declared.refusal.TypeRefusal.TheVariants.{Mismatch, RangeTooLarge}
 use Rattle.lt_types.specs.Answer.{Leads, first}
-use Rattle.lt_types.proofs.Agreeing.{Agrees, none, same, nil_both, nil_left, nil_right, nil_or_else, or_else_left, or_else_right, unless_clean, unless_back}
+use Rattle.lt_types.proofs.Agreeing.{Agrees, none, same, nil_both, nil_left, nil_right, nil_first_nonempty, first_nonempty_left, first_nonempty_right, unless_clean, unless_back}
 
 -- a number that is there
 abbrev as_read : Fixed → Result Fixed Arith
@@ -84,16 +85,16 @@ range_clean decimals kind range h =
     let low = read_is range.low decimals h.low h.low_read in
     let high = read_is range.high decimals h.high h.high_read in
     let ordered : raw_of decimals range.low ≤ℤ raw_of decimals range.high = subst (λ x. x ≤ℤ raw_of decimals range.high) low.1 (subst (λ y. h.low.raw ≤ℤ y) high.1 h.ordered) in
-    nil_or_else (nil_both ((same (figure_type range.low) kind _).clean h.low_type) ((same (figure_type range.high) kind _).clean h.high_type))
-    (nil_or_else (nil_both (unless_clean _ low.0) (unless_clean _ high.0))
+    nil_first_nonempty (nil_both ((same (figure_type range.low) kind _).clean h.low_type) ((same (figure_type range.high) kind _).clean h.high_type))
+    (nil_first_nonempty (nil_both (unless_clean _ low.0) (unless_clean _ high.0))
     (unless_clean _ (not_below (raw_of decimals range.low) (raw_of decimals range.high) ordered)))
 
 range_back : (decimals : ℕ) (kind : TypeName) (range : Interval) → range_of decimals kind range ≡ [] → IsRange decimals kind range
 range_back decimals kind range e =
-    let types : end_type kind range.low ++ end_type kind range.high ≡ [] = or_else_left (end_type kind range.low ++ end_type kind range.high) _ e in
-    let rest = or_else_right (end_type kind range.low ++ end_type kind range.high) _ e in
-    let sizes : end_size decimals range.low ++ end_size decimals range.high ≡ [] = or_else_left (end_size decimals range.low ++ end_size decimals range.high) _ rest in
-    let last : in_order decimals range ≡ [] = or_else_right (end_size decimals range.low ++ end_size decimals range.high) _ rest in
+    let types : end_type kind range.low ++ end_type kind range.high ≡ [] = first_nonempty_left (end_type kind range.low ++ end_type kind range.high) _ e in
+    let rest = first_nonempty_right (end_type kind range.low ++ end_type kind range.high) _ e in
+    let sizes : end_size decimals range.low ++ end_size decimals range.high ≡ [] = first_nonempty_left (end_size decimals range.low ++ end_size decimals range.high) _ rest in
+    let last : in_order decimals range ≡ [] = first_nonempty_right (end_size decimals range.low ++ end_size decimals range.high) _ rest in
     record {
       low_type = (same (figure_type range.low) kind (Mismatch range.low.span)).back (nil_left (end_type kind range.low) _ types);
       high_type = (same (figure_type range.high) kind (Mismatch range.high.span)).back (nil_right (end_type kind range.low) _ types);

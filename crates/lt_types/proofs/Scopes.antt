@@ -13,10 +13,9 @@ use Rattle.lt_ast.specs.View.{word, groupings, meaning, macro as macro_seen, par
 use Rattle.lt_ast.proofs.Public.{groups_list}
 use Rattle.lt_types.specs.Environment.{Environment, Binding, Entry, Role, variables, with_bindings, with_names, with_group, with_groups, with_group_names, with_parameters, with_macro, with_exceptions, group_entry}
 use Rattle.lt_types.specs.Environment as e
-use Rattle.lt_types.specs.Given.{parameters_view, first_judged, first_type}
+use Rattle.lt_types.specs.inner.Given.{parameters_view, first_judged, first_type}
 use Rattle.lt_types.specs.Refusals.{first_wanted, group_refusals, groups_refusals, macro_refusals, parameters_refusals}
-use Rattle.lt_types.specs.Readable.{InGroups}
-use Rattle.lt_types.specs.Scoping.{oldest, since, declared_since, with_oldest_names, with_oldest_exceptions}
+use Rattle.lt_types.specs.inner.Scoping.{oldest, since, declared_since, with_oldest_names, with_oldest_exceptions}
 use Rattle.lt_types.specs.Answer.{Leads}
 use Rattle.lt_types.specs.declared.refusal.TypeRefusal.{TypeRefusal}
 use Rattle.lt_types.proofs.Leading.{Leads_more}
@@ -126,9 +125,6 @@ pub ruleset scope_ends = (groups_end, groups_more, groups_since, parameters_end,
 -- GROUPS OF A LIST
 
 -- as the code has them
-pub groups_read : (g : Groups) → InGroups (groupings g) → InGroups (groups_of (map group_of (out-Groups g).items.items))
-groups_read g h = subst InGroups (groups_list g) h
-
 pub groups_refusals_list : (role : Role) (env : Environment) (taken : List (List ℕ)) (g : Groups)
     → groups_refusals role env taken (groupings g) ≡ groups_refusals role env taken (groups_of (map group_of (out-Groups g).items.items))
 groups_refusals_list role env taken g = ap (groups_refusals role env taken) (groups_list g)
@@ -153,16 +149,11 @@ with_groups_next role env behind items i x h is e =
     ap (λ l. with_groups role env (groups_of (map group_of l))) (drop_next items i x h is)
     ∙ ap (λ env'. with_groups role env' (groups_of (map group_of (drop (i + 1) items)))) (sym e)
 
--- the rest of the ranges, and the names that are there
-pub groups_rest_read : (items : List Group) (i : ℕ) (x : Group) → i < length items → x ≡ get_or items i x → InGroups (groups_of (map group_of (drop i items))) → InGroups (groups_of (map group_of (drop (i + 1) items)))
-groups_rest_read items i x h is k =
-    let parts : InGroups (groups_of (map group_of (x ∷ drop (i + 1) items))) = subst (λ l. InGroups (groups_of (map group_of l))) (drop_next items i x h is) k in
-    parts.1
-
+-- the names that are there
 pub group_from : (role : Role) (from : ℕ) (env behind : Environment) (g : Grouping) → from ≤ length env.names → behind ≡ with_group role env g → from ≤ length behind.names
 group_from role from env behind g h e = omega (arith, group_more role env g, ap (λ env'. length env'.names) e)
 
-pub ruleset groups_steps = (groups_read, groups_refusals_list, with_groups_list, groups_next, with_groups_next, drop_next, group_more)
+pub ruleset groups_steps = (groups_refusals_list, with_groups_list, groups_next, with_groups_next, drop_next, group_more)
 
 -- a first value, whose type is known
 pub first_known : (kind : TypeName) (env : Environment) (first : MaybeExp) → first_wanted kind env first ≡ first_judged kind (first_type env first) first

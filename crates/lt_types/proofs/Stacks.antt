@@ -11,7 +11,7 @@ use Rattle.lt_types.specs.Answer.{Leads, first}
 use Rattle.lt_types.specs.Refusals.{new_names, unless}
 use Rattle.lt_types.specs.declared.entry.Entry.{Entry}
 use Rattle.lt_types.specs.declared.refusal.TypeRefusal.TheVariants.{Twice}
-use Rattle.lt_types.specs.Scoping.{newest, oldest, since, bindings, entry_view}
+use Rattle.lt_types.specs.inner.Scoping.{newest, oldest, since, bindings, entry_view}
 
 -- one more
 pub turned : {X : Type 0} (xs : List X) (x : X) → reverse (xs ++ (x ∷ [])) ≡ x ∷ reverse xs

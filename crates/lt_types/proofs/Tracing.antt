@@ -7,17 +7,13 @@ use Rattle.lt_ast.specs.declared.trace.TraceExpr.{TraceExpr}
 use Rattle.lt_ast.specs.declared.trace.Parts.{Parts, out-Parts}
 use Rattle.lt_ast.proofs.Public.{traces_list, alternatives_list}
 use Rattle.lt_ast.specs.inner.Rows.{part_of}
-use Rattle.lt_types.specs.Answer.{Checks}
+use Rattle.lt_types.specs.inner.Checks.{Checks}
 use Rattle.lt_types.specs.Environment.{Environment}
-use Rattle.lt_types.specs.Readable.{InTraces, InAlternatives}
 use Rattle.lt_types.specs.Refusals.{traces_refusals, alternatives_refusals}
 use Rattle.lt_types.specs.declared.refusal.TypeRefusal.{TypeRefusal}
 use Rattle.lt_types.proofs.Stacks.{drop_next}
 
 -- traces
-pub rows_read : (v : Vec TraceExpr Global) (xs : List TraceExpr) → xs ≡ v.items → InTraces (trace_row (hidden-the_row-TraceExpr-1 v)) → InTraces (traces_of (map trace xs))
-rows_read v xs e h = subst (λ l. InTraces (traces_of (map trace l))) (sym e) (subst InTraces (traces_list v) h)
-
 pub rows_refusals : (env : Environment) (v : Vec TraceExpr Global) (xs : List TraceExpr) → xs ≡ v.items → traces_refusals env (traces_of (map trace xs)) ≡ traces_refusals env (trace_row (hidden-the_row-TraceExpr-1 v))
 rows_refusals env v xs e = ap (λ l. traces_refusals env (traces_of (map trace l))) e ∙ ap (traces_refusals env) (sym (traces_list v))
 
@@ -26,10 +22,7 @@ pub Checks_same : {X : Type 0} (r : Result X TypeRefusal) (xs ys : List TypeRefu
 Checks_same r xs ys e h = subst (λ l. Checks r l) e h
 
 -- alternatives
-pub parts_read : (p : Parts) → InAlternatives (alternatives p) → InAlternatives (alternatives_of (map part_of (out-Parts p).items.items))
-parts_read p h = subst InAlternatives (alternatives_list p) h
-
 pub parts_refusals : (env : Environment) (p : Parts) → alternatives_refusals env (alternatives p) ≡ alternatives_refusals env (alternatives_of (map part_of (out-Parts p).items.items))
 parts_refusals env p = ap (alternatives_refusals env) (alternatives_list p)
 
-pub ruleset parts_steps = (parts_read, parts_refusals, drop_next)
+pub ruleset parts_steps = (parts_refusals, drop_next)

@@ -6,9 +6,10 @@ use Rattle.lt_ast.specs.Syntax as s
 use Rattle.lt_ast.specs.Syntax.{Word, Exp, Argument, Arguments, Limits, Braces, Alternative, Alternatives, Trace, Traces, Grouping, Groupings, MaybeExp, MaybeTrace, Parameters, Meaning, Macro, Declaration}
 use Rattle.lt_types.specs.Environment.{Environment, at_start, Entry, variable, parameter, macro, Parameter, by_value, by_ref, found, Role, variables, parameters, with_group, with_groups, with_group_names, with_groups_names, with_parameters, with_macro, with_exceptions, with_declaration, with_inputs_and_outputs}
 use Rattle.lt_types.specs.Operators.{serves_as, unary_takes, unary_gives, binary_takes, binary_gives}
-use Rattle.lt_types.specs.Literal.{figure_type}
+use Rattle.lt_ast.specs.Literals.{figure_type}
 use Rattle.lt_types.specs.Typing.{HasType, ArgumentFits, ArgumentsFit, AreLimits, IsBraced, IsAlternative, AreAlternatives, AreTraces, IsGroup, AreGroups, IsFirst, IsHandler, AreParameters, IsMeaning, IsMacro, IsTrace, IsDeclaration, AreDeclarations, IsWellTyped, may_be_written, has_node}
-use Rattle.lt_types.specs.Refusals.{unless, span_of, entry_type, type_of, known, applied, argument_misfit, arguments_misfit, as_many, first_wanted, first_place, exp_refusals, argument_refusals, arguments_refusals, limits_refusals, braces_refusals, alternative_refusals, alternatives_refusals, traces_refusals, group_refusals, groups_refusals, first_refusals, handler_refusals, parameters_refusals, meaning_refusals, macro_refusals, trace_refusals, declaration_refusals, declarations_refusals, type_refusals}
+use Rattle.lt_ast.specs.Places.{span_of}
+use Rattle.lt_types.specs.Refusals.{unless, entry_type, type_of, known, applied, argument_misfit, arguments_misfit, as_many, first_wanted, first_place, exp_refusals, argument_refusals, arguments_refusals, limits_refusals, braces_refusals, alternative_refusals, alternatives_refusals, traces_refusals, group_refusals, groups_refusals, first_refusals, handler_refusals, parameters_refusals, meaning_refusals, macro_refusals, trace_refusals, declaration_refusals, declarations_refusals, type_refusals}
 use Rattle.lt_types.specs.Law.{TypesAreOne, WellTypedIsUnrefused}
 use Rattle.lt_types.specs.declared.refusal.TypeRefusal.{TypeRefusal}
 use Rattle.lt_types.specs.declared.refusal.TypeRefusal.TheVariants.{Mismatch, Arity, NoNode}

@@ -1,9 +1,5 @@
--- What an answer of the code says of a list of broken rules.
-use Rattle.std.specs.Prelude.{◌≡◌, List, [], ◌∷◌, Ok, Err}
-use Rattle.std.specs.declared.option.Option.{Option}
-use Rattle.std.specs.declared.option.Option.TheVariants.{Some}
-use Rattle.std.specs.declared.result.Result.{Result}
-use Rattle.lt_ast.specs.declared.group.TypeName.{TypeName}
+-- The refusal that is answered.
+use Rattle.std.specs.Prelude.{List, ◌∷◌}
 use Rattle.lt_types.specs.declared.refusal.TypeRefusal.{TypeRefusal}
 use Rattle.lt_types.specs.declared.refusal.TypeRefusal.TheVariants.{Memory}
 
@@ -11,13 +7,3 @@ use Rattle.lt_types.specs.declared.refusal.TypeRefusal.TheVariants.{Memory}
 pub data Leads : TypeRefusal → List TypeRefusal → Type 0 where
   first : (r : TypeRefusal) (rs : List TypeRefusal) → Leads r (r ∷ rs)
   memory : (rs : List TypeRefusal) → Leads Memory rs
-
--- The answer is Ok where none of these rules is broken, and else it is the first one.
-abbrev pub Checks : {X : Type 0} → Result X TypeRefusal → List TypeRefusal → Type 0
-Checks (Ok x) rs = rs ≡ []
-Checks (Err r) rs = Leads r rs
-
--- the same, and where it is Ok, it is the type that is shown
-abbrev pub Answers : Result TypeName TypeRefusal → List TypeRefusal → Option TypeName → Type 0
-Answers (Ok k) rs shown = (rs ≡ []) × (shown ≡ Some k)
-Answers (Err r) rs shown = Leads r rs

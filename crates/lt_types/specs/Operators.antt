@@ -5,7 +5,9 @@ use Rattle.lt_ast.specs.declared.group.TypeName.TheVariants as t
 use Rattle.lt_ast.specs.declared.expr.UnOp.{UnOp}
 use Rattle.lt_ast.specs.declared.expr.UnOp.TheVariants as u
 use Rattle.lt_ast.specs.declared.expr.BinOp.{BinOp}
-use Rattle.lt_ast.specs.declared.expr.BinOp.TheVariants as b
+use Rattle.lt_ast.specs.declared.expr.OperatorClass.{OperatorClass}
+use Rattle.lt_ast.specs.declared.expr.OperatorClass.TheVariants.{Connective, Equality, Order, Arithmetic, Whole}
+use Rattle.lt_ast.specs.Operators.{class_of}
 
 -- whether two types are one
 abbrev pub same_type : TypeName → TypeName → Bool
@@ -33,45 +35,31 @@ abbrev pub unary_takes : UnOp → TypeName → Bool
 unary_takes u.Not kind = same_type kind t.Bool
 unary_takes u.Neg kind = is_number kind
 
--- the types that the two operands of an operator may have, both the same one
+-- the types that the two operands of an operator of this class may have, both the same one
+abbrev pub class_takes : OperatorClass → TypeName → Bool
+class_takes Connective kind = same_type kind t.Bool
+class_takes Equality kind = is_value kind
+class_takes Order kind = is_number kind
+class_takes Arithmetic kind = is_number kind
+class_takes Whole kind = same_type kind t.Int
+
+-- those of an operator
 abbrev pub binary_takes : BinOp → TypeName → Bool
-binary_takes b.And kind = same_type kind t.Bool
-binary_takes b.Or kind = same_type kind t.Bool
-binary_takes b.Xor kind = same_type kind t.Bool
-binary_takes b.Implies kind = same_type kind t.Bool
-binary_takes b.Eq kind = is_value kind
-binary_takes b.Ne kind = is_value kind
-binary_takes b.Lt kind = is_number kind
-binary_takes b.Le kind = is_number kind
-binary_takes b.Gt kind = is_number kind
-binary_takes b.Ge kind = is_number kind
-binary_takes b.Add kind = is_number kind
-binary_takes b.Sub kind = is_number kind
-binary_takes b.Mul kind = is_number kind
-binary_takes b.Div kind = is_number kind
-binary_takes b.DivWord kind = same_type kind t.Int
-binary_takes b.Mod kind = same_type kind t.Int
+binary_takes op kind = class_takes (class_of op) kind
 
 -- the type of the whole, where the operand has this one
 abbrev pub unary_gives : UnOp → TypeName → TypeName
 unary_gives u.Not kind = t.Bool
 unary_gives u.Neg kind = kind
 
--- the type of the whole, where the left operand has this one
+-- the type of the whole behind an operator of this class, where the left operand has this one
+abbrev pub class_gives : OperatorClass → TypeName → TypeName
+class_gives Connective kind = t.Bool
+class_gives Equality kind = t.Bool
+class_gives Order kind = t.Bool
+class_gives Arithmetic kind = kind
+class_gives Whole kind = kind
+
+-- that behind an operator
 abbrev pub binary_gives : BinOp → TypeName → TypeName
-binary_gives b.And kind = t.Bool
-binary_gives b.Or kind = t.Bool
-binary_gives b.Xor kind = t.Bool
-binary_gives b.Implies kind = t.Bool
-binary_gives b.Eq kind = t.Bool
-binary_gives b.Ne kind = t.Bool
-binary_gives b.Lt kind = t.Bool
-binary_gives b.Le kind = t.Bool
-binary_gives b.Gt kind = t.Bool
-binary_gives b.Ge kind = t.Bool
-binary_gives b.Add kind = kind
-binary_gives b.Sub kind = kind
-binary_gives b.Mul kind = kind
-binary_gives b.Div kind = kind
-binary_gives b.DivWord kind = kind
-binary_gives b.Mod kind = kind
+binary_gives op kind = class_gives (class_of op) kind

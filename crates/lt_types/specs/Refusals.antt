@@ -13,10 +13,12 @@ use Rattle.lt_ast.specs.declared.group.TypeName.{TypeName}
 use Rattle.lt_ast.specs.declared.group.TypeName.TheVariants as t
 use Rattle.lt_ast.specs.Syntax as s
 use Rattle.lt_ast.specs.Syntax.{Word, Figure, Interval, Exp, Argument, Arguments, Limits, Braces, Alternative, Alternatives, Trace, Traces, Grouping, Groupings, MaybeExp, MaybeTrace, Parameters, Meaning, Macro, Declaration}
+use Rattle.lt_ast.specs.Literals.{figure_type}
+use Rattle.lt_ast.specs.Places.{span_of}
 use Rattle.lt_num.specs.Bounds.{most_raw}
 use Rattle.lt_types.specs.Environment.{Parameter, by_value, by_ref, Entry, variable, parameter, macro, Environment, at_start, found, is_among, Role, variables, parameters, with_group, with_groups, with_group_names, with_groups_names, with_parameters, with_macro, with_exceptions, with_declaration, with_inputs_and_outputs}
 use Rattle.lt_types.specs.Operators.{is_value, same_type, serves_as, unary_takes, binary_takes, unary_gives, binary_gives}
-use Rattle.lt_types.specs.Literal.{figure_type, raw_of}
+use Rattle.lt_types.specs.Literal.{raw_of}
 use Rattle.lt_types.specs.Typing.{may_be_written, has_node}
 use Rattle.lt_types.specs.declared.refusal.TypeRefusal.{TypeRefusal}
 use Rattle.lt_types.specs.declared.refusal.TypeRefusal.TheVariants.{Unknown, Twice, Mismatch, Arity, PreOfExpression, EmptyRange, RangeTooLarge, NoNode}
@@ -26,22 +28,10 @@ abbrev pub unless : Bool → TypeRefusal → List TypeRefusal
 unless true refusal = []
 unless false refusal = refusal ∷ []
 
--- the second list, where the first is empty
-abbrev pub or_else : List TypeRefusal → List TypeRefusal → List TypeRefusal
-or_else [] others = others
-or_else (r ∷ rs) others = r ∷ rs
-
--- the place of a whole expression; that of a name with arguments is the name's
-abbrev pub span_of : Exp → Span
-span_of (s.number f) = f.span
-span_of (s.flag b at) = at
-span_of (s.named w) = w.span
-span_of (s.called w args) = w.span
-span_of (s.pre w at) = at
-span_of (s.paren e at) = at
-span_of (s.unary op e at) = at
-span_of (s.binary op e f at) = at
-span_of (s.choose c e f at) = at
+-- the first of two lists that isn't empty, if one isn't
+abbrev pub first_nonempty : List TypeRefusal → List TypeRefusal → List TypeRefusal
+first_nonempty [] others = others
+first_nonempty (r ∷ rs) others = r ∷ rs
 
 -- the type of what a name stands for
 abbrev pub entry_type : Entry → TypeName
@@ -79,7 +69,7 @@ operands takes (Some k) right at = typed (λ other. same_type other k && takes k
 -- an `if` has a Boolean condition, and branches of one type
 abbrev pub branches : Option TypeName → Option TypeName → Option TypeName → Span → List TypeRefusal
 branches None left right at = []
-branches (Some k) left right at = or_else (unless (same_type k t.Bool) (Mismatch at)) (operands is_value left right at)
+branches (Some k) left right at = first_nonempty (unless (same_type k t.Bool) (Mismatch at)) (operands is_value left right at)
 
 -- a name that is used is known
 abbrev pub known : Word → Option Entry → List TypeRefusal
@@ -164,8 +154,8 @@ in_order decimals range = unless (not (int_lt (raw_of decimals range.high) (raw_
 -- a range of numbers of a type: both ends are of the type, then both are within bounds, then they are in order
 abbrev pub range_of : ℕ → TypeName → Interval → List TypeRefusal
 range_of decimals kind range =
-    or_else (end_type kind range.low ++ end_type kind range.high)
-    (or_else (end_size decimals range.low ++ end_size decimals range.high)
+    first_nonempty (end_type kind range.low ++ end_type kind range.high)
+    (first_nonempty (end_size decimals range.low ++ end_size decimals range.high)
     (in_order decimals range))
 
 -- the range of a group of this type; of other types it isn't judged

@@ -10,7 +10,7 @@ use Rattle.lt_num.specs.Literal.{IsRead}
 use Rattle.lt_num.specs.declared.fixed.Fixed.{Fixed}
 use Rattle.lt_types.specs.Environment.{Parameter, by_value, by_ref, Entry, variable, parameter, macro, Environment, at_start, found, is_among, Role, variables, parameters, with_group, with_groups, with_group_names, with_groups_names, with_parameters, with_macro, with_exceptions, with_declaration, with_inputs_and_outputs}
 use Rattle.lt_types.specs.Operators.{is_number, is_value, serves_as, unary_takes, binary_takes, unary_gives, binary_gives}
-use Rattle.lt_types.specs.Literal.{figure_type, figure_text}
+use Rattle.lt_ast.specs.Literals.{figure_type, figure_text}
 
 -- a name that stands for this is, alone, an expression of this type: a macro only where it has no parameters
 abbrev pub StandsFor : Option Entry → TypeName → Type 0

@@ -3,7 +3,7 @@
 ghost use Rattle.std.specs.Prelude.{◌≡◌};
 ghost use Rattle.lt_types.specs.Environment.{group_entry};
 ghost use Rattle.lt_types.specs.Refusals.{entry_type};
-ghost use Rattle.lt_types.specs.Scoping.{entry_view, role_view};
+ghost use Rattle.lt_types.specs.inner.Scoping.{entry_view, role_view};
 
 use lt_ast::TypeName;
 

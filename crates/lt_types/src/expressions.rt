@@ -9,13 +9,11 @@ ghost use Rattle.lt_ast.specs.inner.Lists.{arguments_of};
 ghost use Rattle.lt_ast.specs.inner.Rows.{IsOperand};
 ghost use Rattle.lt_ast.specs.Syntax.{called};
 ghost use Rattle.lt_ast.specs.View.{argument, exp, word};
-ghost use Rattle.lt_types.specs.Answer.{Answers, Checks};
-ghost use Rattle.lt_types.specs.Given.{argument_type, used};
+ghost use Rattle.lt_types.specs.inner.Checks.{Answers, Checks};
+ghost use Rattle.lt_types.specs.inner.Given.{argument_type, used};
 ghost use Rattle.lt_types.specs.Operators.{binary_gives, binary_takes, unary_gives, unary_takes};
-ghost use Rattle.lt_types.specs.Readable.{InArgument, InArguments, InExp};
 ghost use Rattle.lt_types.specs.Refusals.{argument_refusals, arguments_refusals, branches, exp_refusals, operands, type_of, typed};
 
-use crate::intervals::literal_kind;
 use crate::kinds::{gives_one, gives_two, is_same, is_value, takes_one, takes_two};
 use crate::refusal::TypeRefusal;
 use crate::scope::Scope;
@@ -32,7 +30,6 @@ pub(crate) fn check_expr(
     scope: &mut Scope,
     expr: &Expr,
 ) -> Result<TypeName, TypeRefusal>
-    requires { InExp (exp expr.now) }
     ensures answered { Answers result (exp_refusals scope.old (exp expr.now)) (type_of scope.old (exp expr.now)) }
     ensures kept { OnOk result (scope.new ≡ scope.old) }
 {
@@ -53,15 +50,14 @@ pub(crate) fn check_expr(
 
 // An expression that is no operator between two operands.
 #[cycle(check)]
-#[tactic(auto, using(crate::proofs::Leading::leads, crate::proofs::Naming::named_steps))]
+#[tactic(auto, using(crate::proofs::Leading::leads, crate::proofs::Naming::named_used))]
 fn check_operand(alloc: Global, scope: &mut Scope, expr: &Expr) -> Result<TypeName, TypeRefusal>
     requires operand { IsOperand (exp expr.now) }
-    requires read { InExp (exp expr.now) }
     ensures answered { Answers result (exp_refusals scope.old (exp expr.now)) (type_of scope.old (exp expr.now)) }
     ensures kept { OnOk result (scope.new ≡ scope.old) }
 {
     match expr {
-        Expr::Number(literal) => Ok(literal_kind(literal)),
+        Expr::Number(literal) => Ok(literal.type_name()),
         Expr::Flag(_, _) => Ok(TypeName::Bool),
         Expr::Named(name, args) => check_use(alloc, scope, name, args),
         Expr::Pre(name, at) => check_behind_pre(scope, name, *at),
@@ -89,7 +85,6 @@ fn check_use(
     name: &Name,
     args: &Option<Args>,
 ) -> Result<TypeName, TypeRefusal>
-    requires { InExp (used (word name.now) args.now) }
     ensures answered { Answers result (exp_refusals scope.old (used (word name.now) args.now)) (type_of scope.old (used (word name.now) args.now)) }
     ensures kept { OnOk result (scope.new ≡ scope.old) }
 {
@@ -108,7 +103,6 @@ fn check_call(
     name: &Name,
     args: &[Arg],
 ) -> Result<TypeName, TypeRefusal>
-    requires { InArguments (arguments_of (map argument args.now)) }
     ensures answered { Answers result (exp_refusals scope.old (called (word name.now) (arguments_of (map argument args.now)))) (type_of scope.old (called (word name.now) (arguments_of (map argument args.now)))) }
     ensures kept { OnOk result (scope.new ≡ scope.old) }
 {
@@ -123,7 +117,6 @@ fn check_call(
 #[cycle(check)]
 #[tactic(auto, using(crate::proofs::Leading::leads, crate::proofs::Stacks::drop_next))]
 fn check_args(alloc: Global, scope: &mut Scope, args: &[Arg]) -> Result<Vec<TypeName>, TypeRefusal>
-    requires { InArguments (arguments_of (map argument args.now)) }
     ensures answered { Checks result (arguments_refusals scope.old (arguments_of (map argument args.now))) }
     ensures kinds { IfOk result (λ kinds. map Some kinds.items ≡ map (argument_type scope.old) (map argument args.now)) }
     ensures kept { OnOk result (scope.new ≡ scope.old) }
@@ -139,7 +132,6 @@ fn check_args(alloc: Global, scope: &mut Scope, args: &[Arg]) -> Result<Vec<Type
 #[cycle(check)]
 #[tactic(auto, using(crate::proofs::Leading::leads))]
 fn check_arg(alloc: Global, scope: &mut Scope, arg: &Arg) -> Result<TypeName, TypeRefusal>
-    requires { InArgument (argument arg.now) }
     ensures answered { Answers result (argument_refusals scope.old (argument arg.now)) (argument_type scope.old (argument arg.now)) }
     ensures kept { OnOk result (scope.new ≡ scope.old) }
 {

@@ -3,12 +3,11 @@
 ghost use Rattle.std.specs.Prelude.{◌≡◌, ◌≤◌, ◌++◌, [], IfOk, OnOk, length, map};
 ghost use Rattle.lt_ast.specs.inner.Rows.{group_of, maybe_exp};
 ghost use Rattle.lt_ast.specs.View.{groupings, interval, macro, meaning, words};
-ghost use Rattle.lt_types.specs.Answer.{Checks};
+ghost use Rattle.lt_types.specs.inner.Checks.{Checks};
 ghost use Rattle.lt_types.specs.Environment.{group_parameters, groups_parameters, parameters_of, with_group, with_groups, with_macro, with_parameters};
-ghost use Rattle.lt_types.specs.Given.{first_judged, first_type, parameters_view};
-ghost use Rattle.lt_types.specs.Readable.{InFirst, InGroup, InGroups, InMacro, InMeaning, InParameters};
+ghost use Rattle.lt_types.specs.inner.Given.{first_judged, first_type, parameters_view};
 ghost use Rattle.lt_types.specs.Refusals.{first_place, first_refusals, group_refusals, groups_refusals, macro_refusals, meaning_refusals, parameters_refusals, unless};
-ghost use Rattle.lt_types.specs.Scoping.{declared_since, param_view, role_view};
+ghost use Rattle.lt_types.specs.inner.Scoping.{declared_since, param_view, role_view};
 ghost use Rattle.lt_types.specs.Typing.{may_be_written};
 
 use crate::entry::{Entry, Param, Role};
@@ -32,7 +31,6 @@ pub(crate) fn check_groups(
     from: usize,
     groups: &Groups,
 ) -> Result<(), TypeRefusal>
-    requires read { InGroups (groupings groups.now) }
     requires from { from ≤ length scope.old.names }
     ensures answered { Checks result (groups_refusals (role_view role) scope.old (declared_since from scope.old) (groupings groups.now)) }
     ensures declared { OnOk result (scope.new ≡ with_groups (role_view role) scope.old (groupings groups.now)) }
@@ -53,7 +51,6 @@ fn check_group(
     from: usize,
     group: &Group,
 ) -> Result<(), TypeRefusal>
-    requires read { InGroup (group_of group.now) }
     requires from { from ≤ length scope.old.names }
     ensures answered { Checks result (group_refusals (role_view role) scope.old (declared_since from scope.old) (group_of group.now)) }
     ensures declared { OnOk result (scope.new ≡ with_group (role_view role) scope.old (group_of group.now)) }
@@ -74,7 +71,6 @@ fn check_first(
     scope: &mut Scope,
     first: &Option<Expr>,
 ) -> Result<Option<TypeName>, TypeRefusal>
-    requires { InFirst (maybe_exp first.now) }
     ensures answered { Checks result (first_refusals scope.old (maybe_exp first.now)) }
     ensures kind { IfOk result (λ kind. kind ≡ first_type scope.old (maybe_exp first.now)) }
     ensures kept { OnOk result (scope.new ≡ scope.old) }
@@ -147,7 +143,6 @@ pub(crate) fn check_macro(
     scope: &mut Scope,
     declared: &MacroDecl,
 ) -> Result<(), TypeRefusal>
-    requires { InMacro (macro declared.now) }
     ensures answered { Checks result (macro_refusals scope.old (macro declared.now)) }
     ensures kept { OnOk result (scope.new ≡ scope.old) }
 {
@@ -166,7 +161,6 @@ fn check_params(
     scope: &mut Scope,
     params: &Option<Groups>,
 ) -> Result<(), TypeRefusal>
-    requires { InParameters (parameters_view params.now) }
     ensures answered { Checks result (parameters_refusals scope.old (parameters_view params.now)) }
     ensures declared { OnOk result (scope.new ≡ with_parameters scope.old (parameters_view params.now)) }
 {
@@ -188,7 +182,6 @@ fn check_body(
     wanted: TypeName,
     body: &Body,
 ) -> Result<(), TypeRefusal>
-    requires { InMeaning (meaning body.now) }
     ensures answered { Checks result (meaning_refusals scope.old wanted (meaning body.now)) }
     ensures kept { OnOk result (scope.new ≡ scope.old) }
 {

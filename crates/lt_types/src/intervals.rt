@@ -2,10 +2,10 @@
 
 ghost use Rattle.std.specs.Prelude.{◌≡◌, ◌≤◌, [], string_bytes, IfOk};
 ghost use Rattle.lt_ast.specs.View.{figure, interval};
-ghost use Rattle.lt_num.specs.Literal.{IsLiteral};
-ghost use Rattle.lt_types.specs.Answer.{Checks};
-ghost use Rattle.lt_types.specs.Literal.{figure_text, figure_type, raw_of};
-ghost use Rattle.lt_types.specs.Readable.{AreEnds};
+ghost use Rattle.lt_num.specs.Bounds.{most_decimals};
+ghost use Rattle.lt_types.specs.inner.Checks.{Checks};
+ghost use Rattle.lt_ast.specs.Literals.{figure_text, figure_type};
+ghost use Rattle.lt_types.specs.Literal.{raw_of};
 ghost use Rattle.lt_types.specs.Refusals.{end_size, end_type, in_order, range_of, range_refusals};
 
 use crate::kinds::is_same;
@@ -13,16 +13,6 @@ use crate::refusal::TypeRefusal;
 use lt_ast::{Literal, Range, TypeName};
 use lt_num::{Fixed, read};
 use std::alloc::Global;
-
-// The type of a literal.
-pub(crate) fn literal_kind(literal: &Literal) -> TypeName
-    ensures { result ≡ figure_type (figure literal.now) }
-{
-    if literal.text.as_bytes().contains(&b'.') {
-        return TypeName::Real;
-    }
-    TypeName::Int
-}
 
 // The range of a group of this type.
 #[tactic(auto, using(crate::proofs::Leading::leads))]
@@ -32,8 +22,7 @@ pub(crate) fn check_range(
     kind: TypeName,
     range: &Option<Range>,
 ) -> Result<(), TypeRefusal>
-    requires few { decimals ≤ 6 }
-    requires read { AreEnds (interval range.now) }
+    requires few { decimals ≤ most_decimals }
     ensures { Checks result (range_refusals decimals kind (interval range.now)) }
 {
     match (kind, range) {
@@ -51,9 +40,7 @@ fn check_ends(
     kind: TypeName,
     range: &Range,
 ) -> Result<(), TypeRefusal>
-    requires few { decimals ≤ 6 }
-    requires low { IsLiteral (figure_text (figure range.now.low)) }
-    requires high { IsLiteral (figure_text (figure range.now.high)) }
+    requires few { decimals ≤ most_decimals }
     ensures { Checks result (range_of decimals kind (record { low = figure range.now.low; high = figure range.now.high })) }
 {
     check_end_kind(kind, &range.low)?;
@@ -71,7 +58,7 @@ fn check_ends(
 fn check_end_kind(kind: TypeName, end: &Literal) -> Result<(), TypeRefusal>
     ensures { Checks result (end_type kind (figure end.now)) }
 {
-    if is_same(literal_kind(end), kind) {
+    if is_same(end.type_name(), kind) {
         return Ok(());
     }
     Err(TypeRefusal::Mismatch(end.span))
@@ -80,28 +67,13 @@ fn check_end_kind(kind: TypeName, end: &Literal) -> Result<(), TypeRefusal>
 // The number that the end of a range is.
 #[tactic(auto, using(crate::proofs::Leading::leads))]
 fn read_end(alloc: Global, decimals: u32, end: &Literal) -> Result<Fixed, TypeRefusal>
-    requires few { decimals ≤ 6 }
-    requires literal { IsLiteral (figure_text (figure end.now)) }
+    requires few { decimals ≤ most_decimals }
     ensures size { Checks result (end_size decimals (figure end.now)) }
     ensures raw { IfOk result (λ number. number.raw ≡ raw_of decimals (figure end.now)) }
 {
-    let text = end_text(alloc, end)?;
+    let text = end.signed_text(alloc)?;
     match read(text.as_bytes(), decimals) {
         Ok(number) => Ok(number),
         Err(_) => Err(TypeRefusal::RangeTooLarge(end.span)),
     }
-}
-
-// The text of a literal, with its minus.
-#[tactic(auto, using(crate::proofs::Leading::leads))]
-fn end_text(alloc: Global, end: &Literal) -> Result<String, TypeRefusal>
-    ensures bytes { IfOk result (λ text. string_bytes text ≡ figure_text (figure end.now)) }
-    ensures memory { Checks result [] }
-{
-    let mut text = String::new(alloc);
-    if end.minus {
-        text.push_str("-")?;
-    }
-    text.push_str(&end.text)?;
-    Ok(text)
 }

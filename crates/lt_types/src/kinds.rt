@@ -3,7 +3,7 @@
 ghost use Rattle.std.specs.Prelude.{◌≡◌};
 ghost use Rattle.lt_types.specs.Operators.{binary_gives, binary_takes, is_number as is_a_number, is_value as is_a_value, same_type, serves_as as may_serve_as, unary_gives, unary_takes};
 
-use lt_ast::{BinOp, TypeName, UnOp};
+use lt_ast::{BinOp, OperatorClass, TypeName, UnOp};
 
 pub(crate) fn is_same(kind: TypeName, other: TypeName) -> bool
     ensures { result ≡ same_type kind other }
@@ -62,12 +62,11 @@ pub(crate) fn gives_one(operator: UnOp, kind: TypeName) -> TypeName
 pub(crate) fn takes_two(operator: BinOp, kind: TypeName) -> bool
     ensures { result ≡ binary_takes operator kind }
 {
-    match operator {
-        BinOp::And | BinOp::Or | BinOp::Xor | BinOp::Implies => is_same(kind, TypeName::Bool),
-        BinOp::Eq | BinOp::Ne => is_value(kind),
-        BinOp::DivWord | BinOp::Mod => is_same(kind, TypeName::Int),
-        BinOp::Lt | BinOp::Le | BinOp::Gt | BinOp::Ge => is_number(kind),
-        BinOp::Add | BinOp::Sub | BinOp::Mul | BinOp::Div => is_number(kind),
+    match operator.class() {
+        OperatorClass::Connective => is_same(kind, TypeName::Bool),
+        OperatorClass::Equality => is_value(kind),
+        OperatorClass::Order | OperatorClass::Arithmetic => is_number(kind),
+        OperatorClass::Whole => is_same(kind, TypeName::Int),
     }
 }
 
@@ -75,11 +74,10 @@ pub(crate) fn takes_two(operator: BinOp, kind: TypeName) -> bool
 pub(crate) fn gives_two(operator: BinOp, kind: TypeName) -> TypeName
     ensures { result ≡ binary_gives operator kind }
 {
-    match operator {
-        BinOp::And | BinOp::Or | BinOp::Xor | BinOp::Implies => TypeName::Bool,
-        BinOp::Eq | BinOp::Ne => TypeName::Bool,
-        BinOp::Lt | BinOp::Le | BinOp::Gt | BinOp::Ge => TypeName::Bool,
-        BinOp::DivWord | BinOp::Mod => kind,
-        BinOp::Add | BinOp::Sub | BinOp::Mul | BinOp::Div => kind,
+    match operator.class() {
+        OperatorClass::Connective | OperatorClass::Equality | OperatorClass::Order => {
+            TypeName::Bool
+        }
+        OperatorClass::Arithmetic | OperatorClass::Whole => kind,
     }
 }

@@ -4,7 +4,7 @@
 //! that it breaks, as a [`TypeRefusal`]. The rules stand in `specs/` twice.
 //! `specs/Typing.antt` says when a program is well typed, a line for each construct; `specs/Refusals.antt`
 //! lists the rules that a program breaks, in the order of its text. That the two say the same is a law,
-//! [`well_typed_is_unrefused`]; that an expression has one type is another, [`types_are_one`].
+//! [`well_typed_is_unrefused`]; that an expression has at most one type is another, [`types_are_one`].
 #![tactic(auto)]
 
 mod entry;

@@ -2,10 +2,10 @@
 
 ghost use Rattle.std.specs.Prelude.{◌≡◌, ◌≤◌, ◌<◌, [], ◌∷◌, drop, length, OnErr, OnOk};
 ghost use Rattle.lt_ast.specs.View.{words};
-ghost use Rattle.lt_types.specs.Answer.{Checks};
+ghost use Rattle.lt_types.specs.inner.Checks.{Checks};
 ghost use Rattle.lt_types.specs.Environment.{is_among, with_names};
 ghost use Rattle.lt_types.specs.Refusals.{new_names};
-ghost use Rattle.lt_types.specs.Scoping.{newest as newest_of, oldest, since};
+ghost use Rattle.lt_types.specs.inner.Scoping.{newest as newest_of, oldest, since};
 
 use crate::refusal::TypeRefusal;
 use indexmap::IndexMap;
@@ -34,7 +34,7 @@ impl Model for NameStack {
 
     ghost Value = { List (List ℕ) };
 
-    ghost use Rattle.lt_types.specs.Stacks.{names_of, IsIndexed};
+    ghost use Rattle.lt_types.specs.inner.Stacks.{names_of, IsIndexed};
 
     ghost view = { λ s. names_of (reverse s.items.items) };
 

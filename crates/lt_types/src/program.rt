@@ -2,12 +2,12 @@
 
 ghost use Rattle.std.specs.Prelude.{◌≡◌, ◌≤◌, [], IfErr, IfOk, OnOk, map};
 ghost use Rattle.lt_ast.specs.View.{declaration, macro, program as declarations};
-ghost use Rattle.lt_types.specs.Answer.{Checks, Leads};
+ghost use Rattle.lt_num.specs.Bounds.{most_decimals};
+ghost use Rattle.lt_types.specs.Answer.{Leads};
+ghost use Rattle.lt_types.specs.inner.Checks.{Checks};
 ghost use Rattle.lt_types.specs.Environment.{with_declaration};
-ghost use Rattle.lt_types.specs.Readable.{InDeclaration, InDeclarations};
 ghost use Rattle.lt_types.specs.Refusals.{declaration_refusals, declarations_refusals, new_macro, type_refusals};
-ghost use Rattle.lt_types.specs.Spelled.{HasText};
-ghost use Rattle.lt_types.specs.Given.{node_declaration};
+ghost use Rattle.lt_types.specs.inner.Given.{node_declaration};
 ghost use Rattle.lt_types.specs.Typing.{IsWellTyped, has_node};
 
 use crate::entry::Role;
@@ -23,9 +23,8 @@ use std::alloc::Global;
 pub struct Typed {
     program: Program,
     decimals: u32,
-    ghost few: { decimals ≤ 6 },
+    ghost few: { decimals ≤ most_decimals },
     ghost unrefused: { type_refusals decimals (declarations program) ≡ [] },
-    ghost spelled: { ∥ HasText (declarations program) ∥₁ },
 }
 
 impl Typed {
@@ -41,7 +40,7 @@ impl Typed {
     /// How many decimals its reals have.
     pub fn decimals(&self) -> u32
         ensures same { result ≡ self.now.decimals }
-        ensures few { result ≤ 6 }
+        ensures few { result ≤ most_decimals }
     {
         self.decimals
     }
@@ -61,8 +60,7 @@ impl Typed {
 /// The first rule that the program breaks, in the order of its text, or [`TypeRefusal::Memory`] where memory ran out.
 #[tactic(auto, using(crate::proofs::Checking::checked))]
 pub fn check(alloc: Global, program: Program, decimals: u32) -> Result<Typed, TypeRefusal>
-    requires few { decimals ≤ 6 }
-    requires spelled { HasText (declarations program) }
+    requires few { decimals ≤ most_decimals }
     ensures same { IfOk result (λ t. (t.program ≡ program) × (t.decimals ≡ decimals)) }
     ensures typed { IfOk result (λ t. IsWellTyped decimals (declarations program)) }
     ensures only { IsWellTyped decimals (declarations program) → IfErr result (λ r. r ≡ TypeRefusal.Memory) }
@@ -75,8 +73,7 @@ pub fn check(alloc: Global, program: Program, decimals: u32) -> Result<Typed, Ty
 // A program.
 #[tactic(auto, using(crate::proofs::Leading::leads))]
 fn check_program(alloc: Global, program: &Program, decimals: u32) -> Result<(), TypeRefusal>
-    requires few { decimals ≤ 6 }
-    requires read { InDeclarations (declarations program.now) }
+    requires few { decimals ≤ most_decimals }
     ensures { Checks result (type_refusals decimals (declarations program.now)) }
 {
     let mut scope = Scope::new(alloc, decimals)?;
@@ -90,7 +87,6 @@ fn check_program(alloc: Global, program: &Program, decimals: u32) -> Result<(), 
 // The declarations of a text. Their names stay in the scope.
 #[tactic(auto, using(crate::proofs::Leading::leads, crate::proofs::Stacks::drop_next))]
 fn check_decls(alloc: Global, scope: &mut Scope, decls: &[Decl]) -> Result<(), TypeRefusal>
-    requires { InDeclarations (map declaration decls.now) }
     ensures { Checks result (declarations_refusals scope.old (map declaration decls.now)) }
 {
     for decl in decls {
@@ -102,7 +98,6 @@ fn check_decls(alloc: Global, scope: &mut Scope, decls: &[Decl]) -> Result<(), T
 // A declaration of a text. Its names stay in the scope.
 #[tactic(auto, using(crate::proofs::Leading::leads))]
 fn check_decl(alloc: Global, scope: &mut Scope, decl: &Decl) -> Result<(), TypeRefusal>
-    requires { InDeclaration (declaration decl.now) }
     ensures answered { Checks result (declaration_refusals scope.old (declaration decl.now)) }
     ensures declared { OnOk result (scope.new ≡ with_declaration scope.old (declaration decl.now)) }
 {
@@ -123,7 +118,6 @@ fn check_decl(alloc: Global, scope: &mut Scope, decl: &Decl) -> Result<(), TypeR
 // A node.
 #[tactic(auto, using(crate::proofs::Leading::leads, crate::proofs::Scopes::scope_ends, crate::proofs::Scopes::inputs_and_outputs_end))]
 fn check_node(alloc: Global, scope: &mut Scope, declared: &NodeDecl) -> Result<(), TypeRefusal>
-    requires { InDeclaration (node_declaration declared.now) }
     ensures answered { Checks result (declaration_refusals scope.old (node_declaration declared.now)) }
     ensures declared { OnOk result (scope.new ≡ with_declaration scope.old (node_declaration declared.now)) }
 {

@@ -44,6 +44,44 @@ pub enum TypeRefusal {
     Memory,
 }
 
+impl TypeRefusal {
+    ghost use Rattle.std.specs.Prelude.{◌≡◌};
+    ghost use Rattle.lt_types.specs.Codes.{type_code, type_place};
+
+    /// Its code in messages: `type`, a point, and what it is called.
+    pub fn code(self) -> &'static str
+        ensures { result.now ≡ type_code self }
+    {
+        match self {
+            TypeRefusal::Unknown(_) => "type.Unknown",
+            TypeRefusal::Twice(_) => "type.Twice",
+            TypeRefusal::Mismatch(_) => "type.Mismatch",
+            TypeRefusal::Arity(_) => "type.Arity",
+            TypeRefusal::PreOfExpression(_) => "type.PreOfExpression",
+            TypeRefusal::EmptyRange(_) => "type.EmptyRange",
+            TypeRefusal::RangeTooLarge(_) => "type.RangeTooLarge",
+            TypeRefusal::NoNode => "type.NoNode",
+            TypeRefusal::Memory => "type.Memory",
+        }
+    }
+
+    /// Where in the text the rule is broken, in bytes from 0; none where that is at no one place.
+    pub fn place(self) -> Option<usize>
+        ensures { result ≡ type_place self }
+    {
+        match self {
+            TypeRefusal::Unknown(span)
+            | TypeRefusal::Twice(span)
+            | TypeRefusal::Mismatch(span)
+            | TypeRefusal::Arity(span)
+            | TypeRefusal::PreOfExpression(span)
+            | TypeRefusal::EmptyRange(span)
+            | TypeRefusal::RangeTooLarge(span) => Some(span.start),
+            TypeRefusal::NoNode | TypeRefusal::Memory => None,
+        }
+    }
+}
+
 impl<T: Drop> From<AllocFailed<T>> for TypeRefusal {
     ghost use Rattle.std.specs.Prelude.{◌≡◌};
     ghost use Rattle.lt_types.specs.declared.refusal.TypeRefusal.TheVariants.{Memory};

@@ -2,10 +2,11 @@
 
 ghost use Rattle.std.specs.Prelude.{◌≡◌, ◌≤◌, [], ◌∷◌, length, option_map, string_bytes, IfOk, OnOk};
 ghost use Rattle.lt_ast.specs.View.{word, words};
-ghost use Rattle.lt_types.specs.Answer.{Checks};
+ghost use Rattle.lt_num.specs.Bounds.{most_decimals};
+ghost use Rattle.lt_types.specs.inner.Checks.{Checks};
 ghost use Rattle.lt_types.specs.Environment.{at_start, found, group_entry, is_among, with_bindings, with_exceptions};
 ghost use Rattle.lt_types.specs.Refusals.{new_names};
-ghost use Rattle.lt_types.specs.Scoping.{declared_since, entry_view, role_view, since, with_oldest_exceptions, with_oldest_names};
+ghost use Rattle.lt_types.specs.inner.Scoping.{declared_since, entry_view, role_view, since, with_oldest_exceptions, with_oldest_names};
 
 use crate::entry::{Entry, Role};
 use crate::name_stack::NameStack;
@@ -33,7 +34,7 @@ pub(crate) struct Scope {
 impl Model for Scope {
     ghost use Rattle.std.specs.Prelude.{map, reverse};
     ghost use Rattle.lt_types.specs.Environment.{Environment};
-    ghost use Rattle.lt_types.specs.Scoping.{bindings, entry_view, IsMatched};
+    ghost use Rattle.lt_types.specs.inner.Scoping.{bindings, entry_view, IsMatched};
 
     ghost Value = { Environment };
 
@@ -51,7 +52,7 @@ impl Scope {
     // Before the first declaration.
     #[tactic(auto, using(crate::proofs::Leading::leads))]
     pub(crate) fn new(alloc: Global, decimals: u32) -> Result<Scope, TypeRefusal>
-        requires { decimals ≤ 6 }
+        requires { decimals ≤ most_decimals }
         ensures made { IfOk result (λ s. s ≡ at_start decimals) }
         ensures memory { Checks result [] }
     {
@@ -69,7 +70,7 @@ impl Scope {
     // How many decimals a real has.
     pub(crate) fn decimals(&self) -> u32
         ensures same { result ≡ self.now.decimals }
-        ensures few { result ≤ 6 }
+        ensures few { result ≤ most_decimals }
     {
         self.decimals
     }

@@ -4,10 +4,10 @@ ghost use Rattle.std.specs.Prelude.{◌≡◌, OnOk, Some, map};
 ghost use Rattle.lt_ast.specs.inner.Lists.{traces_of};
 ghost use Rattle.lt_ast.specs.inner.Rows.{maybe_trace, weighed};
 ghost use Rattle.lt_ast.specs.View.{alternatives, braced, exp, limits, trace as trace_view};
-ghost use Rattle.lt_types.specs.Answer.{Checks};
-ghost use Rattle.lt_types.specs.Given.{IsScoped};
-ghost use Rattle.lt_types.specs.Readable.{InAlternative, InAlternatives, InBraces, InHandler, InLimits, InTrace, InTraces};
-ghost use Rattle.lt_types.specs.Refusals.{alternative_refusals, alternatives_refusals, braces_refusals, handler_refusals, limits_refusals, span_of, trace_refusals, typed, traces_refusals};
+ghost use Rattle.lt_types.specs.inner.Checks.{Checks};
+ghost use Rattle.lt_types.specs.inner.Given.{IsScoped};
+ghost use Rattle.lt_ast.specs.Places.{span_of};
+ghost use Rattle.lt_types.specs.Refusals.{alternative_refusals, alternatives_refusals, braces_refusals, handler_refusals, limits_refusals, trace_refusals, typed, traces_refusals};
 ghost use Rattle.lt_types.specs.Operators.{serves_as as may_serve_as};
 
 use crate::entry::Role;
@@ -16,7 +16,7 @@ use crate::groups::{check_groups, check_macro, declare_macro};
 use crate::kinds::serves_as;
 use crate::refusal::TypeRefusal;
 use crate::scope::Scope;
-use crate::uses::{check_exception, check_kind, place_of};
+use crate::uses::{check_exception, check_kind};
 use lt_ast::{Bounds, Braced, Expr, Part, Parts, TraceExpr, TypeName};
 use std::alloc::Global;
 
@@ -28,7 +28,6 @@ pub(crate) fn check_trace(
     scope: &mut Scope,
     trace: &TraceExpr,
 ) -> Result<(), TypeRefusal>
-    requires { InTrace (trace_view trace.now) }
     ensures answered { Checks result (trace_refusals scope.old (trace_view trace.now)) }
     ensures kept { OnOk result (scope.new ≡ scope.old) }
 {
@@ -73,7 +72,7 @@ fn check_served(kind: TypeName, expr: &Expr) -> Result<(), TypeRefusal>
     if serves_as(kind, TypeName::Trace) {
         return Ok(());
     }
-    Err(TypeRefusal::Mismatch(place_of(expr)))
+    Err(TypeRefusal::Mismatch(expr.span()))
 }
 
 // What stands in braces.
@@ -84,7 +83,6 @@ pub(crate) fn check_braces(
     scope: &mut Scope,
     inside: &Braced,
 ) -> Result<(), TypeRefusal>
-    requires { InBraces (braced inside.now) }
     ensures answered { Checks result (braces_refusals scope.old (braced inside.now)) }
     ensures kept { OnOk result (scope.new ≡ scope.old) }
 {
@@ -100,7 +98,6 @@ pub(crate) fn check_braces(
 #[cycle(check)]
 #[tactic(auto, using(crate::proofs::Leading::leads, crate::proofs::Stacks::drop_next))]
 fn check_traces(alloc: Global, scope: &mut Scope, traces: &[TraceExpr]) -> Result<(), TypeRefusal>
-    requires { InTraces (traces_of (map trace_view traces.now)) }
     ensures answered { Checks result (traces_refusals scope.old (traces_of (map trace_view traces.now))) }
     ensures kept { OnOk result (scope.new ≡ scope.old) }
 {
@@ -114,7 +111,6 @@ fn check_traces(alloc: Global, scope: &mut Scope, traces: &[TraceExpr]) -> Resul
 #[cycle(check)]
 #[tactic(auto, using(crate::proofs::Leading::leads, crate::proofs::Tracing::parts_steps))]
 fn check_parts(alloc: Global, scope: &mut Scope, parts: &Parts) -> Result<(), TypeRefusal>
-    requires { InAlternatives (alternatives parts.now) }
     ensures answered { Checks result (alternatives_refusals scope.old (alternatives parts.now)) }
     ensures kept { OnOk result (scope.new ≡ scope.old) }
 {
@@ -128,7 +124,6 @@ fn check_parts(alloc: Global, scope: &mut Scope, parts: &Parts) -> Result<(), Ty
 #[cycle(check)]
 #[tactic(auto, using(crate::proofs::Leading::leads))]
 fn check_part(alloc: Global, scope: &mut Scope, part: &Part) -> Result<(), TypeRefusal>
-    requires { InAlternative (weighed part.now.weight part.now.body) }
     ensures answered { Checks result (alternative_refusals scope.old (weighed part.now.weight part.now.body)) }
     ensures kept { OnOk result (scope.new ≡ scope.old) }
 {
@@ -143,7 +138,6 @@ fn check_part(alloc: Global, scope: &mut Scope, part: &Part) -> Result<(), TypeR
 #[cycle(check)]
 #[tactic(auto, using(crate::proofs::Leading::leads))]
 fn check_bounds(alloc: Global, scope: &mut Scope, bounds: &Bounds) -> Result<(), TypeRefusal>
-    requires { InLimits (limits bounds.now) }
     ensures answered { Checks result (limits_refusals scope.old (limits bounds.now)) }
     ensures kept { OnOk result (scope.new ≡ scope.old) }
 {
@@ -166,7 +160,6 @@ fn check_handler(
     scope: &mut Scope,
     otherwise: &Option<Box<TraceExpr>>,
 ) -> Result<(), TypeRefusal>
-    requires { InHandler (maybe_trace otherwise.now) }
     ensures answered { Checks result (handler_refusals scope.old (maybe_trace otherwise.now)) }
     ensures kept { OnOk result (scope.new ≡ scope.old) }
 {
@@ -181,7 +174,6 @@ fn check_handler(
 #[tactic(auto, using(crate::proofs::Leading::leads, crate::proofs::Scopes::scope_ends))]
 fn check_scoped(alloc: Global, scope: &mut Scope, trace: &TraceExpr) -> Result<(), TypeRefusal>
     requires scoped { IsScoped (trace_view trace.now) }
-    requires read { InTrace (trace_view trace.now) }
     ensures answered { Checks result (trace_refusals scope.old (trace_view trace.now)) }
     ensures kept { OnOk result (scope.new ≡ scope.old) }
 {

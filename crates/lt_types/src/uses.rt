@@ -4,12 +4,13 @@ ghost use Rattle.std.specs.Prelude.{◌≡◌, IsSome, map, option_map, string_b
 ghost use Rattle.lt_ast.specs.inner.Lists.{arguments_of};
 ghost use Rattle.lt_ast.specs.Syntax.{called, named, pre};
 ghost use Rattle.lt_ast.specs.View.{argument, exp, word};
-ghost use Rattle.lt_types.specs.Answer.{Answers, Checks};
+ghost use Rattle.lt_types.specs.inner.Checks.{Answers, Checks};
 ghost use Rattle.lt_types.specs.Environment.{found};
-ghost use Rattle.lt_types.specs.Refusals.{alone, applied, argument_misfit, arguments_misfit, behind_pre, entry_type, exp_refusals, known_exception, is_variable as is_a_variable, is_variable_entry as is_a_variable_entry, span_of, type_of, typed, unless};
+ghost use Rattle.lt_ast.specs.Places.{span_of};
+ghost use Rattle.lt_types.specs.Refusals.{alone, applied, argument_misfit, arguments_misfit, behind_pre, entry_type, exp_refusals, known_exception, is_variable as is_a_variable, is_variable_entry as is_a_variable_entry, type_of, typed, unless};
 ghost use Rattle.lt_types.specs.Operators.{same_type};
-ghost use Rattle.lt_types.specs.Given.{argument_span, argument_type, used};
-ghost use Rattle.lt_types.specs.Scoping.{entry_view, param_view};
+ghost use Rattle.lt_types.specs.inner.Given.{argument_span, argument_type, used};
+ghost use Rattle.lt_types.specs.inner.Scoping.{entry_view, param_view};
 
 use crate::entry::{Entry, Param};
 use crate::kinds::{is_same, serves_as};
@@ -77,7 +78,7 @@ pub(crate) fn check_kind(own: TypeName, wanted: TypeName, expr: &Expr) -> Result
     if is_same(own, wanted) {
         return Ok(());
     }
-    Err(TypeRefusal::Mismatch(place_of(expr)))
+    Err(TypeRefusal::Mismatch(expr.span()))
 }
 
 // A known name with arguments of these types, which break no rule of their own.
@@ -225,24 +226,7 @@ fn place_of_argument(arg: &Arg) -> Span
     ensures { result ≡ argument_span (argument arg.now) }
 {
     match arg {
-        Arg::Value(expr) => place_of(expr),
+        Arg::Value(expr) => expr.span(),
         Arg::Trace(_, at) => *at,
-    }
-}
-
-// The place of a whole expression; that of a name with arguments is the name's.
-#[tactic(auto, using(crate::proofs::Naming::named_place))]
-pub(crate) fn place_of(expr: &Expr) -> Span
-    ensures { result ≡ span_of (exp expr.now) }
-{
-    match expr {
-        Expr::Number(literal) => literal.span,
-        Expr::Named(name, _) => name.span,
-        Expr::Flag(_, at) => *at,
-        Expr::Pre(_, at) => *at,
-        Expr::Paren(_, at) => *at,
-        Expr::Unary(_, _, at) => *at,
-        Expr::Binary(_, _, _, at) => *at,
-        Expr::If(_, _, _, at) => *at,
     }
 }

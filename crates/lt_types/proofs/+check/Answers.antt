@@ -1,18 +1,11 @@
-use Rattle.std.proofs.Common.{rules, sym, subst, ap, ◌∙◌}
-use Rattle.lt_ast.specs.declared.expr.Arg.TheFolds.{the_lemmas}
+use Rattle.std.proofs.Common.{rules, sym, ap, ◌∙◌}
 use Rattle.lt_ast.specs.inner.Rows.{group_of}
-use Rattle.lt_ast.specs.View.{braced, exp, trace}
-use Rattle.lt_types.specs.Readable.{InBraces, InExp, InTrace}
+use Rattle.lt_ast.specs.View.{braced}
 use Rattle.lt_types.specs.Refusals.{braces_refusals}
-use Rattle.lt_types.specs.Scoping.{role_view}
-use Rattle.lt_types.proofs.Naming.{named_read}
-use Rattle.lt_types.proofs.Scopes.{group_from, groups_next, groups_rest_read, with_groups_next}
-use Rattle.lt_types.proofs.Tracing.{Checks_same, rows_read, rows_refusals}
+use Rattle.lt_types.specs.inner.Scoping.{role_view}
+use Rattle.lt_types.proofs.Scopes.{group_from, groups_next, with_groups_next}
+use Rattle.lt_types.proofs.Tracing.{Checks_same, rows_refusals}
 use Rattle.lt_types.proofs.+check.Goals as goal
-
-pub expressions::check_operand-check_use-requires : goal.expressions::check_operand-check_use-requires
-expressions::check_operand-check_use-requires t c =
-    (search (rules, the_lemmas), named_read c.in-Named.name c.in-Named.args (subst (λ e. InExp (exp e)) c.in-Named.is c.requires.read))
 
 pub groups::check_groups-loop-group-preserved : goal.groups::check_groups-loop-group-preserved
 groups::check_groups-loop-group-preserved t c =
@@ -26,16 +19,7 @@ groups::check_groups-loop-group-preserved t c =
           ∙ with_groups_next (role_view c.args.role) c.loop-group.scope c.check_group.new.scope c.deref-group-items.result.now c.loop-group.group-index c.group-item.result
           (search rules) c.group-item.is c.in_ok-check_group.ensures.declared;
       from = group_from (role_view c.args.role) c.args.from c.loop-group.scope c.check_group.new.scope (group_of c.group-item.result) c.loop-group.invariant.from c.in_ok-check_group.ensures.declared;
-      read = groups_rest_read c.deref-group-items.result.now c.loop-group.group-index c.group-item.result (search rules) c.group-item.is c.loop-group.invariant.read;
     }
-
-pub traces::check_braces-check_traces-requires : goal.traces::check_braces-check_traces-requires
-traces::check_braces-check_traces-requires t c =
-    (search (rules, the_lemmas), rows_read c.in-Priority.parts.items c.deref-in-Priority.result.now c.deref-in-Priority.ensures.value (subst (λ b. InBraces (braced b)) c.in-Priority.is c.requires))
-
-pub traces::check_braces-check_traces-requires-in-Parallel : goal.traces::check_braces-check_traces-requires-in-Parallel
-traces::check_braces-check_traces-requires-in-Parallel t c =
-    (search (rules, the_lemmas), rows_read c.in-Parallel.parts.items c.deref-in-Parallel.result.now c.deref-in-Parallel.ensures.value (subst (λ b. InBraces (braced b)) c.in-Parallel.is c.requires))
 
 pub traces::check_braces-returns-in-Priority-clause-answered : goal.traces::check_braces-returns-in-Priority-clause-answered
 traces::check_braces-returns-in-Priority-clause-answered t c =
@@ -48,7 +32,3 @@ traces::check_braces-returns-in-Parallel-clause-answered t c =
     Checks_same c.check_traces-in-Parallel.result _ _
     (rows_refusals c.args.scope.now c.in-Parallel.parts.items c.deref-in-Parallel.result.now c.deref-in-Parallel.ensures.value ∙ ap (λ b. braces_refusals c.args.scope.now (braced b)) (sym c.in-Parallel.is))
     c.check_traces-in-Parallel.ensures.answered
-
-pub traces::check_trace-check_traces-requires : goal.traces::check_trace-check_traces-requires
-traces::check_trace-check_traces-requires t c =
-    (search (rules, the_lemmas), rows_read c.in-Seq.parts.items c.deref.result.now c.deref.ensures.value (subst (λ x. InTrace (trace x)) c.in-Seq.is c.requires))

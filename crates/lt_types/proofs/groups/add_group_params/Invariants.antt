@@ -2,7 +2,7 @@ use Rattle.std.proofs.Common.{◌≡◌, ◌++◌, map, drop}
 use Rattle.lt_ast.specs.View.{word}
 use Rattle.lt_ast.specs.Syntax.{Word}
 use Rattle.lt_types.specs.Environment.{parameter_of}
-use Rattle.lt_types.specs.Scoping.{param_view}
+use Rattle.lt_types.specs.inner.Scoping.{param_view}
 use Rattle.lt_types.proofs.groups.add_group_params.Given as goal
 
 -- what is there and what is left are all

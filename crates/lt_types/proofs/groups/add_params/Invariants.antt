@@ -3,7 +3,7 @@ use Rattle.lt_ast.specs.inner.Lists.{groups_of}
 use Rattle.lt_ast.specs.inner.Rows.{group_of}
 use Rattle.lt_ast.specs.View.{groupings}
 use Rattle.lt_types.specs.Environment.{groups_parameters}
-use Rattle.lt_types.specs.Scoping.{param_view}
+use Rattle.lt_types.specs.inner.Scoping.{param_view}
 use Rattle.lt_types.proofs.groups.add_params.Given as goal
 
 -- what is there and what is left are all

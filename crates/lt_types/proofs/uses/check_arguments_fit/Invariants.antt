@@ -1,9 +1,9 @@
 use Rattle.std.proofs.Common.{◌≡◌, Some, map, length}
 use Rattle.lt_ast.specs.inner.Lists.{arguments_of}
 use Rattle.lt_ast.specs.View.{argument}
-use Rattle.lt_types.specs.Given.{argument_type}
+use Rattle.lt_types.specs.inner.Given.{argument_type}
 use Rattle.lt_types.specs.Refusals.{arguments_misfit}
-use Rattle.lt_types.specs.Scoping.{param_view}
+use Rattle.lt_types.specs.inner.Scoping.{param_view}
 use Rattle.lt_types.proofs.uses.check_arguments_fit.Given as goal
 
 abbrev pub invariant-loop-params : goal.invariant-loop-params

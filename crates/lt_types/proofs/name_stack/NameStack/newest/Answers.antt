@@ -1,5 +1,5 @@
 use Rattle.std.proofs.Common.{ap, ◌∙◌}
-use Rattle.lt_types.specs.Scoping.{newest}
+use Rattle.lt_types.specs.inner.Scoping.{newest}
 use Rattle.lt_types.proofs.name_stack.NameStack.newest.Goals as goal
 
 pub returns : goal.returns

@@ -1,7 +1,7 @@
 use Rattle.std.proofs.Common.{◌≡◌, ◌≤◌, drop, map, length}
 use Rattle.lt_ast.specs.View.{word}
 use Rattle.lt_types.specs.Refusals.{new_names}
-use Rattle.lt_types.specs.Scoping.{oldest, since}
+use Rattle.lt_types.specs.inner.Scoping.{oldest, since}
 use Rattle.lt_types.proofs.name_stack.NameStack.push_new.Given as goal
 
 abbrev pub invariant-loop-name : goal.invariant-loop-name

@@ -1,5 +1,5 @@
 use Rattle.std.proofs.Common.{◌≡◌, ◌≤◌, length}
-use Rattle.lt_types.specs.Scoping.{oldest}
+use Rattle.lt_types.specs.inner.Scoping.{oldest}
 use Rattle.lt_types.proofs.name_stack.NameStack.truncate.Given as goal
 
 abbrev pub invariant-loop-self : goal.invariant-loop-self

@@ -1,7 +1,7 @@
 use Rattle.std.proofs.Common.{◌≡◌, drop, map}
 use Rattle.lt_ast.specs.View.{word}
 use Rattle.lt_types.specs.Environment.{group_entry, with_bindings}
-use Rattle.lt_types.specs.Scoping.{role_view}
+use Rattle.lt_types.specs.inner.Scoping.{role_view}
 use Rattle.lt_types.proofs.scope.Scope.declare_group.Given as goal
 
 -- what is left, behind what is there, is all

@@ -3,7 +3,7 @@ use Rattle.std.specs.Prelude.{◌≡◌, ℕ, List, [], ◌∷◌, map, reverse,
 use Rattle.std.specs.declared.string.String.{String}
 use Rattle.std.specs.declared.alloc.Global.{Global}
 use Rattle.indexmap.specs.IndexMap.{IndexMap, get_by_text}
-use Rattle.lt_types.specs.Scoping.{newest}
+use Rattle.lt_types.specs.inner.Scoping.{newest}
 use Rattle.lt_types.specs.declared.name_stack.Item.{Item}
 
 -- the bytes of an item's name

@@ -15,7 +15,8 @@ use Rattle.lt_ast.specs.View.{argument, groupings, trace, word}
 use Rattle.lt_types.specs.Environment.{Environment}
 use Rattle.lt_types.specs.declared.refusal.TypeRefusal.{TypeRefusal}
 use Rattle.lt_types.specs.Operators.{same_type}
-use Rattle.lt_types.specs.Refusals.{span_of, type_of, typed}
+use Rattle.lt_ast.specs.Places.{span_of}
+use Rattle.lt_types.specs.Refusals.{type_of, typed}
 
 -- a name, with its arguments where it has a list of them
 abbrev pub used : Word → Option Args → Exp

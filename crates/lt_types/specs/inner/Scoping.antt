@@ -2,6 +2,7 @@
 use Rattle.std.specs.Prelude.{◌≡◌, ℕ, ◌≤◌, ◌-◌, List, [], ◌∷◌, map, drop, take, length, bytes_eq, if◌then◌else◌}
 use Rattle.std.specs.declared.option.Option.{Option}
 use Rattle.std.specs.declared.option.Option.TheVariants.{None, Some}
+use Rattle.lt_num.specs.Bounds.{most_decimals}
 use Rattle.lt_types.specs.Environment as e
 use Rattle.lt_types.specs.Environment.{Environment, Binding, Parameter}
 use Rattle.lt_types.specs.declared.entry.Entry.{Entry}
@@ -59,4 +60,4 @@ with_oldest_exceptions count env = record env { exceptions = oldest count env.ex
 -- What a scope keeps to: each name has what it stands for, and decimals are few.
 pub record IsMatched (decimals : ℕ) (names : List (List ℕ)) (entries : List Entry) : Type 0 where
   pub paired : length names ≡ length entries
-  pub few : decimals ≤ 6
+  pub few : decimals ≤ most_decimals
