@@ -61,9 +61,9 @@ one_passes false b h = inr h
 
 -- by what a number goes on with: a digit or a point
 continues-step : (b : ℕ) (bs : List ℕ) → (continues_number bs ≡ true → has_no_blank bs ≡ true) → ((is_ascii_digit b && continues_number bs) ≡ true) ⊎ ((is_point b && list_all is_ascii_digit bs) ≡ true) → has_no_blank (b ∷ bs) ≡ true
-continues-step b bs behind (inl t) =
-    no_blank-cons b bs (digit-blank b (left_of (is_ascii_digit b) (continues_number bs) t)) (behind (right_of (is_ascii_digit b) (continues_number bs) t))
-continues-step b bs behind (inr t) =
+continues-step b bs more (inl t) =
+    no_blank-cons b bs (digit-blank b (left_of (is_ascii_digit b) (continues_number bs) t)) (more (right_of (is_ascii_digit b) (continues_number bs) t))
+continues-step b bs more (inr t) =
     no_blank-cons b bs (point-blank b (left_of (is_point b) (list_all is_ascii_digit bs) t)) (no_blank-all is_ascii_digit bs digit-blank (right_of (is_point b) (list_all is_ascii_digit bs) t))
 
 -- what may follow a number's first digit has none

@@ -5,7 +5,7 @@ use Rattle.std.specs.List.{list_all}
 use Rattle.std.proofs.lemmas.Bool.{cond_both, cond-true, cond-false, eqb-true}
 use Rattle.lt_lexer.specs.Byte.{is_in_line, begins_with}
 use Rattle.lt_lexer.specs.Piece.{HasClose, IsLineEnd}
-use Rattle.lt_lexer.specs.inner.Reading.{leading, behind, Parts, parts_more, closed}
+use Rattle.lt_lexer.specs.inner.Reading.{leading, after_leading, Comment, comment_more, closed}
 use Rattle.lt_lexer.proofs.Bools.{left_of, right_of, is_false}
 use Rattle.lt_lexer.proofs.Starts.{begins_two}
 
@@ -14,9 +14,9 @@ not_false true h = refl
 not_false false h = absurd (cc)
 
 -- a line ends where the bytes of a line end
-pub line_end : (xs : List ℕ) → IsLineEnd (behind is_in_line xs)
+pub line_end : (xs : List ℕ) → IsLineEnd (after_leading is_in_line xs)
 line_end [] = tt
-line_end (x ∷ xs) = cond_both (is_in_line x) (behind is_in_line xs) (x ∷ xs) IsLineEnd (λ t. line_end xs) (λ f. eqb-true x 10 (not_false _ f))
+line_end (x ∷ xs) = cond_both (is_in_line x) (after_leading is_in_line xs) (x ∷ xs) IsLineEnd (λ t. line_end xs) (λ f. eqb-true x 10 (not_false _ f))
 
 in_line-line_feed : (b : ℕ) → b ≡ 10 → is_in_line b ≡ false
 in_line-line_feed b e = let P : ℕ → Type 0 = λ n. is_in_line n ≡ false in subst P (sym e) refl
@@ -30,7 +30,7 @@ leading-line (x ∷ xs) ys h e =
     ∙ ap (λ l. x ∷ l) (leading-line xs ys (right_of (is_in_line x) _ h) e)
 
 -- what the place of the first close says
-abbrev pub ClosedIs : List ℕ → Option Parts → Type 0
+abbrev pub ClosedIs : List ℕ → Option Comment → Type 0
 ClosedIs text None = HasClose text → ⊥
 ClosedIs text (Some parts) = (text ≡ parts.inside ++ (codes "*)" ++ parts.after)) × (HasClose parts.inside → ⊥)
 
@@ -57,7 +57,7 @@ begins-close b bs e f =
     subst P (sym e) (subst Q (sym f) refl)
 
 -- the place of the first close with one more byte in front
-closed-more : (b : ℕ) (bs : List ℕ) (o : Option Parts) → begins_with (codes "*)") (b ∷ bs) ≡ false → ClosedIs bs o → ClosedIs (b ∷ bs) (parts_more b o)
+closed-more : (b : ℕ) (bs : List ℕ) (o : Option Comment) → begins_with (codes "*)") (b ∷ bs) ≡ false → ClosedIs bs o → ClosedIs (b ∷ bs) (comment_more b o)
 closed-more b bs None f h = close-cons b bs (λ tail star. let t = begins-close b bs star tail in cc (f, t)) h
 closed-more b bs (Some parts) f h = (
   ap (λ l. b ∷ l) h.0,
@@ -72,7 +72,7 @@ closed-more b bs (Some parts) f h = (
 pub closed-is : (text : List ℕ) → ClosedIs text (closed text)
 closed-is [] = no_close_in_none
 closed-is (b ∷ bs) =
-    cond_both (begins_with (codes "*)") (b ∷ bs)) (Some (record { inside = []; after = drop 1 bs })) (parts_more b (closed bs)) (ClosedIs (b ∷ bs))
+    cond_both (begins_with (codes "*)") (b ∷ bs)) (Some (record { inside = []; after = drop 1 bs })) (comment_more b (closed bs)) (ClosedIs (b ∷ bs))
     (λ t. let p = begins_two 42 41 b bs t in ((λ i. p.0 i ∷ p.1 i), no_close_in_none))
     (λ f. closed-more b bs (closed bs) f (closed-is bs))
 
@@ -86,5 +86,5 @@ pub closed-at : (inside after : List ℕ) → (HasClose inside → ⊥) → clos
 closed-at [] after h = refl
 closed-at (b ∷ bs) after h =
     let f : begins_with (codes "*)") (b ∷ (bs ++ (codes "*)" ++ after))) ≡ false = is_false _ (λ t. let p = begins_two 42 41 b (bs ++ (codes "*)" ++ after)) t in close_inside b bs after h p.0 p.1) in
-    cond-false _ (Some (record { inside = []; after = drop 1 (bs ++ (codes "*)" ++ after)) })) (parts_more b (closed (bs ++ (codes "*)" ++ after)))) f
-    ∙ ap (parts_more b) (closed-at bs after (λ g. h (b ∷ g.0, g.1, ap (λ l. b ∷ l) g.2)))
+    cond-false _ (Some (record { inside = []; after = drop 1 (bs ++ (codes "*)" ++ after)) })) (comment_more b (closed (bs ++ (codes "*)" ++ after)))) f
+    ∙ ap (comment_more b) (closed-at bs after (λ g. h (b ∷ g.0, g.1, ap (λ l. b ∷ l) g.2)))

@@ -7,7 +7,7 @@ use Rattle.std.proofs.lemmas.Bool.Decides.{nat_tests}
 use Rattle.std.proofs.lemmas.List.Sums.{sum_by-cons, sum_by-append}
 use Rattle.lt_num.specs.Literal.{is_point}
 use Rattle.lt_lexer.specs.Byte.{begins_with}
-use Rattle.lt_lexer.specs.inner.Reading.{leading, behind, fraction, number_bytes}
+use Rattle.lt_lexer.specs.inner.Reading.{leading, after_leading, fraction, number_bytes}
 use Rattle.lt_lexer.proofs.Bools.{left_of, right_of}
 use Rattle.lt_lexer.proofs.Runs.{leading-passes, length-leading}
 
@@ -39,10 +39,10 @@ count_by-fraction (b ∷ bs) =
     (λ f. refl)
 
 -- the digits of the number at the front of a text
-pub count_by-number_bytes : (xs : List ℕ) → count_by is_ascii_digit (number_bytes xs) ≡ length (leading is_ascii_digit xs) + (length (fraction (behind is_ascii_digit xs)) - 1)
+pub count_by-number_bytes : (xs : List ℕ) → count_by is_ascii_digit (number_bytes xs) ≡ length (leading is_ascii_digit xs) + (length (fraction (after_leading is_ascii_digit xs)) - 1)
 count_by-number_bytes xs =
     let whole = count_by-all is_ascii_digit (leading is_ascii_digit xs) (leading-passes is_ascii_digit xs) in
-    omega (arith, sum_by-append (one is_ascii_digit) (leading is_ascii_digit xs) (fraction (behind is_ascii_digit xs)), whole, count_by-fraction (behind is_ascii_digit xs))
+    omega (arith, sum_by-append (one is_ascii_digit) (leading is_ascii_digit xs) (fraction (after_leading is_ascii_digit xs)), whole, count_by-fraction (after_leading is_ascii_digit xs))
 
 -- a point is one, whichever way it is asked
 point-starts : (b : ℕ) (bs : List ℕ) → is_point b ≡ begins_with (codes ".") (b ∷ bs)

@@ -9,7 +9,7 @@ use Rattle.std.proofs.lemmas.Bool.{cond-true, cond-false, le-leb, lt-leb}
 use Rattle.lt_num.specs.Bounds.{most_digits}
 use Rattle.lt_lexer.specs.Byte.{is_blank, is_word_byte, is_in_line, begins_with}
 use Rattle.lt_lexer.specs.Piece.{blank, line_comment, token, begins_line_comment, begins_block_comment}
-use Rattle.lt_lexer.specs.inner.Reading.{leading, behind, Parts, parts_more, closed, fraction, number_bytes, Next, next, next_comment, next_number, next_symbol, next_of, Gives}
+use Rattle.lt_lexer.specs.inner.Reading.{leading, after_leading, Comment, comment_more, closed, fraction, number_bytes, Next, next, next_comment, next_number, next_symbol, next_of, Gives}
 use Rattle.lt_lexer.specs.inner.Spelling.{first_symbol}
 use Rattle.lt_lexer.specs.declared.piece.Piece as code
 use Rattle.lt_lexer.specs.declared.refusal.LexRefusal.{LexRefusal}
@@ -20,7 +20,7 @@ use Rattle.lt_lexer.proofs.Digits.{count_by-number_bytes}
 
 -- the first piece, by the first bytes
 
-pub next_of-line : (b : ℕ) (bs : List ℕ) → begins_line_comment (b ∷ bs) ≡ true → next_of (b ∷ bs) ≡ next (line_comment (leading is_in_line (drop 1 bs))) (behind is_in_line (drop 1 bs))
+pub next_of-line : (b : ℕ) (bs : List ℕ) → begins_line_comment (b ∷ bs) ≡ true → next_of (b ∷ bs) ≡ next (line_comment (leading is_in_line (drop 1 bs))) (after_leading is_in_line (drop 1 bs))
 next_of-line b bs h = cond-true _ _ _ h
 
 pub next_of-block : (b : ℕ) (bs : List ℕ) → begins_line_comment (b ∷ bs) ≡ false → begins_block_comment (b ∷ bs) ≡ true → next_of (b ∷ bs) ≡ next_comment (closed (drop 1 bs))
@@ -29,7 +29,7 @@ next_of-block b bs h k = cond-false _ _ _ h ∙ cond-true _ _ _ k
 pub next_of-blank : (b : ℕ) (bs : List ℕ) → begins_line_comment (b ∷ bs) ≡ false → begins_block_comment (b ∷ bs) ≡ false → is_blank b ≡ true → next_of (b ∷ bs) ≡ next (blank b) bs
 next_of-blank b bs h k l = cond-false _ _ _ h ∙ cond-false _ _ _ k ∙ cond-true _ _ _ l
 
-pub next_of-word : (b : ℕ) (bs : List ℕ) → begins_line_comment (b ∷ bs) ≡ false → begins_block_comment (b ∷ bs) ≡ false → is_blank b ≡ false → is_ascii_alphabetic b ≡ true → next_of (b ∷ bs) ≡ next (token Word (b ∷ leading is_word_byte bs)) (behind is_word_byte bs)
+pub next_of-word : (b : ℕ) (bs : List ℕ) → begins_line_comment (b ∷ bs) ≡ false → begins_block_comment (b ∷ bs) ≡ false → is_blank b ≡ false → is_ascii_alphabetic b ≡ true → next_of (b ∷ bs) ≡ next (token Word (b ∷ leading is_word_byte bs)) (after_leading is_word_byte bs)
 next_of-word b bs h k l m = cond-false _ _ _ h ∙ cond-false _ _ _ k ∙ cond-false _ _ _ l ∙ cond-true _ _ _ m
 
 pub next_of-number : (b : ℕ) (bs : List ℕ) → begins_line_comment (b ∷ bs) ≡ false → begins_block_comment (b ∷ bs) ≡ false → is_blank b ≡ false → is_ascii_alphabetic b ≡ false → is_ascii_digit b ≡ true → next_of (b ∷ bs) ≡ next_number (b ∷ bs)
@@ -73,9 +73,9 @@ gives_symbol place r (b ∷ bs) h k some l a d g = to_next place r _ _ (next_of-
 number_len : (text : List ℕ) (whole more : ℕ) → whole ≡ prefix_len is_ascii_digit text → more ≡ length (fraction (drop whole text)) → (length (number_bytes text) ≡ whole + more) × (count_by is_ascii_digit (number_bytes text) ≡ whole + (more - 1))
 number_len text whole more w m =
     let same : whole ≡ length (leading is_ascii_digit text) = w ∙ sym (length-leading is_ascii_digit text) in
-    let here : drop whole text ≡ behind is_ascii_digit text = ap (λ n. drop n text) same ∙ drop-leading is_ascii_digit text in
-    let fraction_is : more ≡ length (fraction (behind is_ascii_digit text)) = m ∙ ap (λ l. length (fraction l)) here in
-    (omega (arith, length-append (leading is_ascii_digit text) (fraction (behind is_ascii_digit text))), omega (arith, count_by-number_bytes text))
+    let here : drop whole text ≡ after_leading is_ascii_digit text = ap (λ n. drop n text) same ∙ drop-leading is_ascii_digit text in
+    let fraction_is : more ≡ length (fraction (after_leading is_ascii_digit text)) = m ∙ ap (λ l. length (fraction l)) here in
+    (omega (arith, length-append (leading is_ascii_digit text) (fraction (after_leading is_ascii_digit text))), omega (arith, count_by-number_bytes text))
 
 -- a number within the limit
 pub gives_short : (place : ℕ) (p : code.Piece) (text : List ℕ) (whole more : ℕ) → whole ≡ prefix_len is_ascii_digit text → more ≡ length (fraction (drop whole text)) → p.kind ≡ Some Number → p.len ≡ whole + more → whole + (more - 1) ≤ 18 → Gives place (Ok p) (next_number text)
@@ -95,10 +95,10 @@ pub ruleset giving = (gives_line, gives_block, gives_blank, gives_word, gives_nu
 
 -- where a comment is closed
 
-abbrev inside_len : ℕ → Option Parts → Option ℕ
+abbrev inside_len : ℕ → Option Comment → Option ℕ
 inside_len n o = option_map (λ parts. n + length parts.inside) o
 
-inside_len-more : (n b : ℕ) (o : Option Parts) → inside_len n (parts_more b o) ≡ inside_len (n + 1) o
+inside_len-more : (n b : ℕ) (o : Option Comment) → inside_len n (comment_more b o) ≡ inside_len (n + 1) o
 inside_len-more n b None = refl
 inside_len-more n b (Some parts) = ap Some (omega arith)
 

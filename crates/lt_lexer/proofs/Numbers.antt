@@ -6,29 +6,29 @@ use Rattle.std.proofs.lemmas.Bool.{cond_both, cond-true}
 use Rattle.lt_num.specs.Literal.{is_point, is_number, continues_number}
 use Rattle.lt_lexer.specs.Piece.{IsToken, IsLongest}
 use Rattle.lt_lexer.specs.declared.token.TokenKind.TheVariants.{Number}
-use Rattle.lt_lexer.specs.inner.Reading.{leading, behind, fraction, behind_fraction, number_bytes}
+use Rattle.lt_lexer.specs.inner.Reading.{leading, after_leading, fraction, after_fraction, number_bytes}
 use Rattle.lt_lexer.proofs.Bools.{both, left_of, right_of, left_or, right_or, other_or, is_false, first_or, left_false}
-use Rattle.lt_lexer.proofs.Runs.{leading-longest, leading-behind, leading-passes}
+use Rattle.lt_lexer.proofs.Runs.{leading-longest, leading-after, leading-passes}
 use Rattle.lt_lexer.proofs.Digits.{digit-point}
 use Rattle.lt_lexer.proofs.Starts.{longest_of}
 
-fraction-behind : (xs : List ℕ) → fraction xs ++ behind_fraction xs ≡ xs
-fraction-behind [] = refl
-fraction-behind (x ∷ xs) = elim (is_point x) as (λ v. cond v (x ∷ leading is_ascii_digit xs) [] ++ cond v (behind is_ascii_digit xs) (x ∷ xs) ≡ x ∷ xs) [ true ↦ ap (λ l. x ∷ l) (leading-behind is_ascii_digit xs) | false ↦ refl ]
+fraction-after : (xs : List ℕ) → fraction xs ++ after_fraction xs ≡ xs
+fraction-after [] = refl
+fraction-after (x ∷ xs) = elim (is_point x) as (λ v. cond v (x ∷ leading is_ascii_digit xs) [] ++ cond v (after_leading is_ascii_digit xs) (x ∷ xs) ≡ x ∷ xs) [ true ↦ ap (λ l. x ∷ l) (leading-after is_ascii_digit xs) | false ↦ refl ]
 
-pub number_bytes-behind : (xs : List ℕ) → number_bytes xs ++ behind_fraction (behind is_ascii_digit xs) ≡ xs
-number_bytes-behind xs =
-    append_assoc (leading is_ascii_digit xs) (fraction (behind is_ascii_digit xs)) (behind_fraction (behind is_ascii_digit xs))
-    ∙ ap (λ l. leading is_ascii_digit xs ++ l) (fraction-behind (behind is_ascii_digit xs))
-    ∙ leading-behind is_ascii_digit xs
+pub number_bytes-after : (xs : List ℕ) → number_bytes xs ++ after_fraction (after_leading is_ascii_digit xs) ≡ xs
+number_bytes-after xs =
+    append_assoc (leading is_ascii_digit xs) (fraction (after_leading is_ascii_digit xs)) (after_fraction (after_leading is_ascii_digit xs))
+    ∙ ap (λ l. leading is_ascii_digit xs ++ l) (fraction-after (after_leading is_ascii_digit xs))
+    ∙ leading-after is_ascii_digit xs
 
 -- a digit in front is one more byte of the number
 number_bytes-digit : (x : ℕ) (xs : List ℕ) → is_ascii_digit x ≡ true → number_bytes (x ∷ xs) ≡ x ∷ number_bytes xs
-number_bytes-digit x xs h = let P : Bool → Type 0 = λ v. cond v (x ∷ leading is_ascii_digit xs) [] ++ fraction (cond v (behind is_ascii_digit xs) (x ∷ xs)) ≡ x ∷ number_bytes xs in subst P (sym h) refl
+number_bytes-digit x xs h = let P : Bool → Type 0 = λ v. cond v (x ∷ leading is_ascii_digit xs) [] ++ fraction (cond v (after_leading is_ascii_digit xs) (x ∷ xs)) ≡ x ∷ number_bytes xs in subst P (sym h) refl
 
 -- without a digit in front there is at most a fraction
 number_bytes-other : (x : ℕ) (xs : List ℕ) → is_ascii_digit x ≡ false → number_bytes (x ∷ xs) ≡ fraction (x ∷ xs)
-number_bytes-other x xs h = let P : Bool → Type 0 = λ v. cond v (x ∷ leading is_ascii_digit xs) [] ++ fraction (cond v (behind is_ascii_digit xs) (x ∷ xs)) ≡ fraction (x ∷ xs) in subst P (sym h) refl
+number_bytes-other x xs h = let P : Bool → Type 0 = λ v. cond v (x ∷ leading is_ascii_digit xs) [] ++ fraction (cond v (after_leading is_ascii_digit xs) (x ∷ xs)) ≡ fraction (x ∷ xs) in subst P (sym h) refl
 
 -- they are a number
 
@@ -75,5 +75,5 @@ number_bound b bs (f ∷ fs) rest e h =
     let digit = left_of (is_ascii_digit f) (continues_number fs) h in
     omega (arith, continues-longest (f ∷ fs) rest (continues-digit f fs digit (right_of (is_ascii_digit f) _ h)), ap (λ l. length (number_bytes l)) e)
 
-pub number_longest : (b : ℕ) (bs : List ℕ) → is_ascii_digit b ≡ true → is_ascii_alphabetic b ≡ false → IsLongest (number_bytes (b ∷ bs)) (behind_fraction (behind is_ascii_digit (b ∷ bs)))
-number_longest b bs h k = longest_of Number (number_bytes (b ∷ bs)) (behind_fraction (behind is_ascii_digit (b ∷ bs))) b bs (number_bytes-behind (b ∷ bs)) (k, h) (number_bound b bs)
+pub number_longest : (b : ℕ) (bs : List ℕ) → is_ascii_digit b ≡ true → is_ascii_alphabetic b ≡ false → IsLongest (number_bytes (b ∷ bs)) (after_fraction (after_leading is_ascii_digit (b ∷ bs)))
+number_longest b bs h k = longest_of Number (number_bytes (b ∷ bs)) (after_fraction (after_leading is_ascii_digit (b ∷ bs))) b bs (number_bytes-after (b ∷ bs)) (k, h) (number_bound b bs)

@@ -9,15 +9,15 @@ use Rattle.lt_ast.specs.Signs.{spelled}
 use Rattle.lt_ast.specs.declared.sign.Sign.{Sign}
 use Rattle.lt_lexer.specs.Byte.{is_blank, is_word_byte, is_in_line, begins_with}
 use Rattle.lt_lexer.specs.Piece.{Piece, blank, line_comment, block_comment, token, bytes_of, IsPiece, IsTaken, IsToken, IsLongest, IsShort, HasClose, begins_line_comment, begins_block_comment, begins_comment}
-use Rattle.lt_lexer.specs.Tokenization.{Fault, bad_byte, open_comment, number_too_long, Fails, IsOpen, IsTooLong}
-use Rattle.lt_lexer.specs.inner.Reading.{leading, behind, Parts, closed, behind_fraction, number_bytes, Next, done, next, fails, next_comment, next_number, next_symbol, next_of}
+use Rattle.lt_lexer.specs.Tokenization.{Flaw, bad_byte, open_comment, number_too_long, Fails, IsOpen, IsTooLong}
+use Rattle.lt_lexer.specs.inner.Reading.{leading, after_leading, Comment, closed, after_fraction, number_bytes, Next, done, next, fails, next_comment, next_number, next_symbol, next_of}
 use Rattle.lt_lexer.specs.inner.Spelling.{first_symbol}
 use Rattle.lt_lexer.specs.declared.token.TokenKind.{TokenKind}
 use Rattle.lt_lexer.specs.declared.token.TokenKind.TheVariants.{Word, Number, Symbol}
 use Rattle.lt_lexer.proofs.Bools.{both, neither, left_neither, right_neither, is_false}
-use Rattle.lt_lexer.proofs.Runs.{leading-behind, leading-passes}
+use Rattle.lt_lexer.proofs.Runs.{leading-after, leading-passes}
 use Rattle.lt_lexer.proofs.Starts.{begins_two, Starts, token_start, same_kind, longest_of, word_longest, digit-blank}
-use Rattle.lt_lexer.proofs.Numbers.{number_bytes-behind, is_number-number_bytes, number_longest}
+use Rattle.lt_lexer.proofs.Numbers.{number_bytes-after, is_number-number_bytes, number_longest}
 use Rattle.lt_lexer.proofs.Symbols.{first_symbol-spelled, found}
 use Rattle.lt_lexer.proofs.Comments.{line_end, leading-line, ClosedIs, closed-is, closed-at}
 
@@ -25,7 +25,7 @@ use Rattle.lt_lexer.proofs.Comments.{line_end, leading-line, ClosedIs, closed-is
 abbrev pub Holds : List ℕ → Next → Type 0
 Holds text done = text ≡ []
 Holds text (next p after) = (text ≡ bytes_of p ++ after) × IsPiece p after
-Holds text (fails fault) = Fails fault text
+Holds text (fails flaw) = Fails flaw text
 
 -- The first piece that is found is one.
 
@@ -33,14 +33,14 @@ Holds text (fails fault) = Fails fault text
 comment_parts : (inside after : List ℕ) → codes "(*" ++ (inside ++ (codes "*)" ++ after)) ≡ (codes "(*" ++ (inside ++ codes "*)")) ++ after
 comment_parts inside after = ap (λ l. codes "(*" ++ l) (sym (append_assoc inside (codes "*)") after))
 
-comment_holds : (text inside : List ℕ) (o : Option Parts) → text ≡ codes "(*" ++ inside → ClosedIs inside o → Holds text (next_comment o)
+comment_holds : (text inside : List ℕ) (o : Option Comment) → text ≡ codes "(*" ++ inside → ClosedIs inside o → Holds text (next_comment o)
 comment_holds text inside None e h = record { inside = inside; parts = e; no_close = h }
 comment_holds text inside (Some parts) e h = (e ∙ ap (λ l. codes "(*" ++ l) h.0 ∙ comment_parts parts.inside parts.after, h.1)
 
 number_holds : (b : ℕ) (bs : List ℕ) → begins_comment (b ∷ bs) ≡ false → is_ascii_alphabetic b ≡ false → is_ascii_digit b ≡ true → Holds (b ∷ bs) (next_number (b ∷ bs))
 number_holds b bs plain letter digit =
-    let parts = number_bytes-behind (b ∷ bs) in
-    cond_both _ (next (token Number (number_bytes (b ∷ bs))) (behind_fraction (behind is_ascii_digit (b ∷ bs)))) (fails number_too_long) (Holds (b ∷ bs))
+    let parts = number_bytes-after (b ∷ bs) in
+    cond_both _ (next (token Number (number_bytes (b ∷ bs))) (after_fraction (after_leading is_ascii_digit (b ∷ bs)))) (fails number_too_long) (Holds (b ∷ bs))
     (λ t. (
       sym parts,
       record {
@@ -52,7 +52,7 @@ number_holds b bs plain letter digit =
     ))
     (λ f. record {
       bytes = number_bytes (b ∷ bs);
-      after = behind_fraction (behind is_ascii_digit (b ∷ bs));
+      after = after_fraction (after_leading is_ascii_digit (b ∷ bs));
       parts = sym parts;
       number = is_number-number_bytes b bs digit;
       longest = number_longest b bs digit letter;
@@ -73,7 +73,7 @@ no_symbol text front rest e f t = let it = found text rest t.0 t.1 (f ∙ ap (λ
 front_start : (b : ℕ) (bs front rest : List ℕ) (kind : TokenKind) → b ∷ bs ≡ front ++ rest → IsToken kind front → Starts kind b
 front_start b bs front rest kind e t =
     let s = token_start kind front t in
-    let same : b ∷ bs ≡ s.byte ∷ (s.behind ++ rest) = e ∙ ap (λ l. l ++ rest) s.parts in
+    let same : b ∷ bs ≡ s.byte ∷ (s.after ++ rest) = e ∙ ap (λ l. l ++ rest) s.parts in
     let byte : s.byte ≡ b = cc same in
     let P : ℕ → Type 0 = Starts kind in
     subst P byte s.starts
@@ -86,7 +86,7 @@ no_token b bs front rest Symbol none letter digit e t = no_symbol (b ∷ bs) fro
 symbol_holds : (b : ℕ) (bs : List ℕ) (o : Option Sign) → first_symbol (b ∷ bs) ≡ o → begins_comment (b ∷ bs) ≡ false → is_blank b ≡ false → is_ascii_alphabetic b ≡ false → is_ascii_digit b ≡ false → Holds (b ∷ bs) (next_symbol (b ∷ bs) o)
 symbol_holds b bs None e plain no_blank letter digit = record {
   byte = b;
-  behind = bs;
+  after = bs;
   parts = refl;
   no_blank = no_blank;
   no_comment = plain;
@@ -104,10 +104,10 @@ symbol_holds b bs (Some sign) e plain no_blank letter digit =
     )
 
 -- a line comment is what it is to be
-line_holds : (b : ℕ) (bs : List ℕ) → begins_line_comment (b ∷ bs) ≡ true → Holds (b ∷ bs) (next (line_comment (leading is_in_line (drop 1 bs))) (behind is_in_line (drop 1 bs)))
+line_holds : (b : ℕ) (bs : List ℕ) → begins_line_comment (b ∷ bs) ≡ true → Holds (b ∷ bs) (next (line_comment (leading is_in_line (drop 1 bs))) (after_leading is_in_line (drop 1 bs)))
 line_holds b bs t =
     let p = begins_two 45 45 b bs t in
-    let rest = leading-behind is_in_line (drop 1 bs) in
+    let rest = leading-after is_in_line (drop 1 bs) in
     (((λ i. p.0 i ∷ p.1 i) ∙ ap (λ l. codes "--" ++ l) (sym rest)), (leading-passes is_in_line (drop 1 bs), line_end (drop 1 bs)))
 
 -- whatever is found first, the rules say it
@@ -119,7 +119,7 @@ holds (b ∷ bs) =
     let plain = neither (begins_line_comment (b ∷ bs)) (begins_block_comment (b ∷ bs)) line block in
     cond_both (is_blank b) _ _ (Holds (b ∷ bs)) (λ t. (refl, t)) (λ no_blank.
     cond_both (is_ascii_alphabetic b) _ _ (Holds (b ∷ bs)) (λ t.
-    let rest = leading-behind is_word_byte bs in (
+    let rest = leading-after is_word_byte bs in (
       ap (λ l. b ∷ l) (sym rest),
       record {
         is_token = both _ _ t (leading-passes is_word_byte bs);
@@ -143,7 +143,7 @@ taken_same k j x a y c e tx lx ty ly =
     let after : a ≡ c = sym (drop_at x a (length x) refl) ∙ ap (λ l. drop (length x) l) e ∙ drop_at y c (length x) len in
     let s = token_start k x tx in
     let r = token_start j y ty in
-    let same : s.byte ∷ s.behind ≡ r.byte ∷ r.behind = sym s.parts ∙ bytes ∙ r.parts in
+    let same : s.byte ∷ s.after ≡ r.byte ∷ r.after = sym s.parts ∙ bytes ∙ r.parts in
     let byte : s.byte ≡ r.byte = cc same in
     let P : ℕ → Type 0 = Starts k in
     (same_kind k j r.byte (subst P byte s.starts) r.starts, bytes, after)
@@ -199,36 +199,36 @@ class_is text (next (block_comment bytes) after) h = ap class h.0
 class_is text (next (blank b) after) h = ap class h.0 ∙ class-blank b after h.1
 class_is text (next (token kind bytes) after) h =
     let s = token_start kind bytes h.1.is_token in
-    let parts : bytes ++ after ≡ s.byte ∷ (s.behind ++ after) = ap (λ l. l ++ after) s.parts in
-    ap class (h.0 ∙ parts) ∙ class-other s.byte (s.behind ++ after) (ap begins_comment (sym parts) ∙ h.1.no_comment) s.no_blank
-class_is text (fails bad_byte) h = ap class h.parts ∙ class-other h.byte h.behind (ap begins_comment (sym h.parts) ∙ h.no_comment) h.no_blank
+    let parts : bytes ++ after ≡ s.byte ∷ (s.after ++ after) = ap (λ l. l ++ after) s.parts in
+    ap class (h.0 ∙ parts) ∙ class-other s.byte (s.after ++ after) (ap begins_comment (sym parts) ∙ h.1.no_comment) s.no_blank
+class_is text (fails bad_byte) h = ap class h.parts ∙ class-other h.byte h.after (ap begins_comment (sym h.parts) ∙ h.no_comment) h.no_blank
 class_is text (fails open_comment) h = ap class h.parts
 class_is text (fails number_too_long) h =
     let s = token_start Number h.bytes h.number in
-    ap class (h.parts ∙ ap (λ l. l ++ h.after) s.parts) ∙ class-digit s.byte (s.behind ++ h.after) s.starts.1
+    ap class (h.parts ∙ ap (λ l. l ++ h.after) s.parts) ∙ class-digit s.byte (s.after ++ h.after) s.starts.1
 
 -- the text behind the two bytes that begin a comment
-inside_of : (x y : List ℕ) → codes "(*" ++ x ≡ codes "(*" ++ y → x ≡ y
-inside_of x y e = ap (λ l. drop 2 l) e
+same_inside : (x y : List ℕ) → codes "(*" ++ x ≡ codes "(*" ++ y → x ≡ y
+same_inside x y e = ap (λ l. drop 2 l) e
 
-abbrev inside_part : Option Parts → List ℕ
+abbrev inside_part : Option Comment → List ℕ
 inside_part None = []
 inside_part (Some parts) = parts.inside
 
-abbrev after_part : Option Parts → List ℕ
+abbrev after_part : Option Comment → List ℕ
 after_part None = []
 after_part (Some parts) = parts.after
 
 -- two comments at the front are one
 comment_same : (x y a c : List ℕ) → (codes "(*" ++ (x ++ codes "*)")) ++ a ≡ (codes "(*" ++ (y ++ codes "*)")) ++ c → (HasClose x → ⊥) → (HasClose y → ⊥) → (x ≡ y) × (a ≡ c)
 comment_same x y a c e h k =
-    let behind : x ++ (codes "*)" ++ a) ≡ y ++ (codes "*)" ++ c) = inside_of _ _ (comment_parts x a ∙ e ∙ sym (comment_parts y c)) in
-    let parts : Some (record { inside = x; after = a }) ≡ Some (record { inside = y; after = c }) = sym (closed-at x a h) ∙ ap closed behind ∙ closed-at y c k in
+    let inside : x ++ (codes "*)" ++ a) ≡ y ++ (codes "*)" ++ c) = same_inside _ _ (comment_parts x a ∙ e ∙ sym (comment_parts y c)) in
+    let parts : Some (record { inside = x; after = a }) ≡ Some (record { inside = y; after = c }) = sym (closed-at x a h) ∙ ap closed inside ∙ closed-at y c k in
     (ap inside_part parts, ap after_part parts)
 
 -- a comment that is closed is not open
 comment_closed : (text x a : List ℕ) → text ≡ (codes "(*" ++ (x ++ codes "*)")) ++ a → IsOpen text → ⊥
-comment_closed text x a e h = h.no_close (x, a, inside_of h.inside (x ++ (codes "*)" ++ a)) (sym h.parts ∙ e ∙ sym (comment_parts x a)))
+comment_closed text x a e h = h.no_close (x, a, same_inside h.inside (x ++ (codes "*)" ++ a)) (sym h.parts ∙ e ∙ sym (comment_parts x a)))
 
 -- a number that is taken is not too long
 too_long_apart : (text : List ℕ) (kind : TokenKind) (bytes after : List ℕ) → text ≡ bytes ++ after → IsTaken kind bytes after → IsTooLong text → ⊥
@@ -244,7 +244,7 @@ class_of-next (line_comment bytes) after = omega arith
 class_of-next (block_comment bytes) after = omega arith
 class_of-next (token kind bytes) after = omega arith
 
-class_of-fails : (fault : Fault) → 1 ≤ class_of (fails fault)
+class_of-fails : (flaw : Flaw) → 1 ≤ class_of (fails flaw)
 class_of-fails bad_byte = omega arith
 class_of-fails open_comment = omega arith
 class_of-fails number_too_long = omega arith
@@ -253,8 +253,8 @@ class_of-fails number_too_long = omega arith
 pub unique : (text : List ℕ) (n m : Next) → Holds text n → Holds text m → n ≡ m
 unique text done done h k = refl
 unique text done (next p after) h k = absurd (omega (arith, class_is text done h, class_is text (next p after) k, class_of-next p after))
-unique text done (fails fault) h k = absurd (omega (arith, class_is text done h, class_is text (fails fault) k, class_of-fails fault))
-unique text (fails fault) done h k = absurd (omega (arith, class_is text done k, class_is text (fails fault) h, class_of-fails fault))
+unique text done (fails flaw) h k = absurd (omega (arith, class_is text done h, class_is text (fails flaw) k, class_of-fails flaw))
+unique text (fails flaw) done h k = absurd (omega (arith, class_is text done k, class_is text (fails flaw) h, class_of-fails flaw))
 unique text (next p after) done h k = absurd (omega (arith, class_is text done k, class_is text (next p after) h, class_of-next p after))
 unique text (next (line_comment x) a) (next (line_comment y) c) h k =
     let e : x ++ a ≡ y ++ c = cc (h.0, k.0) in

@@ -47,7 +47,7 @@ pub record IsFirst (rest : List ℕ) (p : code.Piece) : Type 0 where
 
 first_by : (place : ℕ) (rest : List ℕ) (p : code.Piece) (n : Next) → Holds rest n → Gives place (Ok p) n → IsFirst rest p
 first_by place rest p done h g = absurd g
-first_by place rest p (fails fault) h g = absurd g
+first_by place rest p (fails flaw) h g = absurd g
 first_by place rest p (next q after) h g = record { piece = q; after = after; parts = h.0; is_piece = h.1; kind = g.0; len = g.1 }
 
 -- what the code answers is a first piece
@@ -107,8 +107,8 @@ all_read text tokens (b ∷ bs) r e = absurd (omega arith)
 refusal_by : (text : List ℕ) (tokens : List Token) (rest : List ℕ) (place : ℕ) (refusal : LexRefusal) (n : Next) → ReadSoFar text tokens rest → place ≡ length text - length rest → Holds rest n → Gives place (Err refusal) n → IsRefusal text refusal
 refusal_by text tokens rest place refusal done r e h g = absurd g
 refusal_by text tokens rest place refusal (next q after) r e h g = absurd g
-refusal_by text tokens rest place refusal (fails fault) r e h g = record { pieces = r.pieces; rest = rest; divides = r.divides; fault = fault; fails = h; is = g ∙ ap (refusal_at fault) e }
+refusal_by text tokens rest place refusal (fails flaw) r e h g = record { pieces = r.pieces; rest = rest; divides = r.divides; flaw = flaw; fails = h; is = g ∙ ap (refusal_at flaw) e }
 
--- at a fault
+-- at a flaw
 pub refusal_of : (text : List ℕ) (tokens : List Token) (rest : List ℕ) (place : ℕ) (refusal : LexRefusal) → ReadSoFar text tokens rest → place ≡ length text - length rest → Gives place (Err refusal) (next_of rest) → IsRefusal text refusal
 refusal_of text tokens rest place refusal r e g = refusal_by text tokens rest place refusal (next_of rest) r e (holds rest) g

@@ -3,7 +3,7 @@ use Rattle.std.proofs.Common.{◌≡◌, ℕ, ◌+◌, ◌≤◌, Bool, true, fa
 use Rattle.std.specs.List.{prefix_len, list_all}
 use Rattle.std.proofs.lemmas.Bool.{cond_both, cond-true}
 use Rattle.std.proofs.lemmas.List.Sums.{prefix_len-le-length}
-use Rattle.lt_lexer.specs.inner.Reading.{leading, behind}
+use Rattle.lt_lexer.specs.inner.Reading.{leading, after_leading}
 use Rattle.lt_lexer.proofs.Bools.{both, left_of, right_of}
 
 -- there are as many as std counts
@@ -15,14 +15,14 @@ pub leading-short : (p : ℕ → Bool) (xs : List ℕ) → length (leading p xs)
 leading-short p xs = omega (arith, length-leading p xs, prefix_len-le-length p xs)
 
 -- they and the bytes behind them are the whole
-pub leading-behind : (p : ℕ → Bool) (xs : List ℕ) → leading p xs ++ behind p xs ≡ xs
-leading-behind p [] = refl
-leading-behind p (x ∷ xs) = elim (p x) as (λ v. cond v (x ∷ leading p xs) [] ++ cond v (behind p xs) (x ∷ xs) ≡ x ∷ xs) [ true ↦ ap (λ l. x ∷ l) (leading-behind p xs) | false ↦ refl ]
+pub leading-after : (p : ℕ → Bool) (xs : List ℕ) → leading p xs ++ after_leading p xs ≡ xs
+leading-after p [] = refl
+leading-after p (x ∷ xs) = elim (p x) as (λ v. cond v (x ∷ leading p xs) [] ++ cond v (after_leading p xs) (x ∷ xs) ≡ x ∷ xs) [ true ↦ ap (λ l. x ∷ l) (leading-after p xs) | false ↦ refl ]
 
 -- the bytes behind them
-pub drop-leading : (p : ℕ → Bool) (xs : List ℕ) → drop (length (leading p xs)) xs ≡ behind p xs
+pub drop-leading : (p : ℕ → Bool) (xs : List ℕ) → drop (length (leading p xs)) xs ≡ after_leading p xs
 drop-leading p [] = refl
-drop-leading p (x ∷ xs) = elim (p x) as (λ v. drop (length (cond v (x ∷ leading p xs) [])) (x ∷ xs) ≡ cond v (behind p xs) (x ∷ xs)) [ true ↦ drop-leading p xs | false ↦ refl ]
+drop-leading p (x ∷ xs) = elim (p x) as (λ v. drop (length (cond v (x ∷ leading p xs) [])) (x ∷ xs) ≡ cond v (after_leading p xs) (x ∷ xs)) [ true ↦ drop-leading p xs | false ↦ refl ]
 
 pub ruleset runs = (length-leading, leading-short, drop-leading)
 

@@ -79,7 +79,7 @@ letters_or_none sign = inr refl
 
 -- a token has some bytes
 token_has_bytes : (w : List ℕ) (k : TokenKind) → IsToken k w → w ≡ [] → ⊥
-token_has_bytes w k h e = let start = token_start k w h in let untrue : start.byte ∷ start.behind ≡ [] = sym start.parts ∙ e in cc untrue
+token_has_bytes w k h e = let start = token_start k w h in let untrue : start.byte ∷ start.after ≡ [] = sym start.parts ∙ e in cc untrue
 
 -- where none is found, the bytes are no sign's, by whether it has letters
 unspelled_by : (w : List ℕ) (k : TokenKind) (sign : Sign) → (spelled sign ≡ []) ⊎ IsTrue (has_letters sign) → IsToken k w → sign_spelled w ≡ None → w ≡ spelled sign → ⊥

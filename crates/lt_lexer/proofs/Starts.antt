@@ -13,9 +13,9 @@ use Rattle.lt_lexer.specs.Symbol.{is_symbol}
 use Rattle.lt_lexer.specs.Piece.{IsToken, IsLongest}
 use Rattle.lt_lexer.specs.declared.token.TokenKind.{TokenKind}
 use Rattle.lt_lexer.specs.declared.token.TokenKind.TheVariants.{Word, Number, Symbol}
-use Rattle.lt_lexer.specs.inner.Reading.{leading, behind}
+use Rattle.lt_lexer.specs.inner.Reading.{leading, after_leading}
 use Rattle.lt_lexer.proofs.Bools.{left_of, right_of}
-use Rattle.lt_lexer.proofs.Runs.{leading-longest, leading-behind}
+use Rattle.lt_lexer.proofs.Runs.{leading-longest, leading-after}
 use Rattle.lt_lexer.proofs.Symbols.{or_open, each_that}
 
 -- the two bytes that a text begins with
@@ -42,22 +42,22 @@ Starts Symbol b = (is_ascii_alphabetic b ≡ false) × (is_ascii_digit b ≡ fal
 
 pub record Start (kind : TokenKind) (bytes : List ℕ) : Type 0 where
   pub byte : ℕ
-  pub behind : List ℕ
-  pub parts : bytes ≡ byte ∷ behind
+  pub after : List ℕ
+  pub parts : bytes ≡ byte ∷ after
   pub starts : Starts kind byte
   pub no_blank : is_blank byte ≡ false
 
 -- a symbol begins with a byte that no word and no number begins with, by cases
 symbol_start-each : (sign : Sign) → Start Symbol (spelled (or_open is_symbol sign))
-symbol_start-each s.Open = record { byte = 40; behind = []; parts = refl; starts = (refl, refl); no_blank = refl }
-symbol_start-each sign = record { byte = get_or (spelled (or_open is_symbol sign)) 0 0; behind = drop 1 (spelled (or_open is_symbol sign)); parts = refl; starts = (refl, refl); no_blank = refl }
+symbol_start-each s.Open = record { byte = 40; after = []; parts = refl; starts = (refl, refl); no_blank = refl }
+symbol_start-each sign = record { byte = get_or (spelled (or_open is_symbol sign)) 0 0; after = drop 1 (spelled (or_open is_symbol sign)); parts = refl; starts = (refl, refl); no_blank = refl }
 
 -- a token begins with a byte of its kind, and not with a blank
 pub token_start : (kind : TokenKind) (bytes : List ℕ) → IsToken kind bytes → Start kind bytes
 token_start Word [] h = absurd (cc)
-token_start Word (b ∷ bs) h = let letter = left_of (is_ascii_alphabetic b) (list_all is_word_byte bs) h in record { byte = b; behind = bs; parts = refl; starts = letter; no_blank = letter-blank b letter }
+token_start Word (b ∷ bs) h = let letter = left_of (is_ascii_alphabetic b) (list_all is_word_byte bs) h in record { byte = b; after = bs; parts = refl; starts = letter; no_blank = letter-blank b letter }
 token_start Number [] h = absurd (cc)
-token_start Number (b ∷ bs) h = let digit = left_of (is_ascii_digit b) (continues_number bs) h in record { byte = b; behind = bs; parts = refl; starts = (digit-letter b digit, digit); no_blank = digit-blank b digit }
+token_start Number (b ∷ bs) h = let digit = left_of (is_ascii_digit b) (continues_number bs) h in record { byte = b; after = bs; parts = refl; starts = (digit-letter b digit, digit); no_blank = digit-blank b digit }
 token_start Symbol bytes h = subst (Start Symbol) (sym h.2) (each_that is_symbol (λ sign. Start Symbol (spelled sign)) symbol_start-each h.0 h.1)
 
 -- which kind the first byte tells
@@ -77,7 +77,7 @@ pub longest_of : (kind : TokenKind) (bytes after : List ℕ) (b : ℕ) (bs : Lis
 longest_of kind bytes after b bs e starts bound = λ j front rest f t.
     let s = token_start j front t in
     let whole : b ∷ bs ≡ front ++ rest = sym e ∙ f in
-    let same : s.byte ∷ (s.behind ++ rest) ≡ b ∷ bs = sym (whole ∙ ap (λ l. l ++ rest) s.parts) in
+    let same : s.byte ∷ (s.after ++ rest) ≡ b ∷ bs = sym (whole ∙ ap (λ l. l ++ rest) s.parts) in
     let byte : s.byte ≡ b = cc same in
     let P : ℕ → Type 0 = Starts j in
     let Q : TokenKind → Type 0 = λ k. IsToken k front in
@@ -91,5 +91,5 @@ word_bound b bs (f ∷ fs) rest e h =
     let tail : fs ++ rest ≡ bs = cc e in
     omega (arith, leading-longest is_word_byte fs rest (right_of (is_ascii_alphabetic f) _ h), ap (λ l. length (leading is_word_byte l)) tail)
 
-pub word_longest : (b : ℕ) (bs : List ℕ) → is_ascii_alphabetic b ≡ true → IsLongest (b ∷ leading is_word_byte bs) (behind is_word_byte bs)
-word_longest b bs h = longest_of Word (b ∷ leading is_word_byte bs) (behind is_word_byte bs) b bs (ap (λ l. b ∷ l) (leading-behind is_word_byte bs)) h (word_bound b bs)
+pub word_longest : (b : ℕ) (bs : List ℕ) → is_ascii_alphabetic b ≡ true → IsLongest (b ∷ leading is_word_byte bs) (after_leading is_word_byte bs)
+word_longest b bs h = longest_of Word (b ∷ leading is_word_byte bs) (after_leading is_word_byte bs) b bs (ap (λ l. b ∷ l) (leading-after is_word_byte bs)) h (word_bound b bs)

@@ -41,8 +41,8 @@ pub record IsTokenization (text : List ℕ) (tokens : List Token) : Type 0 where
 -- no piece begins here: no blank, no comment and no token
 pub record IsBad (text : List ℕ) : Type 0 where
   pub byte : ℕ
-  pub behind : List ℕ
-  pub parts : text ≡ byte ∷ behind
+  pub after : List ℕ
+  pub parts : text ≡ byte ∷ after
   pub no_blank : is_blank byte ≡ false
   pub no_comment : begins_comment text ≡ false
   pub no_token : (kind : TokenKind) (front rest : List ℕ) → text ≡ front ++ rest → IsToken kind front → ⊥
@@ -63,19 +63,19 @@ pub record IsTooLong (text : List ℕ) : Type 0 where
   pub digits : most_digits < count_by is_ascii_digit bytes
 
 -- what can be wrong at a place
-pub data Fault : Type 0 where
-  bad_byte : Fault
-  open_comment : Fault
-  number_too_long : Fault
+pub data Flaw : Type 0 where
+  bad_byte : Flaw
+  open_comment : Flaw
+  number_too_long : Flaw
 
 -- what is wrong with a text at its front
-abbrev pub Fails : Fault → List ℕ → Type 0
+abbrev pub Fails : Flaw → List ℕ → Type 0
 Fails bad_byte text = IsBad text
 Fails open_comment text = IsOpen text
 Fails number_too_long text = IsTooLong text
 
 -- the refusal that tells it, with its place
-abbrev pub refusal_at : Fault → ℕ → LexRefusal
+abbrev pub refusal_at : Flaw → ℕ → LexRefusal
 refusal_at bad_byte place = BadByte place
 refusal_at open_comment place = OpenComment place
 refusal_at number_too_long place = NumberTooLong place
@@ -86,9 +86,9 @@ pub record IsRefusal (text : List ℕ) (refusal : LexRefusal) : Type 0 where
   pub pieces : List Piece
   pub rest : List ℕ
   pub divides : Divides text pieces rest
-  pub fault : Fault
-  pub fails : Fails fault rest
-  pub is : refusal ≡ refusal_at fault (length text - length rest)
+  pub flaw : Flaw
+  pub fails : Fails flaw rest
+  pub is : refusal ≡ refusal_at flaw (length text - length rest)
 
 -- these tokens are answered, or that memory ran out
 abbrev pub AnswersTokens : List Token → Result (Vec Token Global) LexRefusal → Type 0

@@ -2,7 +2,8 @@
 
 ghost use Rattle.std.specs.Prelude.{◌≡◌, ◌⊎◌, ℕ, List};
 ghost use Rattle.lt_lexer.specs.Tokenization.{IsTokenization, IsRefusal};
-ghost use Rattle.lt_lexer.specs.Source.{StandInTurn};
+ghost use Rattle.lt_ast.specs.declared.sign.Sign.{Sign};
+ghost use Rattle.lt_lexer.specs.Source.{IsTokenOf, IsSign, StandInTurn};
 ghost use Rattle.lt_lexer.specs.Apart.{ReadsApart};
 ghost use Rattle.lt_lexer.specs.declared.token.Token.{Token};
 ghost use Rattle.lt_lexer.specs.declared.refusal.LexRefusal.{LexRefusal};
@@ -25,6 +26,13 @@ pub fn one_answer_belongs_to_a_text()
 pub fn tokens_stand_in_turn()
     ensures { (text : List ℕ) (tokens : List Token) →
         IsTokenization text tokens → StandInTurn text 0 tokens }
+{}
+
+/// A token of a text is one sign, and no other.
+pub fn a_token_is_one_sign()
+    ensures some { (text : List ℕ) (token : Token) → IsTokenOf text token → (sign : Sign) × IsSign text token sign }
+    ensures one { (text : List ℕ) (token : Token) (sign other : Sign) →
+        IsTokenOf text token → IsSign text token sign → IsSign text token other → sign ≡ other }
 {}
 
 /// The tokens of a text, written one behind another with a blank byte behind each, are read as the

@@ -16,7 +16,10 @@ mod refusal;
 mod spelling;
 mod token;
 
-pub use laws::{one_answer_belongs_to_a_text, tokens_apart_are_the_same, tokens_stand_in_turn};
+pub use laws::{
+    a_token_is_one_sign, one_answer_belongs_to_a_text, tokens_apart_are_the_same,
+    tokens_stand_in_turn,
+};
 pub use lexer::lex;
 pub use refusal::LexRefusal;
 pub use token::{Token, TokenKind};

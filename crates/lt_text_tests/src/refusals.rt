@@ -33,6 +33,44 @@ fn texts_with_no_tokens(rt: HostRuntime) {
     }
 }
 
+// A refusal, and what it tells.
+#[derive(Clone, Copy)]
+struct Told {
+    refusal: LexRefusal,
+    code: &'static str,
+    place: Option<usize>,
+}
+
+#[test]
+fn codes_and_places(rt: HostRuntime) {
+    let cases = [
+        Told {
+            refusal: LexRefusal::BadByte(7),
+            code: "lex.BadByte",
+            place: Some(7),
+        },
+        Told {
+            refusal: LexRefusal::OpenComment(8),
+            code: "lex.OpenComment",
+            place: Some(8),
+        },
+        Told {
+            refusal: LexRefusal::NumberTooLong(9),
+            code: "lex.NumberTooLong",
+            place: Some(9),
+        },
+        Told {
+            refusal: LexRefusal::Memory,
+            code: "lex.Memory",
+            place: None,
+        },
+    ];
+    for case in cases {
+        assert_eq!(rt; case.refusal.code(), case.code);
+        assert_eq!(rt; case.refusal.place(), case.place);
+    }
+}
+
 // A text, and why it is no program.
 #[derive(Clone, Copy)]
 struct Refused {

@@ -27,7 +27,7 @@ const fn symbol(start: usize, end: usize) -> Token {
 
 #[test]
 fn tokens(rt: HostRuntime) -> Result<(), Fail> {
-    let cases: [(&[u8], &[Token]); 25] = [
+    let cases: [(&[u8], &[Token]); 26] = [
         (b"", &[]),
         (b" \t\r\n", &[]),
         (b"\ta\r\n", &[word(1, 2)]),
@@ -39,6 +39,7 @@ fn tokens(rt: HostRuntime) -> Result<(), Fail> {
         (b"1234567890.12345678", &[number(0, 19)]),
         (b"123456789012345678.", &[number(0, 19)]),
         (b"--", &[]),
+        (b"--a\rb", &[]),
         (b"a--b", &[word(0, 1)]),
         (b"--(*\na", &[word(5, 6)]),
         (b"- -", &[symbol(0, 1), symbol(2, 3)]),
@@ -96,6 +97,19 @@ fn questions(rt: HostRuntime) -> Result<(), Fail> {
         assert_eq!(rt; token.sign(text), asked.sign);
         assert_eq!(rt; token.bytes(text), asked.letters.as_bytes());
         assert_eq!(rt; token.letters(text), asked.letters);
+    }
+    Ok(())
+}
+
+#[test]
+fn words_and_symbols_of_the_language(rt: HostRuntime) -> Result<(), Fail> {
+    let text =
+        b"node returns let in exist bool int real trace ref fby loop assert raise catch do trap try exception pre not and or xor if then else div mod true false run ( ) { } [ ] : ; , = <> < <= > >= + - * / => | |> &> ~";
+    let tokens = lex(rt.alloc(), text)?;
+    assert_eq!(rt; tokens.len(), 32 + 24);
+    for token in &tokens {
+        let letters = token.letters(text);
+        assert_eq!(rt; token.sign(text).text(), letters);
     }
     Ok(())
 }

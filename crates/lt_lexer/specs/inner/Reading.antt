@@ -9,7 +9,7 @@ use Rattle.lt_ast.specs.Signs.{spelled}
 use Rattle.lt_ast.specs.declared.sign.Sign.{Sign}
 use Rattle.lt_lexer.specs.Byte.{is_blank, is_word_byte, is_in_line, begins_with}
 use Rattle.lt_lexer.specs.Piece.{Piece, blank, line_comment, block_comment, token, bytes_of, begins_line_comment, begins_block_comment, kind_of}
-use Rattle.lt_lexer.specs.Tokenization.{Fault, bad_byte, open_comment, number_too_long, refusal_at}
+use Rattle.lt_lexer.specs.Tokenization.{Flaw, bad_byte, open_comment, number_too_long, refusal_at}
 use Rattle.lt_lexer.specs.inner.Spelling.{first_symbol}
 use Rattle.lt_lexer.specs.declared.token.TokenKind.TheVariants.{Word, Number, Symbol}
 use Rattle.lt_lexer.specs.declared.refusal.LexRefusal.{LexRefusal}
@@ -21,35 +21,35 @@ leading p [] = []
 leading p (b ∷ bs) = if p b then b ∷ leading p bs else []
 
 -- and those behind them
-abbrev pub behind : (ℕ → Bool) → List ℕ → List ℕ
-behind p [] = []
-behind p (b ∷ bs) = if p b then behind p bs else b ∷ bs
+abbrev pub after_leading : (ℕ → Bool) → List ℕ → List ℕ
+after_leading p [] = []
+after_leading p (b ∷ bs) = if p b then after_leading p bs else b ∷ bs
 
--- what is first in a text: nothing, where it is over, a piece and what follows it, or a fault
+-- what is first in a text: nothing, where it is over, a piece and what follows it, or a flaw
 pub data Next : Type 0 where
   done : Next
   next : Piece → List ℕ → Next
-  fails : Fault → Next
+  fails : Flaw → Next
 
 -- the bytes up to the next *), and those behind it
-pub record Parts : Type 0 where
+pub record Comment : Type 0 where
   pub inside : List ℕ
   pub after : List ℕ
 
 -- the same with one byte more in front
-abbrev pub parts_more : ℕ → Option Parts → Option Parts
-parts_more b None = None
-parts_more b (Some parts) = Some (record { inside = b ∷ parts.inside; after = parts.after })
+abbrev pub comment_more : ℕ → Option Comment → Option Comment
+comment_more b None = None
+comment_more b (Some parts) = Some (record { inside = b ∷ parts.inside; after = parts.after })
 
 -- the text behind a (*, cut at the first *)
-abbrev pub closed : List ℕ → Option Parts
+abbrev pub closed : List ℕ → Option Comment
 closed [] = None
 closed (b ∷ bs) =
     if begins_with (codes "*)") (b ∷ bs) then Some (record { inside = []; after = drop 1 bs })
-    else parts_more b (closed bs)
+    else comment_more b (closed bs)
 
 -- a comment by where it is closed
-abbrev pub next_comment : Option Parts → Next
+abbrev pub next_comment : Option Comment → Next
 next_comment None = fails open_comment
 next_comment (Some parts) = next (block_comment parts.inside) parts.after
 
@@ -59,19 +59,19 @@ fraction [] = []
 fraction (b ∷ bs) = if is_point b then b ∷ leading is_ascii_digit bs else []
 
 -- and what follows them
-abbrev pub behind_fraction : List ℕ → List ℕ
-behind_fraction [] = []
-behind_fraction (b ∷ bs) = if is_point b then behind is_ascii_digit bs else b ∷ bs
+abbrev pub after_fraction : List ℕ → List ℕ
+after_fraction [] = []
+after_fraction (b ∷ bs) = if is_point b then after_leading is_ascii_digit bs else b ∷ bs
 
 -- the number at the front, where the text begins with a digit
 abbrev pub number_bytes : List ℕ → List ℕ
-number_bytes text = leading is_ascii_digit text ++ fraction (behind is_ascii_digit text)
+number_bytes text = leading is_ascii_digit text ++ fraction (after_leading is_ascii_digit text)
 
 -- that number as a piece, where it isn't too long
 abbrev pub next_number : List ℕ → Next
 next_number text =
     if nat_le (count_by is_ascii_digit (number_bytes text)) most_digits
-    then next (token Number (number_bytes text)) (behind_fraction (behind is_ascii_digit text))
+    then next (token Number (number_bytes text)) (after_fraction (after_leading is_ascii_digit text))
     else fails number_too_long
 
 -- the symbol at the front as a piece, where there is one
@@ -83,18 +83,18 @@ next_symbol text (Some sign) = next (token Symbol (spelled sign)) (drop (length 
 abbrev pub next_of : List ℕ → Next
 next_of [] = done
 next_of (b ∷ bs) =
-    if begins_line_comment (b ∷ bs) then next (line_comment (leading is_in_line (drop 1 bs))) (behind is_in_line (drop 1 bs))
+    if begins_line_comment (b ∷ bs) then next (line_comment (leading is_in_line (drop 1 bs))) (after_leading is_in_line (drop 1 bs))
     else (if begins_block_comment (b ∷ bs) then next_comment (closed (drop 1 bs))
     else (if is_blank b then next (blank b) bs
-    else (if is_ascii_alphabetic b then next (token Word (b ∷ leading is_word_byte bs)) (behind is_word_byte bs)
+    else (if is_ascii_alphabetic b then next (token Word (b ∷ leading is_word_byte bs)) (after_leading is_word_byte bs)
     else (if is_ascii_digit b then next_number (b ∷ bs)
     else next_symbol (b ∷ bs) (first_symbol (b ∷ bs))))))
 
 -- what the code answers at a place is the first piece of the text from there on
 abbrev pub Gives : ℕ → Result code.Piece LexRefusal → Next → Type 0
 Gives place (Ok p) (next q after) = (p.kind ≡ kind_of q) × (p.len ≡ length (bytes_of q))
-Gives place (Err refusal) (fails fault) = refusal ≡ refusal_at fault place
+Gives place (Err refusal) (fails flaw) = refusal ≡ refusal_at flaw place
 Gives place (Ok p) done = ⊥
-Gives place (Ok p) (fails fault) = ⊥
+Gives place (Ok p) (fails flaw) = ⊥
 Gives place (Err refusal) done = ⊥
 Gives place (Err refusal) (next q after) = ⊥
