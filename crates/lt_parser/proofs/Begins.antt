@@ -11,7 +11,7 @@ use Rattle.lt_ast.specs.Tokens.{binary_sign}
 use Rattle.lt_parser.specs.Lexemes.{Lexemes, lexeme, IsNotFirst}
 use Rattle.lt_parser.specs.Precedence.{rank, operator, Stands, left_least, side_least, IsNoOperator}
 use Rattle.lt_parser.specs.Grammar.{DerivesExp, DerivesArgument, DerivesMoreArguments, DerivesTrace, DerivesSequence, DerivesMoreAlternatives, Place, item}
-use Rattle.lt_parser.specs.Reading.{Goal, outcome, onward, an_exp, a_right_side, an_item, an_argument, some_arguments, more_arguments, some_braced, an_alternative, after_weight, after_first, more_items, sequence_of, begins_item, begin_exp, begin_item, begin_argument, begin_alternative, a_trace}
+use Rattle.lt_parser.specs.inner.Reading.{Goal, outcome, onward, an_exp, a_right_side, an_item, an_argument, some_arguments, more_arguments, some_braced, an_alternative, after_weight, after_first, more_items, sequence_of, begins_item, begin_exp, begin_item, begin_argument, begin_alternative, a_trace}
 use Rattle.lt_parser.proofs.Skips.{Heads}
 use Rattle.lt_parser.proofs.Operators.{looser, left_rank, operator-sign}
 

@@ -12,11 +12,12 @@ use Rattle.lt_ast.specs.Syntax as s
 use Rattle.lt_ast.specs.Syntax.{Word, Figure, Interval, Exp, Argument, Arguments, Limits, Braces, Alternative, Alternatives, Trace, Traces, Grouping, Groupings, MaybeExp, MaybeTrace, Parameters, Meaning, Macro, Declaration}
 use Rattle.lt_ast.specs.Tokens.{binary_sign, type_sign}
 use Rattle.lt_parser.specs.Lexemes.{Lexemes, lexeme, IsNotFirst}
-use Rattle.lt_parser.specs.Precedence.{rank, under, Stands, left_least, right_least, IsNoOperator, across, span_of}
+use Rattle.lt_parser.specs.Precedence.{rank, under, Stands, left_least, right_least, IsNoOperator}
+use Rattle.lt_ast.specs.Places.{across, span_of}
 use Rattle.lt_parser.specs.Grammar.{IsNoWeight, opened, MayOpen, Place, whole, item, Ends, DerivesNames, DerivesMoreNames, DerivesNumber, DerivesFigure, DerivesRange, DerivesRef, DerivesExp, DerivesArgument, DerivesArguments, DerivesMoreArguments, DerivesBraced, DerivesChoice, DerivesMoreAlternatives, DerivesAlternative, DerivesTraces, DerivesMoreTraces, DerivesLimits, DerivesBound, DerivesGrouping, DerivesFirst, DerivesGroups, DerivesMoreGroups, DerivesParameters, DerivesMeaning, DerivesMacro, DerivesTrace, DerivesSequence, DerivesMoreItems, DerivesHandler, Means, HasAlternative, HasTrace, HasGroup, DerivesDeclaration, SpellsWithin}
-use Rattle.lt_parser.specs.Reading.{Goal, Stop, done, a_list, outcome, onward, operand, allowed, opens, top, cap, an_exp, more_exp, some_arguments, more_arguments, an_argument, an_item, more_items, a_handler, some_limits, a_bound, some_braced, after_first, an_alternative, after_weight, more_alternatives, more_traces, some_groups, more_groups, more_names, a_type, a_ref, a_range, a_figure, a_first, some_parameters, declarations, a_trace, names, a_group, groups, a_meaning, a_macro, a_sign, a_name, paren_goal, if_goal, sequence_of}
+use Rattle.lt_parser.specs.inner.Reading.{Goal, Stop, done, a_list, outcome, onward, operand, allowed, opens, top, cap, an_exp, more_exp, some_arguments, more_arguments, an_argument, an_item, more_items, a_handler, some_limits, a_bound, some_braced, after_first, an_alternative, after_weight, more_alternatives, more_traces, some_groups, more_groups, more_names, a_type, a_ref, a_range, a_figure, a_first, some_parameters, declarations, a_trace, names, a_group, groups, a_meaning, a_macro, a_sign, a_name, paren_goal, if_goal, sequence_of}
 use Rattle.lt_parser.specs.Program.{SpellsAtMostOne}
-use Rattle.lt_parser.specs.Reading.{ReadsTheSpelled}
+use Rattle.lt_parser.specs.inner.Reading.{ReadsTheSpelled}
 use Rattle.lt_parser.proofs.Skips.{enter, Heads, ends, no_call, no_item, no_handler, no_ref, no_range, no_first, no_parameters, no_name, no_limits}
 use Rattle.lt_parser.proofs.Operators.{stands_zero, looser, left_rank, left_top, right_top, cap_right, under_top, top_under, take_unary, take_binary}
 use Rattle.lt_parser.proofs.Begins.{closed, head_op, differs, item_value, argument_value, arguments_first, alternative_value, side_first, arguments_closed, no_weight, braced_first, unweighted_by}
@@ -86,11 +87,11 @@ pub data Mode : Type 0 where
   as_first : Mode
   as_alternative : Mode
 
-abbrev pub place_of : Mode → Place
-place_of as_whole = whole
-place_of as_part = item
-place_of as_first = item
-place_of as_alternative = whole
+abbrev pub wanted_as : Mode → Place
+wanted_as as_whole = whole
+wanted_as as_part = item
+wanted_as as_first = item
+wanted_as as_alternative = whole
 
 abbrev pub ReadsAt : Mode → ℕ → ℕ → Trace → Lexemes → Lexemes → Type 0
 ReadsAt as_whole most d x ts rest = (k : Trace → Goal) → outcome most (a_trace d k) ts ≡ outcome most (k x) rest
@@ -98,21 +99,21 @@ ReadsAt as_part most d x ts rest = (k : Trace → Goal) → outcome most (an_ite
 ReadsAt as_first most d x ts rest = IsNotFirst t.Colon rest → (k : Alternative → Goal) → outcome most (an_alternative d k) ts ≡ outcome most (more_items d (λ xs. k (s.unweighted (sequence_of x xs)))) rest
 ReadsAt as_alternative most d x ts rest = IsNoWeight x rest → (k : Alternative → Goal) → outcome most (an_alternative d k) ts ≡ outcome most (k (s.unweighted x)) rest
 
-placed : (o : Mode) (most d : ℕ) (x : Trace) (ts rest : Lexemes) → ((k : Trace → Goal) → outcome most (an_item d k) ts ≡ outcome most (k x) rest) → Ends (place_of o) rest
+placed : (o : Mode) (most d : ℕ) (x : Trace) (ts rest : Lexemes) → ((k : Trace → Goal) → outcome most (an_item d k) ts ≡ outcome most (k x) rest) → Ends (wanted_as o) rest
     → ((k : Alternative → Goal) → outcome most (an_alternative d k) ts ≡ outcome most (a_trace d (λ y. k (s.unweighted y))) ts) → ReadsAt o most d x ts rest
 placed as_whole most d x ts rest h e g = λ k. h (λ y. more_items d (λ ys. k (sequence_of y ys))) ∙ no_item most d (λ ys. k (sequence_of x ys)) rest e
 placed as_part most d x ts rest h e g = h
 placed as_first most d x ts rest h e g = λ c k. g k ∙ h (λ y. more_items d (λ ys. k (s.unweighted (sequence_of y ys))))
 placed as_alternative most d x ts rest h e g = λ c k. g k ∙ h (λ y. more_items d (λ ys. k (s.unweighted (sequence_of y ys)))) ∙ no_item most d (λ ys. k (s.unweighted (sequence_of x ys))) rest e
 
-value_at : (o : Mode) (e : Exp) (most d : ℕ) (ts rest : Lexemes) → DerivesExp most d ts e rest → Ends (place_of o) rest → ((k : Exp → Goal) → outcome most (an_exp d 0 k) ts ≡ outcome most (k e) rest) → ReadsAt o most d (s.value e) ts rest
+value_at : (o : Mode) (e : Exp) (most d : ℕ) (ts rest : Lexemes) → DerivesExp most d ts e rest → Ends (wanted_as o) rest → ((k : Exp → Goal) → outcome most (an_exp d 0 k) ts ≡ outcome most (k e) rest) → ReadsAt o most d (s.value e) ts rest
 value_at as_whole e most d ts rest x n h = λ k. item_value e most d d ts rest x (λ y. more_items d (λ ys. k (sequence_of y ys))) ∙ h (λ e'. more_items d (λ ys. k (sequence_of (s.value e') ys))) ∙ no_item most d (λ ys. k (sequence_of (s.value e) ys)) rest n
 value_at as_part e most d ts rest x n h = λ k. item_value e most d d ts rest x k ∙ h (λ e'. k (s.value e'))
 value_at as_first e most d ts rest x n h = λ c k. alternative_value e most d d ts rest x k ∙ h (λ e'. after_weight d e' k) ∙ no_weight most d e k rest c
 value_at as_alternative e most d ts rest x n h = λ c k. alternative_value e most d d ts rest x k ∙ h (λ e'. after_weight d e' k) ∙ no_weight most d e k rest c ∙ no_item most d (λ ys. k (s.unweighted (sequence_of (s.value e) ys))) rest n
 
 -- a sequence of a first part and more
-sequence_at : (o : Mode) (y : Trace) (ys : Traces) (most d : ℕ) (ts m rest : Lexemes) → place_of o ≡ whole → HasTrace ys → IsNotFirst t.Colon m → ReadsAt as_part most d y ts m → ReadsAt as_first most d y ts m
+sequence_at : (o : Mode) (y : Trace) (ys : Traces) (most d : ℕ) (ts m rest : Lexemes) → wanted_as o ≡ whole → HasTrace ys → IsNotFirst t.Colon m → ReadsAt as_part most d y ts m → ReadsAt as_first most d y ts m
     → ((k : Traces → Goal) → outcome most (more_items d k) m ≡ outcome most (k ys) rest) → ReadsAt o most d (s.sequence (s.one_trace y ys)) ts rest
 sequence_at o y s.no_traces most d ts m rest q n c h g f = absurd n
 sequence_at as_whole y (s.one_trace z zs) most d ts m rest q n c h g f = λ k. h (λ y'. more_items d (λ ys'. k (sequence_of y' ys'))) ∙ f (λ ys'. k (sequence_of y ys'))
@@ -404,7 +405,7 @@ mutual
       ∙ reads_type kind most x.4 x.5 (lexeme t.Equal x.6 x.7 ∷ x.8) (λ ki. a_sign t.Equal (λ q. a_meaning d ki (λ y'. k (s.macro n ps ki y'))))
       ∙ reads_meaning y kind most d x.8 rest x.10 x.11 (λ y'. k (s.macro n ps kind y'))
 
-  pub reads_at : (y : Trace) (o : Mode) (most d : ℕ) (ts rest : Lexemes) → DerivesTrace most d (place_of o) ts y rest → ReadsAt o most d y ts rest
+  pub reads_at : (y : Trace) (o : Mode) (most d : ℕ) (ts rest : Lexemes) → DerivesTrace most d (wanted_as o) ts y rest → ReadsAt o most d y ts rest
   reads_at (s.sequence ys) o most d ts rest x = reads_sequence ys o most d ts rest x.0 x.1
   reads_at (s.braces y at) o most d ts rest x =
       placed o most d (s.braces y at) ts rest
@@ -424,41 +425,41 @@ mutual
       (λ k. ap (outcome most (an_item d k)) x.3 ∙ enter most (suc d) x.4 (an_exp (suc d) 0 (λ e'. a_sign t.In (λ p. a_trace (suc d) (λ y'. k (s.assert e' y'))))) x.2
       ∙ fully e most (suc d) x.2 (lexeme t.In x.5 x.6 ∷ x.7) (reads_exp e most (suc d) 0 x.2 (lexeme t.In x.5 x.6 ∷ x.7) x.8 (stands_zero e) (no_heads (λ op. rank op ≤ top e) (lexeme t.In x.5 x.6 ∷ x.7) c)) c (λ e'. a_sign t.In (λ p. a_trace (suc d) (λ y'. k (s.assert e' y'))))
       ∙ reads_at y as_whole most (suc d) x.7 rest x.9 (λ y'. k (s.assert e y')))
-      (to_place (place_of o) rest (whole_end y most (suc d) x.7 rest x.9)) (unweighted_by t.Assert x.0 x.1 x.2 ts most d x.3 refl)
+      (to_place (wanted_as o) rest (whole_end y most (suc d) x.7 rest x.9)) (unweighted_by t.Assert x.0 x.1 x.2 ts most d x.3 refl)
   reads_at (s.exist gs y) o most d ts rest x =
       placed o most d (s.exist gs y) ts rest
       (λ k. ap (outcome most (an_item d k)) x.3 ∙ enter most (suc d) x.4 (groups (suc d) t.In (λ gs'. a_trace (suc d) (λ y'. k (s.exist gs' y')))) x.2
       ∙ reads_groups gs most (suc d) x.2 x.6 x.5 x.7 (λ gs'. a_trace (suc d) (λ y'. k (s.exist gs' y'))) ∙ reads_at y as_whole most (suc d) x.6 rest x.8 (λ y'. k (s.exist gs y')))
-      (to_place (place_of o) rest (whole_end y most (suc d) x.6 rest x.8)) (unweighted_by t.Exist x.0 x.1 x.2 ts most d x.3 refl)
+      (to_place (wanted_as o) rest (whole_end y most (suc d) x.6 rest x.8)) (unweighted_by t.Exist x.0 x.1 x.2 ts most d x.3 refl)
   reads_at (s.define z y) o most d ts rest x =
       placed o most d (s.define z y) ts rest
       (λ k. ap (outcome most (an_item d k)) x.3 ∙ enter most (suc d) x.4 (a_macro (suc d) (λ z'. a_sign t.In (λ p. a_trace (suc d) (λ y'. k (s.define z' y'))))) x.2
       ∙ reads_macro z most (suc d) x.2 (lexeme t.In x.5 x.6 ∷ x.7) x.8 (λ z'. a_sign t.In (λ p. a_trace (suc d) (λ y'. k (s.define z' y')))) ∙ reads_at y as_whole most (suc d) x.7 rest x.9 (λ y'. k (s.define z y')))
-      (to_place (place_of o) rest (whole_end y most (suc d) x.7 rest x.9)) (unweighted_by t.Let x.0 x.1 x.2 ts most d x.3 refl)
+      (to_place (wanted_as o) rest (whole_end y most (suc d) x.7 rest x.9)) (unweighted_by t.Let x.0 x.1 x.2 ts most d x.3 refl)
   reads_at (s.exceptions ns y) o most d ts rest x =
       placed o most d (s.exceptions ns y) ts rest
       (λ k. ap (outcome most (an_item d k)) x.3 ∙ enter most (suc d) x.4 (names (λ ns'. a_sign t.In (λ p. a_trace (suc d) (λ y'. k (s.exceptions ns' y'))))) x.2
       ∙ reads_names ns most x.2 (lexeme t.In x.5 x.6 ∷ x.7) x.8 (λ ns'. a_sign t.In (λ p. a_trace (suc d) (λ y'. k (s.exceptions ns' y')))) ∙ reads_at y as_whole most (suc d) x.7 rest x.9 (λ y'. k (s.exceptions ns y')))
-      (to_place (place_of o) rest (whole_end y most (suc d) x.7 rest x.9)) (unweighted_by t.Exception x.0 x.1 x.2 ts most d x.3 refl)
+      (to_place (wanted_as o) rest (whole_end y most (suc d) x.7 rest x.9)) (unweighted_by t.Exception x.0 x.1 x.2 ts most d x.3 refl)
   reads_at (s.catch n y h) o most d ts rest x =
       placed o most d (s.catch n y h) ts rest
       (λ k. ap (outcome most (an_item d k)) x.5 ∙ enter most (suc d) x.6 (a_name (λ n'. a_sign t.In (λ p. a_trace (suc d) (λ y'. a_handler (suc d) (λ h'. k (s.catch n' y' h')))))) (lexeme t.Name n.text n.span ∷ (lexeme t.In x.2 x.3 ∷ x.4))
       ∙ reads_at y as_whole most (suc d) x.4 x.7 x.8 (λ y'. a_handler (suc d) (λ h'. k (s.catch n y' h'))) ∙ reads_handler h most (suc d) x.7 rest x.9 (λ h'. k (s.catch n y h')))
-      (to_place (place_of o) rest (handler_end h most (suc d) x.7 rest x.9 (whole_end y most (suc d) x.4 x.7 x.8))) (unweighted_by t.Catch x.0 x.1 (lexeme t.Name n.text n.span ∷ (lexeme t.In x.2 x.3 ∷ x.4)) ts most d x.5 refl)
+      (to_place (wanted_as o) rest (handler_end h most (suc d) x.7 rest x.9 (whole_end y most (suc d) x.4 x.7 x.8))) (unweighted_by t.Catch x.0 x.1 (lexeme t.Name n.text n.span ∷ (lexeme t.In x.2 x.3 ∷ x.4)) ts most d x.5 refl)
   reads_at (s.trap n y h) o most d ts rest x =
       placed o most d (s.trap n y h) ts rest
       (λ k. ap (outcome most (an_item d k)) x.5 ∙ enter most (suc d) x.6 (a_name (λ n'. a_sign t.In (λ p. a_trace (suc d) (λ y'. a_handler (suc d) (λ h'. k (s.trap n' y' h')))))) (lexeme t.Name n.text n.span ∷ (lexeme t.In x.2 x.3 ∷ x.4))
       ∙ reads_at y as_whole most (suc d) x.4 x.7 x.8 (λ y'. a_handler (suc d) (λ h'. k (s.trap n y' h'))) ∙ reads_handler h most (suc d) x.7 rest x.9 (λ h'. k (s.trap n y h')))
-      (to_place (place_of o) rest (handler_end h most (suc d) x.7 rest x.9 (whole_end y most (suc d) x.4 x.7 x.8))) (unweighted_by t.Trap x.0 x.1 (lexeme t.Name n.text n.span ∷ (lexeme t.In x.2 x.3 ∷ x.4)) ts most d x.5 refl)
+      (to_place (wanted_as o) rest (handler_end h most (suc d) x.7 rest x.9 (whole_end y most (suc d) x.4 x.7 x.8))) (unweighted_by t.Trap x.0 x.1 (lexeme t.Name n.text n.span ∷ (lexeme t.In x.2 x.3 ∷ x.4)) ts most d x.5 refl)
   reads_at (s.try y h) o most d ts rest x =
       placed o most d (s.try y h) ts rest
       (λ k. ap (outcome most (an_item d k)) x.3 ∙ enter most (suc d) x.4 (a_trace (suc d) (λ y'. a_handler (suc d) (λ h'. k (s.try y' h')))) x.2
       ∙ reads_at y as_whole most (suc d) x.2 x.5 x.6 (λ y'. a_handler (suc d) (λ h'. k (s.try y' h'))) ∙ reads_handler h most (suc d) x.5 rest x.7 (λ h'. k (s.try y h')))
-      (to_place (place_of o) rest (handler_end h most (suc d) x.5 rest x.7 (whole_end y most (suc d) x.2 x.5 x.6))) (unweighted_by t.Try x.0 x.1 x.2 ts most d x.3 refl)
+      (to_place (wanted_as o) rest (handler_end h most (suc d) x.5 rest x.7 (whole_end y most (suc d) x.2 x.5 x.6))) (unweighted_by t.Try x.0 x.1 x.2 ts most d x.3 refl)
   reads_at (s.value e) o most d ts rest x =
       value_at o e most d ts rest x.0 x.2 (fully e most d ts rest (reads_exp e most d 0 ts rest x.0 (stands_zero e) (no_heads (λ op. rank op ≤ top e) rest x.1)) x.1)
 
-  reads_sequence : (ys : Traces) (o : Mode) (most d : ℕ) (ts rest : Lexemes) → place_of o ≡ whole → DerivesSequence most d ts ys rest → ReadsAt o most d (s.sequence ys) ts rest
+  reads_sequence : (ys : Traces) (o : Mode) (most d : ℕ) (ts rest : Lexemes) → wanted_as o ≡ whole → DerivesSequence most d ts ys rest → ReadsAt o most d (s.sequence ys) ts rest
   reads_sequence s.no_traces o most d ts rest q x = absurd x
   reads_sequence (s.one_trace y ys) o most d ts rest q x =
       sequence_at o y ys most d ts x.0 rest q x.2 (more_uncolon ys most d x.0 rest x.2 x.3) (reads_at y as_part most d ts x.0 x.1) (reads_at y as_first most d ts x.0 x.1) (reads_more_parts ys most d x.0 rest x.3)

@@ -7,6 +7,7 @@ pub mod Placed
 pub mod Places
 pub mod PrintedText
 pub mod Programs
+pub mod Public
 pub mod Rows
 pub mod Skips
 pub mod Sound

@@ -12,8 +12,9 @@ use Rattle.lt_ast.specs.declared.expr.BinOp.{BinOp}
 use Rattle.lt_ast.specs.declared.expr.BinOp.TheVariants as b
 use Rattle.lt_ast.specs.Syntax as s
 use Rattle.lt_ast.specs.Syntax.{Word, Figure, Interval, Exp, Argument, Arguments, Limits, Braces, Alternative, Alternatives, Trace, Traces, Grouping, Groupings, MaybeExp, MaybeTrace, Parameters, Meaning, Macro, Declaration}
-use Rattle.lt_parser.specs.Precedence.{rank, operator, across, span_of}
-use Rattle.lt_parser.specs.Reading.{Goal, Answer, stuck, next, opens, step, extend, operand, allowed, top, done, a_sign, a_name, an_exp, more_exp, a_right_side, after_name, some_arguments, more_arguments, an_argument, an_item, more_items, a_handler, some_limits, a_bound, some_braced, after_first, an_alternative, after_weight, more_alternatives, more_traces, some_groups, more_groups, more_names, a_type, a_ref, a_range, a_figure, a_digits, a_list, a_first, some_parameters, declarations, a_trace, after_group_name, groups, a_meaning, a_macro, sequence_of, begin_exp, begin_item, begin_argument, begin_alternative, begins_item, right_side_low, unary_goal, if_goal}
+use Rattle.lt_parser.specs.Precedence.{rank, operator}
+use Rattle.lt_ast.specs.Places.{across, span_of}
+use Rattle.lt_parser.specs.inner.Reading.{Goal, Move, stuck, next, opens, step, extend, operand, allowed, top, done, a_sign, a_name, an_exp, more_exp, a_right_side, after_name, some_arguments, more_arguments, an_argument, an_item, more_items, a_handler, some_limits, a_bound, some_braced, after_first, an_alternative, after_weight, more_alternatives, more_traces, some_groups, more_groups, more_names, a_type, a_ref, a_range, a_figure, a_digits, a_list, a_first, some_parameters, declarations, a_trace, after_group_name, groups, a_meaning, a_macro, sequence_of, begin_exp, begin_item, begin_argument, begin_alternative, begins_item, right_side_low, unary_goal, if_goal}
 
 -- Each number of levels in a want, and in all that is wanted after it, is at most this one.
 abbrev pub Low : ℕ → Goal → Type 0
@@ -52,10 +53,10 @@ Low n (some_parameters d k) = (d ≤ n) × ((x : Parameters) → Low n (k x))
 Low n (declarations k) = (x : List Declaration) → Low n (k x)
 
 -- After a token: the level that it opens is at most one more, and where it is none too many, what is wanted next keeps within them.
-abbrev pub LowAnswer : ℕ → Answer → Type 0
-LowAnswer n stuck = Unit {0}
-LowAnswer n (next goal) = Low n goal
-LowAnswer n (opens d goal) = (d ≤ suc n) × (d ≤ n → Low n goal)
+abbrev pub LowMove : ℕ → Move → Type 0
+LowMove n stuck = Unit {0}
+LowMove n (next goal) = Low n goal
+LowMove n (opens d goal) = (d ≤ suc n) × (d ≤ n → Low n goal)
 
 -- The level above one of at most so many is at most one more.
 one_more : (d n : ℕ) → d ≤ n → suc d ≤ suc n
@@ -68,12 +69,12 @@ none_open n = omega arith
 -- WANTS MADE OF OTHERS
 
 -- an answer that may not be given
-low_allowed : (b' : Bool) (n : ℕ) (a : Answer) → LowAnswer n a → LowAnswer n (allowed b' a)
+low_allowed : (b' : Bool) (n : ℕ) (a : Move) → LowMove n a → LowMove n (allowed b' a)
 low_allowed true n a h = h
 low_allowed false n a h = tt
 
 -- one of two answers
-low_if : (b' : Bool) (n : ℕ) (x y : Answer) → LowAnswer n x → LowAnswer n y → LowAnswer n (if b' then x else y)
+low_if : (b' : Bool) (n : ℕ) (x y : Move) → LowMove n x → LowMove n y → LowMove n (if b' then x else y)
 low_if true n x y h g = h
 low_if false n x y h g = g
 
@@ -103,7 +104,7 @@ low_macro n d k l h = λ x. (l, λ ps p kind q. low_meaning kind n d (λ y. k (s
 -- WHAT A TOKEN BEGINS
 
 -- an expression
-low_exp : (n d low : ℕ) (k : Exp → Goal) → d ≤ n → ((e : Exp) → Low n (k e)) → (sign : Sign) (w : List ℕ) (at : Span) → LowAnswer n (begin_exp d low k sign w at)
+low_exp : (n d low : ℕ) (k : Exp → Goal) → d ≤ n → ((e : Exp) → Low n (k e)) → (sign : Sign) (w : List ℕ) (at : Span) → LowMove n (begin_exp d low k sign w at)
 low_exp n d low k l h t.Number w at = (l, h)
 low_exp n d low k l h t.True w at = (l, h)
 low_exp n d low k l h t.False w at = (l, h)
@@ -116,7 +117,7 @@ low_exp n d low k l h t.If w at = low_allowed (nat_le low 0) n (opens (suc d) (i
 low_exp n d low k l h sign w at = tt
 
 -- an item
-low_item : (n d : ℕ) (k : Trace → Goal) → d ≤ n → ((x : Trace) → Low n (k x)) → (sign : Sign) (w : List ℕ) (at : Span) → LowAnswer n (begin_item d k sign w at)
+low_item : (n d : ℕ) (k : Trace → Goal) → d ≤ n → ((x : Trace) → Low n (k x)) → (sign : Sign) (w : List ℕ) (at : Span) → LowMove n (begin_item d k sign w at)
 low_item n d k l h t.OpenBrace w at = (one_more d n l, λ m. (m, λ x q. h (s.braces x (across at q))))
 low_item n d k l h t.Loop w at = (one_more d n l, λ m. (m, λ y. (m, λ x. h (s.loop y x))))
 low_item n d k l h t.Raise w at = λ x. h (s.raise x)
@@ -132,17 +133,17 @@ low_item n d k l h t.Try w at = (one_more d n l, λ m. low_trace n (suc d) (λ x
 low_item n d k l h sign w at = low_exp n d 0 (λ e. k (s.value e)) l (λ e. h (s.value e)) sign w at
 
 -- an argument
-low_argument : (n d : ℕ) (k : Argument → Goal) → d ≤ n → ((x : Argument) → Low n (k x)) → (sign : Sign) (w : List ℕ) (at : Span) → LowAnswer n (begin_argument d k sign w at)
+low_argument : (n d : ℕ) (k : Argument → Goal) → d ≤ n → ((x : Argument) → Low n (k x)) → (sign : Sign) (w : List ℕ) (at : Span) → LowMove n (begin_argument d k sign w at)
 low_argument n d k l h t.OpenBrace w at = (one_more d n l, λ m. (m, λ x q. h (s.trace_argument x (across at q))))
 low_argument n d k l h sign w at = low_exp n d 0 (λ e. k (s.value_argument e)) l (λ e. h (s.value_argument e)) sign w at
 
 -- an alternative
-low_alternative : (c : Bool) (n d : ℕ) (k : Alternative → Goal) → d ≤ n → ((x : Alternative) → Low n (k x)) → (sign : Sign) (w : List ℕ) (at : Span) → LowAnswer n (begin_alternative c d k sign w at)
+low_alternative : (c : Bool) (n d : ℕ) (k : Alternative → Goal) → d ≤ n → ((x : Alternative) → Low n (k x)) → (sign : Sign) (w : List ℕ) (at : Span) → LowMove n (begin_alternative c d k sign w at)
 low_alternative true n d k l h sign w at = low_item n d (λ x. more_items d (λ xs. k (s.unweighted (sequence_of x xs)))) l (λ x. (l, λ xs. h (s.unweighted (sequence_of x xs)))) sign w at
 low_alternative false n d k l h sign w at = low_exp n d 0 (λ e. after_weight d e k) l (λ e. (l, h)) sign w at
 
 -- the right side of an operator
-low_operand : (op : BinOp) (n d : ℕ) (k : Exp → Goal) → d ≤ n → ((e : Exp) → Low n (k e)) → LowAnswer n (operand d op k)
+low_operand : (op : BinOp) (n d : ℕ) (k : Exp → Goal) → d ≤ n → ((e : Exp) → Low n (k e)) → LowMove n (operand d op k)
 low_operand b.Implies n d k l h = (one_more d n l, λ m. (m, h))
 low_operand b.Eq n d k l h = (l, h)
 low_operand b.Ne n d k l h = (l, h)
@@ -153,7 +154,7 @@ low_operand b.Ge n d k l h = (l, h)
 low_operand op n d k l h = (l, h)
 
 -- what extends an expression
-low_extend : (o : Option BinOp) (n d low : ℕ) (x : Exp) (k : Exp → Goal) (skip : Answer) → d ≤ n → ((e : Exp) → Low n (k e)) → LowAnswer n skip → LowAnswer n (extend o d low x k skip)
+low_extend : (o : Option BinOp) (n d low : ℕ) (x : Exp) (k : Exp → Goal) (skip : Move) → d ≤ n → ((e : Exp) → Low n (k e)) → LowMove n skip → LowMove n (extend o d low x k skip)
 low_extend None n d low x k skip l h g = g
 low_extend (Some op) n d low x k skip l h g =
     low_if (nat_lt (rank op) low) n skip (if nat_le (rank op) (top x) then operand d op (λ y. more_exp d low (s.binary op x y (across (span_of x) (span_of y))) k) else stuck) g
@@ -163,7 +164,7 @@ low_extend (Some op) n d low x k skip l h g =
 -- ONE TOKEN KEEPS IT
 
 -- A token opens at most one level more than a want speaks of.
-pub low_step : (g : Goal) (n : ℕ) (sign : Sign) (w : List ℕ) (at : Span) → Low n g → LowAnswer n (step g sign w at)
+pub low_step : (g : Goal) (n : ℕ) (sign : Sign) (w : List ℕ) (at : Span) → Low n g → LowMove n (step g sign w at)
 low_step (done xs) n sign w at h = tt
 low_step (a_sign wanted k) n sign w at h = low_if (sameb the_type wanted sign) n (next (k at)) stuck (h at) tt
 low_step (a_name k) n t.Name w at h = h (record { text = w; span = at })

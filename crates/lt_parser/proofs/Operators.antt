@@ -11,8 +11,9 @@ use Rattle.lt_ast.specs.Syntax as s
 use Rattle.lt_ast.specs.Syntax.{Exp}
 use Rattle.lt_ast.specs.Tokens.{unary_sign, binary_sign}
 use Rattle.lt_parser.specs.Lexemes.{Lexemes, lexeme}
-use Rattle.lt_parser.specs.Precedence.{rank, under, operator, Stands, left_least, right_least, side_least, across, span_of}
-use Rattle.lt_parser.specs.Reading.{Goal, Answer, outcome, onward, operand, allowed, opens, stuck, extend, step, top, cap, an_exp, more_exp, unary_goal}
+use Rattle.lt_parser.specs.Precedence.{rank, under, operator, Stands, left_least, right_least, side_least}
+use Rattle.lt_ast.specs.Places.{across, span_of}
+use Rattle.lt_parser.specs.inner.Reading.{Goal, Move, outcome, onward, operand, allowed, opens, stuck, extend, step, top, cap, an_exp, more_exp, unary_goal}
 use Rattle.lt_parser.proofs.Skips.{enter}
 
 -- Any expression may stand where the loosest is wanted, and where a looser one is than it is.
@@ -43,7 +44,7 @@ left_rank b.Gt = omega arith
 left_rank b.Ge = omega arith
 left_rank op = omega arith
 
--- the highest level of an operator behind an expression, by the level where it stands
+-- the highest level of an operator after an expression, by the level where it stands
 low_top : (e : Exp) (low : ℕ) → 2 ≤ low → low ≤ 3 → Stands low e → low ≤ top e
 low_top (s.choose e f g at) low l m h = absurd (omega (arith, l, h))
 low_top (s.binary b.Implies e f at) low l m h = absurd (omega (arith, l, h))
@@ -163,7 +164,7 @@ operator-sign b.Implies = refl
 not_below : (a low : ℕ) → low ≤ a → nat_lt a low ≡ false
 not_below a low le = grind (arith, nat_tests)
 
-extended : (o : Option BinOp) (op : BinOp) (d low : ℕ) (x : Exp) (k : Exp → Goal) (skip : Answer) → o ≡ Some op → low ≤ rank op → rank op ≤ top x
+extended : (o : Option BinOp) (op : BinOp) (d low : ℕ) (x : Exp) (k : Exp → Goal) (skip : Move) → o ≡ Some op → low ≤ rank op → rank op ≤ top x
     → extend o d low x k skip ≡ operand d op (λ y. more_exp d low (s.binary op x y (across (span_of x) (span_of y))) k)
 extended o op d low x k skip e l r =
     ap (λ o'. extend o' d low x k skip) e

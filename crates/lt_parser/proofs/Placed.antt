@@ -5,10 +5,11 @@ use Rattle.lt_ast.specs.Syntax.{Declaration}
 use Rattle.lt_ast.specs.View.{program}
 use Rattle.lt_ast.specs.declared.program.Program.{Program}
 use Rattle.lt_lexer.specs.declared.token.Token.{Token}
-use Rattle.lt_parser.specs.Going.{ProgramGoes}
-use Rattle.lt_parser.specs.Lexemes.{Lexeme, Lexemes, lexeme_of, lexemes}
-use Rattle.lt_parser.specs.Placing.{IsPlaced, IsWithin}
-use Rattle.lt_parser.specs.Text.{AnswersProgram, AnswersRefusal, AreLexemesOf, HasLexemes, IsLexemeOf, IsProgramOf, IsRefusal, place_of}
+use Rattle.lt_parser.specs.inner.Parsing.{ProgramReadsAs}
+use Rattle.lt_parser.specs.Lexemes.{Lexeme, Lexemes}
+use Rattle.lt_parser.specs.inner.Tokens.{lexeme_of, lexemes}
+use Rattle.lt_parser.specs.inner.Placing.{IsPlaced, IsWithin}
+use Rattle.lt_parser.specs.Text.{AnswersProgram, AnswersRefusal, AreLexemesOf, HasLexemes, IsLexemeOf, IsProgramOf, IsRefusal, start_of}
 use Rattle.lt_parser.specs.declared.refusal.ParseRefusal.{ParseRefusal}
 use Rattle.lt_parser.specs.declared.refusal.ParseRefusal.TheVariants.{Memory}
 use Rattle.lt_parser.specs.declared.refusal.Refusal.{Refusal}
@@ -30,7 +31,7 @@ pub lexemes-push : (ts : List parser.Token) (t : parser.Token) → lexemes (ts +
 lexemes-push [] t = refl
 lexemes-push (u ∷ us) t = ap (λ ls. lexeme_of u ∷ ls) (lexemes-push us t)
 
--- the loop over the lexer's tokens goes on to the next one
+-- the loop over the lexer's tokens comes to the next one
 pub next_lexeme : (text : List ℕ) (lexed : List Token) (i : ℕ) (d : Token) (ts new : List parser.Token) (t : parser.Token) → i < length lexed → AreLexemesOf text (take i lexed) (lexemes ts) → new ≡ ts ++ t ∷ []
     → IsLexemeOf text (get_or lexed i d) (lexeme_of t) → AreLexemesOf text (take (i + 1) lexed) (lexemes new)
 next_lexeme text lexed i d ts new t le h e g =
@@ -47,13 +48,13 @@ length-lexemes (t ∷ ts) = ap suc (length-lexemes ts)
 -- PLACES
 
 -- the rest from a token on begins where that token stands
-pub place_at : (text : List ℕ) (ts : List parser.Token) (i : ℕ) (t : parser.Token) → i < length ts → t ≡ get_or ts i t → t.span.start ≡ place_of text (drop i (lexemes ts))
+pub place_at : (text : List ℕ) (ts : List parser.Token) (i : ℕ) (t : parser.Token) → i < length ts → t ≡ get_or ts i t → t.span.start ≡ start_of text (drop i (lexemes ts))
 place_at text [] i t le e = absurd (omega (arith, le))
 place_at text (u ∷ us) zero t le e = ap (λ v. v.span.start) e
 place_at text (u ∷ us) (suc i) t le e = place_at text us i t (omega (arith, le)) e
 
 -- No more tokens are left than there are.
-pub refused_within : (ls : Lexemes) (refusal : Refusal) → ProgramGoes ls (Err refusal) → IsWithin ls refusal
+pub refused_within : (ls : Lexemes) (refusal : Refusal) → ProgramReadsAs ls (Err refusal) → IsWithin ls refusal
 refused_within ls (r.Unexpected left) h = unexpected_fits ls left h
 refused_within ls (r.TooDeep left) h = too_deep_fits ls left h
 refused_within ls r.Memory h = tt
@@ -61,11 +62,11 @@ refused_within ls r.Memory h = tt
 -- ANSWERS
 
 -- What is read is the text's program.
-pub read_program : (text : List ℕ) (ls : Lexemes) (p : Program) → HasLexemes text ls → ProgramGoes ls (Ok p) → IsProgramOf text (program p)
+pub read_program : (text : List ℕ) (ls : Lexemes) (p : Program) → HasLexemes text ls → ProgramReadsAs ls (Ok p) → IsProgramOf text (program p)
 read_program text ls p h g = read_is_program text ls (program p) h g
 
 -- What is refused is refused of the text.
-pub placed_refusal : (text : List ℕ) (ls : Lexemes) (refusal : Refusal) (answer : ParseRefusal) → HasLexemes text ls → ProgramGoes ls (Err refusal) → IsPlaced text ls refusal answer
+pub placed_refusal : (text : List ℕ) (ls : Lexemes) (refusal : Refusal) (answer : ParseRefusal) → HasLexemes text ls → ProgramReadsAs ls (Err refusal) → IsPlaced text ls refusal answer
     → (answer ≡ Memory) ⊎ IsRefusal text answer
 placed_refusal text ls (r.Unexpected left) answer h g e = inr (subst (IsRefusal text) (sym e) (unexpected_is_refusal text ls left h g))
 placed_refusal text ls (r.TooDeep left) answer h g e = inr (subst (IsRefusal text) (sym e) (too_deep_is_refusal text ls left h g))

@@ -6,13 +6,14 @@ use Rattle.lt_ast.specs.declared.span.Span.{Span}
 use Rattle.lt_ast.specs.Syntax as s
 use Rattle.lt_ast.specs.Syntax.{Declaration}
 use Rattle.lt_parser.specs.Lexemes.{Lexeme, Lexemes, lexeme}
-use Rattle.lt_parser.specs.Program.{IsViableWithin, NoneGoesOn, IsUnexpected, IsTooDeep}
-use Rattle.lt_parser.specs.Reading.{Goal, Answer, stuck, next, opens, Stop, unexpected, too_deep, step, finish, onward, outcome, done, more_exp, after_name, more_items, a_handler, some_limits, after_weight, more_names, a_ref, a_range, a_first, some_parameters, declarations, UnexpectedIsExact, TooDeepIsExact}
+use Rattle.lt_parser.specs.Program.{IsViableWithin, NoneContinues, IsUnexpected, IsTooDeep}
+use Rattle.lt_parser.specs.inner.Reading.{Goal, Move, stuck, next, opens, Stop, unexpected, too_deep, step, finish, onward, outcome, done, more_exp, after_name, more_items, a_handler, some_limits, after_weight, more_names, a_ref, a_range, a_first, some_parameters, declarations, UnexpectedIsExact, TooDeepIsExact}
 use Rattle.lt_parser.proofs.Complete.{spelled_is_read}
-use Rattle.lt_parser.proofs.Low.{Low, LowAnswer, low_step}
+use Rattle.lt_parser.proofs.Low.{Low, LowMove, low_step}
 use Rattle.lt_parser.proofs.Sound.{Accepts, Accepted, back, accepted_is_spelled, read_is_spelled}
 use Rattle.lt_parser.proofs.Stops.{unexpected_stops, deep_stops, program_has_none, one_unexpected, one_deep, not_both}
-use Rattle.lt_parser.proofs.Tidy.{Tidy, TidyAnswer, tidy_step, words, completes}
+use Rattle.lt_parser.proofs.Tidy.{Tidy, TidyMove, tidy_step, words, completes}
+use Rattle.lt_parser.specs.Nesting.{most_levels}
 
 -- Tokens that go on as these do aren't read, whatever the levels.
 abbrev pub StuckAt : Goal → Lexemes → Lexemes → Type 0
@@ -29,7 +30,7 @@ pub record Refuses (most : ℕ) (g : Goal) (ts : Lexemes) (left : ℕ) : Type 0 
   pub viable : Accepts most g (before ++ after)
   pub here : StuckAt g before rest
 
--- Reading may go on up to a token that opens one level too many; with one more level it may go on behind it.
+-- Reading may continue up to a token that opens one level too many; with one more level it may continue after it.
 pub record Deepens (most : ℕ) (g : Goal) (ts : Lexemes) (left : ℕ) : Type 0 where
   pub before : Lexemes
   pub token : Lexeme
@@ -93,24 +94,24 @@ same_depth : (a c : ℕ) → ◌≡◌ {A = Result (List Declaration) Stop} (Err
 same_depth a c q = cc
 
 -- a token is taken, and this is wanted after it
-abbrev Takes : Answer → Goal → Type 0
+abbrev Takes : Move → Goal → Type 0
 Takes a goal = (a ≡ next goal) ⊎ ((d : ℕ) × (a ≡ opens d goal))
 
--- What isn't refused at a test goes on.
+-- What isn't refused at a test continues.
 let_through : (b' : Bool) (y z : Result (List Declaration) Stop) (x : List Declaration) (e : Stop) → z ≡ Err e → (if b' then y else z) ≡ Ok x → y ≡ Ok x
 let_through true y z x e r q = q
 let_through false y z x e r q = cc
 
--- Reading goes on behind a token that is taken.
-goes_through : (most : ℕ) (a : Answer) (goal : Goal) (m : Lexemes) (x : List Declaration) → Takes a goal → onward most a (length m) (λ g. outcome most g m) ≡ Ok x → outcome most goal m ≡ Ok x
-goes_through most a goal m x (inl e) q = sym (ap (λ a'. onward most a' (length m) (λ g. outcome most g m)) e) ∙ q
-goes_through most a goal m x (inr e) q =
+-- Reading continues after a token that is taken.
+is_taken_on : (most : ℕ) (a : Move) (goal : Goal) (m : Lexemes) (x : List Declaration) → Takes a goal → onward most a (length m) (λ g. outcome most g m) ≡ Ok x → outcome most goal m ≡ Ok x
+is_taken_on most a goal m x (inl e) q = sym (ap (λ a'. onward most a' (length m) (λ g. outcome most g m)) e) ∙ q
+is_taken_on most a goal m x (inr e) q =
     let_through (nat_le e.0 most) (outcome most goal m) (Err (too_deep (suc (length m)))) x (too_deep (suc (length m))) refl (sym (ap (λ a'. onward most a' (length m) (λ g. outcome most g m)) e.1) ∙ q)
 
 -- A token before a place where reading stops puts it one token further.
 stuck_step : (g : Goal) (sign : Sign) (w : List ℕ) (at : Span) (goal : Goal) (before rest : Lexemes) → Takes (step g sign w at) goal → StuckAt goal before rest → StuckAt g (lexeme sign w at ∷ before) rest
-stuck_step g sign w at goal before [] e h = λ most x q. h most x (goes_through most (step g sign w at) goal before x e q)
-stuck_step g sign w at goal before (v ∷ us) e h = λ most m x q. h most m x (goes_through most (step g sign w at) goal ((before ++ v ∷ []) ++ m) x e q)
+stuck_step g sign w at goal before [] e h = λ most x q. h most x (is_taken_on most (step g sign w at) goal before x e q)
+stuck_step g sign w at goal before (v ∷ us) e h = λ most m x q. h most m x (is_taken_on most (step g sign w at) goal ((before ++ v ∷ []) ++ m) x e q)
 
 -- A refusal further on.
 refuses_later : (most : ℕ) (g : Goal) (sign : Sign) (w : List ℕ) (at : Span) (us : Lexemes) (left : ℕ) (goal : Goal) → Takes (step g sign w at) goal → ((ts : Lexemes) → Accepts most goal ts → Accepted most (step g sign w at) ts)
@@ -125,7 +126,7 @@ refuses_later most g sign w at us left goal e acc r = record {
   here = stuck_step g sign w at goal r.before r.rest e r.here;
 }
 
--- The same behind a token that opens a level.
+-- The same after a token that opens a level.
 refuses_open : (most : ℕ) (g : Goal) (sign : Sign) (w : List ℕ) (at : Span) (us : Lexemes) (left d : ℕ) (goal : Goal) → step g sign w at ≡ opens d goal → (outcome most goal us ≡ Err (unexpected left) → Refuses most goal us left)
     → (b' : Bool) → nat_le d most ≡ b' → (if b' then outcome most goal us else Err (too_deep (suc (length us)))) ≡ Err (unexpected left) → Refuses most g (lexeme sign w at ∷ us) left
 refuses_open most g sign w at us left d goal e ih true q r =
@@ -133,7 +134,7 @@ refuses_open most g sign w at us left d goal e ih true q r =
 refuses_open most g sign w at us left d goal e ih false q r = absurd (deep_is_not_unexpected (suc (length us)) left r)
 
 -- A refusal at this token or further on.
-refuses_step : (most : ℕ) (g : Goal) (sign : Sign) (w : List ℕ) (at : Span) (us : Lexemes) (left : ℕ) → 1 ≤ most → Tidy g → (a : Answer) → step g sign w at ≡ a → TidyAnswer a
+refuses_step : (most : ℕ) (g : Goal) (sign : Sign) (w : List ℕ) (at : Span) (us : Lexemes) (left : ℕ) → 1 ≤ most → Tidy g → (a : Move) → step g sign w at ≡ a → TidyMove a
     → ((goal : Goal) → Tidy goal → outcome most goal us ≡ Err (unexpected left) → Refuses most goal us left)
     → onward most a (length us) (λ goal. outcome most goal us) ≡ Err (unexpected left) → Refuses most g (lexeme sign w at ∷ us) left
 refuses_step most g sign w at us left le h stuck e n ih r = record {
@@ -174,7 +175,7 @@ deepens_later most g sign w at us left goal e acc r = record {
   viable = back g most sign w at (r.before ++ r.after) (acc most (r.before ++ r.after) (omega arith) r.viable);
   after_then = r.after_then;
   deep = back g (suc most) sign w at ((r.before ++ r.token ∷ []) ++ r.after_then) (acc (suc most) ((r.before ++ r.token ∷ []) ++ r.after_then) (omega arith) r.deep);
-  here = λ m x z. r.here m x (goes_through most (step g sign w at) goal ((r.before ++ r.token ∷ []) ++ m) x e z);
+  here = λ m x z. r.here m x (is_taken_on most (step g sign w at) goal ((r.before ++ r.token ∷ []) ++ m) x e z);
 }
 
 -- A token that opens a level: this is the one too many, or a later one.
@@ -199,7 +200,7 @@ deepens_open most g sign w at us left d goal le h n low e ih false q r = record 
 }
 
 -- A level too many at this token or further on.
-deepens_step : (most : ℕ) (g : Goal) (sign : Sign) (w : List ℕ) (at : Span) (us : Lexemes) (left : ℕ) → 1 ≤ most → Tidy g → (a : Answer) → step g sign w at ≡ a → TidyAnswer a → LowAnswer most a
+deepens_step : (most : ℕ) (g : Goal) (sign : Sign) (w : List ℕ) (at : Span) (us : Lexemes) (left : ℕ) → 1 ≤ most → Tidy g → (a : Move) → step g sign w at ≡ a → TidyMove a → LowMove most a
     → ((goal : Goal) → Tidy goal → Low most goal → outcome most goal us ≡ Err (too_deep left) → Deepens most goal us left)
     → onward most a (length us) (λ goal. outcome most goal us) ≡ Err (too_deep left) → Deepens most g (lexeme sign w at ∷ us) left
 deepens_step most g sign w at us left le h stuck e n low ih r = absurd (deep_is_not_unexpected left (suc (length us)) (sym r))
@@ -223,47 +224,47 @@ start_low : (most : ℕ) → Low most (declarations done)
 start_low most = λ xs. tt
 
 -- What isn't read is no beginning of a program, however many levels may be open.
-none_goes_on : (before rest : Lexemes) → StuckAt (declarations done) before rest → NoneGoesOn before rest
-none_goes_on before [] h = λ most x p. h most x (spelled_is_read x most before p)
-none_goes_on before (u ∷ us) h = λ most v. h most v.0 v.1 (spelled_is_read v.1 most ((before ++ u ∷ []) ++ v.0) v.2)
+none_continues : (before rest : Lexemes) → StuckAt (declarations done) before rest → NoneContinues before rest
+none_continues before [] h = λ most x p. h most x (spelled_is_read x most before p)
+none_continues before (u ∷ us) h = λ most v. h most v.0 v.1 (spelled_is_read v.1 most ((before ++ u ∷ []) ++ v.0) v.2)
 
--- Where what is wanted can be met behind these tokens, some program begins with them.
+-- Where what is wanted can be met after these tokens, some program begins with them.
 viable_from : (most : ℕ) (ts after : Lexemes) → Accepts most (declarations done) (ts ++ after) → IsViableWithin most ts
 viable_from most ts after a = let p = accepted_is_spelled most (ts ++ after) a in (after, p.0, p.1)
 
 -- Where reading stops for an unexpected token, one is.
-unexpected_is_there : (ts : Lexemes) (left : ℕ) → outcome 200 (declarations done) ts ≡ Err (unexpected left) → (rest : Lexemes) × (length rest ≡ left) × IsUnexpected ts rest
+unexpected_is_there : (ts : Lexemes) (left : ℕ) → outcome most_levels (declarations done) ts ≡ Err (unexpected left) → (rest : Lexemes) × (length rest ≡ left) × IsUnexpected ts rest
 unexpected_is_there ts left e =
-    let q = refuses ts 200 left (declarations done) (omega arith) start_tidy e in (
+    let q = refuses ts most_levels left (declarations done) (omega arith) start_tidy e in (
       q.rest,
       q.place,
       record {
         before = q.before;
         parts = q.parts;
-        viable = viable_from 200 q.before q.after q.viable;
-        stuck = none_goes_on q.before q.rest q.here;
+        viable = viable_from most_levels q.before q.after q.viable;
+        stuck = none_continues q.before q.rest q.here;
       },
     )
 
 -- Where reading stops for a level too many, a token opens it.
-deep_is_there : (ts : Lexemes) (left : ℕ) → outcome 200 (declarations done) ts ≡ Err (too_deep left) → (token : Lexeme) × (rest : Lexemes) × (suc (length rest) ≡ left) × IsTooDeep ts token rest
+deep_is_there : (ts : Lexemes) (left : ℕ) → outcome most_levels (declarations done) ts ≡ Err (too_deep left) → (token : Lexeme) × (rest : Lexemes) × (suc (length rest) ≡ left) × IsTooDeep ts token rest
 deep_is_there ts left e =
-    let q = deepens ts 200 left (declarations done) (omega arith) start_tidy (start_low 200) e in (
+    let q = deepens ts most_levels left (declarations done) (omega arith) start_tidy (start_low most_levels) e in (
       q.token,
       q.rest,
       q.place,
       record {
         before = q.before;
         parts = q.parts;
-        viable = viable_from 200 q.before q.after q.viable;
-        deep = viable_from 201 (q.before ++ q.token ∷ []) q.after_then q.deep;
-        stuck = λ v. q.here v.0 v.1 (spelled_is_read v.1 200 ((q.before ++ q.token ∷ []) ++ v.0) v.2);
+        viable = viable_from most_levels q.before q.after q.viable;
+        deep = viable_from (suc most_levels) (q.before ++ q.token ∷ []) q.after_then q.deep;
+        stuck = λ v. q.here v.0 v.1 (spelled_is_read v.1 most_levels ((q.before ++ q.token ∷ []) ++ v.0) v.2);
       },
     )
 
 -- At an unexpected token reading stops for it, whatever it was said to do.
-stops_unexpected : (ts rest : Lexemes) → IsUnexpected ts rest → (r : Result (List Declaration) Stop) → outcome 200 (declarations done) ts ≡ r → r ≡ Err (unexpected (length rest))
-stops_unexpected ts rest q (Ok x) e = absurd (program_has_none ts q.before rest x (unexpected_stops ts rest q) (read_is_spelled 200 ts x e))
+stops_unexpected : (ts rest : Lexemes) → IsUnexpected ts rest → (r : Result (List Declaration) Stop) → outcome most_levels (declarations done) ts ≡ r → r ≡ Err (unexpected (length rest))
+stops_unexpected ts rest q (Ok x) e = absurd (program_has_none ts q.before rest x (unexpected_stops ts rest q) (read_is_spelled most_levels ts x e))
 stops_unexpected ts rest q (Err (unexpected left)) e =
     let p = unexpected_is_there ts left e in
     ap (λ n. Err (unexpected n)) (sym p.1 ∙ ap (λ m. length m) (one_unexpected ts p.0 rest p.2 q))
@@ -271,8 +272,8 @@ stops_unexpected ts rest q (Err (too_deep left)) e = let p = deep_is_there ts le
 
 -- At a token that opens a level too many reading stops for that, whatever it was said to do.
 stops_deep : (ts : Lexemes) (token : Lexeme) (rest : Lexemes) → IsTooDeep ts token rest
-    → (r : Result (List Declaration) Stop) → outcome 200 (declarations done) ts ≡ r → r ≡ Err (too_deep (suc (length rest)))
-stops_deep ts token rest q (Ok x) e = absurd (program_has_none ts q.before (token ∷ rest) x (deep_stops ts token rest q) (read_is_spelled 200 ts x e))
+    → (r : Result (List Declaration) Stop) → outcome most_levels (declarations done) ts ≡ r → r ≡ Err (too_deep (suc (length rest)))
+stops_deep ts token rest q (Ok x) e = absurd (program_has_none ts q.before (token ∷ rest) x (deep_stops ts token rest q) (read_is_spelled most_levels ts x e))
 stops_deep ts token rest q (Err (unexpected left)) e = let p = unexpected_is_there ts left e in absurd (not_both ts p.0 token rest p.2 q)
 stops_deep ts token rest q (Err (too_deep left)) e =
     let p = deep_is_there ts left e in
@@ -282,12 +283,12 @@ stops_deep ts token rest q (Err (too_deep left)) e =
 pub unexpected_is_exact : UnexpectedIsExact
 unexpected_is_exact = λ ts left. (
   unexpected_is_there ts left,
-  λ q. stops_unexpected ts q.0 q.2 (outcome 200 (declarations done) ts) refl ∙ ap (λ n. Err (unexpected n)) q.1,
+  λ q. stops_unexpected ts q.0 q.2 (outcome most_levels (declarations done) ts) refl ∙ ap (λ n. Err (unexpected n)) q.1,
 )
 
 -- Reading stops for a level too many exactly where there is one.
 pub too_deep_is_exact : TooDeepIsExact
 too_deep_is_exact = λ ts left. (
   deep_is_there ts left,
-  λ q. stops_deep ts q.0 q.1 q.3 (outcome 200 (declarations done) ts) refl ∙ ap (λ n. Err (too_deep n)) q.2,
+  λ q. stops_deep ts q.0 q.1 q.3 (outcome most_levels (declarations done) ts) refl ∙ ap (λ n. Err (too_deep n)) q.2,
 )

@@ -17,7 +17,7 @@ use Rattle.lt_lexer.specs.Source.{token_bytes, IsSign}
 use Rattle.lt_lexer.specs.declared.token.Token.{Token}
 use Rattle.lt_lexer.specs.declared.token.TokenKind.{TokenKind}
 use Rattle.lt_lexer.specs.declared.token.TokenKind.TheVariants as kind
-use Rattle.lt_lexer.proofs.Apart.{reads_apart}
+use Rattle.lt_lexer.proofs.Public.{reads_apart}
 use Rattle.lt_parser.specs.Lexemes.{Lexemes, lexeme}
 use Rattle.lt_parser.specs.PrintedText.{PrintedReadsBack}
 use Rattle.lt_parser.specs.Text.{AreLexemesOf, IsProgramOf}
@@ -25,10 +25,11 @@ use Rattle.lt_parser.specs.Unplaced.{AreAlike, unplaced}
 use Rattle.lt_parser.specs.Written.{written_of, IsSpelled, AreSpelled}
 use Rattle.lt_parser.proofs.Unplaced.{spelled_elsewhere}
 use Rattle.lt_parser.proofs.Written.{written_as_spelled}
+use Rattle.lt_parser.specs.Nesting.{most_levels}
 
 -- THE PRINTED TEXT AS TOKENS SET APART
 
--- a token's bytes with a blank behind them, and such rows for the tokens after it; behind the last one stands a line feed
+-- a token's bytes with a blank after them, and such rows for the tokens after it; after the last one stands a line feed
 abbrev rows_from : List ℕ → List Written → List Spaced
 rows_from w [] = record { bytes = w; blank = 10 } ∷ []
 rows_from w (u ∷ us) = record { bytes = w; blank = 32 } ∷ rows_from u.text us
@@ -68,7 +69,7 @@ bytes_from : (w : List ℕ) (us : List Written) → row_bytes (rows_from w us) �
 bytes_from w [] = refl
 bytes_from w (u ∷ us) = ap (λ l. w ∷ l) (bytes_from u.text us)
 
--- and each has a blank behind its token
+-- and each has a blank after its token
 blanks_from : (w : List ℕ) (us : List Written) → AreBlank (rows_from w us)
 blanks_from w [] = (refl, tt)
 blanks_from w (u ∷ us) = (refl, blanks_from u.text us)
@@ -95,7 +96,7 @@ bytes_line : (ts : List Written) → row_bytes (rows_of_line ts) ≡ token_texts
 bytes_line [] = refl
 bytes_line (t ∷ ts) = bytes_from t.text ts
 
--- and each has a blank behind its token
+-- and each has a blank after its token
 blanks_line : (ts : List Written) → AreBlank (rows_of_line ts)
 blanks_line [] = tt
 blanks_line (t ∷ ts) = blanks_from t.text ts
@@ -120,7 +121,7 @@ blanks_append : (rows more : List Spaced) → AreBlank rows → AreBlank more �
 blanks_append [] more h k = k
 blanks_append (row ∷ rows) more h k = (h.0, blanks_append rows more h.1 k)
 
--- and each has a blank behind its token
+-- and each has a blank after its token
 blanks_printed : (ds : List Declaration) → AreBlank (rows_of ds)
 blanks_printed [] = tt
 blanks_printed (d ∷ ds) = blanks_append (rows_of_line (declaration_tokens d)) (rows_of ds) (blanks_line (declaration_tokens d)) (blanks_printed ds)
@@ -197,11 +198,11 @@ reads_rows : (text : List ℕ) (x : List Declaration) → IsProgramOf text x →
 reads_rows text x p =
     let ls = p.0 in
     let tokens = p.1.0 in
-    let written : map written_of ls ≡ tokens_of x = written_as_spelled 200 ls x (are_spelled text tokens ls p.1.2) p.2 in
+    let written : map written_of ls ≡ tokens_of x = written_as_spelled most_levels ls x (are_spelled text tokens ls p.1.2) p.2 in
     let bytes : row_bytes (rows_of x) ≡ map (token_bytes text) tokens = bytes_printed x ∙ ap token_texts (sym written) ∙ bytes_of_lexemes text tokens ls p.1.2 in
     let r = reads_apart text tokens (rows_of x) p.1.1 bytes (blanks_printed x) in
     let a = has_alike text (apart (rows_of x)) tokens r.0 ls r.2 p.1.2 in
-    let z = spelled_elsewhere 200 ls a.0 x a.2 p.2 in
+    let z = spelled_elsewhere most_levels ls a.0 x a.2 p.2 in
     (z.0, (a.0, (r.0, r.1, a.1), z.1), z.2)
 
 -- What a program that a text spells is printed as spells the same program, but for the places.

@@ -7,11 +7,13 @@ use Rattle.lt_ast.specs.View.{declaration}
 use Rattle.lt_parser.specs.declared.refusal.Refusal.{Refusal}
 use Rattle.lt_parser.specs.declared.refusal.Refusal.TheVariants as r
 use Rattle.lt_parser.specs.declared.token.Token.{Token}
-use Rattle.lt_parser.specs.Going.{ProgramGoes, Refused}
-use Rattle.lt_parser.specs.Lexemes.{Lexemes, lexemes}
-use Rattle.lt_parser.specs.Onto.{declarations_behind, declarations_more, declarations_onto}
-use Rattle.lt_parser.specs.Reading.{declarations, done, outcome}
+use Rattle.lt_parser.specs.inner.Parsing.{ProgramReadsAs, Refused}
+use Rattle.lt_parser.specs.Lexemes.{Lexemes}
+use Rattle.lt_parser.specs.inner.Tokens.{lexemes}
+use Rattle.lt_parser.specs.inner.Onto.{declarations_after, declarations_more, declarations_onto}
+use Rattle.lt_parser.specs.inner.Reading.{declarations, done, outcome}
 use Rattle.lt_parser.proofs.Steps.{pushed}
+use Rattle.lt_parser.specs.Nesting.{most_levels}
 
 -- declarations in turn
 declarations_onto-none : (xs : List Decl) → declarations_onto xs [] ≡ map declaration xs
@@ -19,22 +21,22 @@ declarations_onto-none [] = refl
 declarations_onto-none (x ∷ xs) = ap (λ ds. declaration x ∷ ds) (declarations_onto-none xs)
 
 -- one declaration more
-pub one_more : (ts before rest : Lexemes) (xs ys : List Decl) (x : Decl) → ys ≡ xs ++ x ∷ [] → outcome 200 (declarations done) ts ≡ outcome 200 (declarations_behind xs) before
-    → outcome 200 (declarations_behind xs) before ≡ outcome 200 (declarations_more xs (declaration x)) rest → outcome 200 (declarations done) ts ≡ outcome 200 (declarations_behind ys) rest
+pub one_more : (ts before rest : Lexemes) (xs ys : List Decl) (x : Decl) → ys ≡ xs ++ x ∷ [] → outcome most_levels (declarations done) ts ≡ outcome most_levels (declarations_after xs) before
+    → outcome most_levels (declarations_after xs) before ≡ outcome most_levels (declarations_more xs (declaration x)) rest → outcome most_levels (declarations done) ts ≡ outcome most_levels (declarations_after ys) rest
 one_more ts before rest xs ys x e h g = h ∙ g ∙ pushed declarations (λ y ds. declaration y ∷ ds) xs ys x e done rest
 
--- What is refused behind some declarations is refused.
-pub refused_behind : (ts rest : Lexemes) (xs : List Decl) (e : Refusal) (result : Result Program Refusal) → outcome 200 (declarations done) ts ≡ outcome 200 (declarations_behind xs) rest → Refused declarations_behind rest e
-    → IsErrAnd result (λ e'. e' ≡ e) → ProgramGoes ts result
-refused_behind ts rest xs e (Ok p) h g a = absurd a
-refused_behind ts rest xs e (Err e') h g a = subst (λ f. ProgramGoes ts (Err f)) (sym a) (refused_so e g)
+-- What is refused after some declarations is refused.
+pub refused_after : (ts rest : Lexemes) (xs : List Decl) (e : Refusal) (result : Result Program Refusal) → outcome most_levels (declarations done) ts ≡ outcome most_levels (declarations_after xs) rest → Refused declarations_after rest e
+    → IsErrAnd result (λ e'. e' ≡ e) → ProgramReadsAs ts result
+refused_after ts rest xs e (Ok p) h g a = absurd a
+refused_after ts rest xs e (Err e') h g a = subst (λ f. ProgramReadsAs ts (Err f)) (sym a) (refused_so e g)
   where
-    refused_so : (f : Refusal) → Refused declarations_behind rest f → ProgramGoes ts (Err f)
+    refused_so : (f : Refusal) → Refused declarations_after rest f → ProgramReadsAs ts (Err f)
     refused_so (r.Unexpected left) q = h ∙ q xs
     refused_so (r.TooDeep left) q = h ∙ q xs
     refused_so r.Memory q = tt
 
 -- At the end the declarations so far are the program.
-pub at_end : (ts : Lexemes) (rest : List Token) (xs : List Decl) → length rest ≡ 0 → outcome 200 (declarations done) ts ≡ outcome 200 (declarations_behind xs) (lexemes rest) → outcome 200 (declarations done) ts ≡ Ok (map declaration xs)
+pub at_end : (ts : Lexemes) (rest : List Token) (xs : List Decl) → length rest ≡ 0 → outcome most_levels (declarations done) ts ≡ outcome most_levels (declarations_after xs) (lexemes rest) → outcome most_levels (declarations done) ts ≡ Ok (map declaration xs)
 at_end ts [] xs e h = h ∙ ap (λ ds. Ok ds) (declarations_onto-none xs)
 at_end ts (t ∷ rest) xs e h = cc

@@ -13,7 +13,7 @@ use Rattle.lt_ast.specs.inner.Rows.{group_of, part_of}
 use Rattle.lt_ast.specs.Syntax as s
 use Rattle.lt_ast.specs.View.{alternatives, braced, groupings, trace}
 use Rattle.lt_ast.proofs.Public.{alternatives_list, groups_list, traces_list}
-use Rattle.lt_parser.specs.Onto.{alternatives_onto, groups_onto, traces_onto}
+use Rattle.lt_parser.specs.inner.Onto.{alternatives_onto, groups_onto, traces_onto}
 
 -- traces in turn
 traces_onto-none : (xs : List TraceExpr) → traces_of (map trace xs) ≡ traces_onto xs s.no_traces

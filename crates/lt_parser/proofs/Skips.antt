@@ -9,8 +9,9 @@ use Rattle.lt_ast.specs.declared.expr.BinOp.{BinOp}
 use Rattle.lt_ast.specs.Syntax as s
 use Rattle.lt_ast.specs.Syntax.{Word, Exp, Arguments, Limits, Traces, MaybeExp, MaybeTrace, Parameters, Interval}
 use Rattle.lt_parser.specs.Lexemes.{Lexemes, lexeme, IsNotFirst}
-use Rattle.lt_parser.specs.Precedence.{rank, operator, across, span_of}
-use Rattle.lt_parser.specs.Reading.{Goal, Answer, too_deep, outcome, onward, operand, stuck, extend, step, top, more_exp, after_name, more_items, a_handler, some_limits, a_ref, a_range, a_first, some_parameters, more_names}
+use Rattle.lt_parser.specs.Precedence.{rank, operator}
+use Rattle.lt_ast.specs.Places.{across, span_of}
+use Rattle.lt_parser.specs.inner.Reading.{Goal, Move, too_deep, outcome, onward, operand, stuck, extend, step, top, more_exp, after_name, more_items, a_handler, some_limits, a_ref, a_range, a_first, some_parameters, more_names}
 
 -- A level that may be opened is.
 pub enter : (most d : ℕ) → d ≤ most → (goal : Goal) (m : Lexemes) → (if nat_le d most then outcome most goal m else Err (too_deep (suc (length m)))) ≡ outcome most goal m
@@ -66,7 +67,7 @@ no_limits most d k (lexeme sign w at ∷ us) h g = refl
 abbrev pub Heads : (BinOp → Type 0) → Lexemes → Type 0
 Heads P ts = (op : BinOp) (sign : Sign) (text : List ℕ) (at : Span) (rest : Lexemes) → ts ≡ lexeme sign text at ∷ rest → operator sign ≡ Some op → P op
 
-unextended : (o : Option BinOp) (d low : ℕ) (x : Exp) (k : Exp → Goal) (skip : Answer) → ((op : BinOp) → o ≡ Some op → rank op < low) → extend o d low x k skip ≡ skip
+unextended : (o : Option BinOp) (d low : ℕ) (x : Exp) (k : Exp → Goal) (skip : Move) → ((op : BinOp) → o ≡ Some op → rank op < low) → extend o d low x k skip ≡ skip
 unextended None d low x k skip h = refl
 unextended (Some op) d low x k skip h = let lt : rank op < low = h op refl in let e : nat_lt (rank op) low ≡ true = grind (arith, nat_tests) in ap (λ b. if b then skip else (if nat_le (rank op) (top x) then operand d op (λ y. more_exp d low (s.binary op x y (across (span_of x) (span_of y))) k) else stuck)) e
 

@@ -16,9 +16,10 @@ use Rattle.lt_ast.specs.Syntax as s
 use Rattle.lt_ast.specs.Syntax.{Word, Figure, Interval, Exp, Argument, Arguments, Limits, Braces, Alternative, Alternatives, Trace, Traces, Grouping, Groupings, MaybeExp, MaybeTrace, Parameters, Meaning, Macro, Declaration}
 use Rattle.lt_ast.specs.Tokens.{binary_sign, type_sign}
 use Rattle.lt_parser.specs.Lexemes.{Lexemes, lexeme, IsNotFirst}
-use Rattle.lt_parser.specs.Precedence.{rank, operator, Stands, left_least, right_least, side_least, IsNoOperator, across, span_of}
+use Rattle.lt_parser.specs.Precedence.{rank, operator, Stands, left_least, right_least, side_least, IsNoOperator}
+use Rattle.lt_ast.specs.Places.{across, span_of}
 use Rattle.lt_parser.specs.Grammar.{IsNoWeight, opened, MayOpen, whole, item, DerivesNames, DerivesMoreNames, DerivesFigure, DerivesRange, DerivesRef, DerivesExp, DerivesArgument, DerivesArguments, DerivesMoreArguments, DerivesBraced, DerivesMoreAlternatives, DerivesAlternative, DerivesMoreTraces, DerivesLimits, DerivesBound, DerivesGrouping, DerivesFirst, DerivesGroups, DerivesMoreGroups, DerivesParameters, DerivesMeaning, DerivesMacro, DerivesTrace, DerivesMoreItems, DerivesHandler, Means, DerivesDeclaration, SpellsWithin}
-use Rattle.lt_parser.specs.Reading.{Goal, ReadIsSpelled, too_deep, Answer, stuck, next, opens, Stop, outcome, onward, step, finish, extend, operand, allowed, top, cap, done, a_sign, a_name, an_exp, more_exp, a_right_side, after_name, some_arguments, more_arguments, an_argument, an_item, more_items, a_handler, some_limits, a_bound, some_braced, after_first, an_alternative, after_weight, more_alternatives, more_traces, some_groups, more_groups, more_names, a_type, a_ref, a_range, a_figure, a_digits, a_list, a_first, some_parameters, declarations, a_trace, names, a_group, groups, a_meaning, a_macro, sequence_of, begin_exp, begin_item, begin_argument, begin_alternative, begins_item, right_side_low, unary_goal, if_goal}
+use Rattle.lt_parser.specs.inner.Reading.{Goal, ReadIsSpelled, too_deep, Move, stuck, next, opens, Stop, outcome, onward, step, finish, extend, operand, allowed, top, cap, done, a_sign, a_name, an_exp, more_exp, a_right_side, after_name, some_arguments, more_arguments, an_argument, an_item, more_items, a_handler, some_limits, a_bound, some_braced, after_first, an_alternative, after_weight, more_alternatives, more_traces, some_groups, more_groups, more_names, a_type, a_ref, a_range, a_figure, a_digits, a_list, a_first, some_parameters, declarations, a_trace, names, a_group, groups, a_meaning, a_macro, sequence_of, begin_exp, begin_item, begin_argument, begin_alternative, begins_item, right_side_low, unary_goal, if_goal}
 use Rattle.lt_parser.proofs.Complete.{spelled_is_read}
 use Rattle.lt_parser.proofs.Skips.{Heads}
 use Rattle.lt_parser.proofs.Operators.{looser}
@@ -70,7 +71,7 @@ Accepts most (some_parameters d k) ts = (x : Parameters) × (m : Lexemes) × Der
 Accepts most (declarations k) ts = (x : List Declaration) × (m : Lexemes) × DerivesAll most ts x m × Accepts most (k x) m
 
 -- The same after a token, where the level that it opens may be opened.
-abbrev pub Accepted : ℕ → Answer → Lexemes → Type 0
+abbrev pub Accepted : ℕ → Move → Lexemes → Type 0
 Accepted most stuck ts = ⊥
 Accepted most (next goal) ts = Accepts most goal ts
 Accepted most (opens d goal) ts = (d ≤ most) × Accepts most goal ts
@@ -150,7 +151,7 @@ macro_accepts most d k ts a =
 
 -- EXPRESSIONS
 
-allowed_case : (b' : Bool) (low high : ℕ) → nat_le low high ≡ b' → (most : ℕ) (answer : Answer) (ts : Lexemes) → Accepted most (allowed b' answer) ts → (low ≤ high) × Accepted most answer ts
+allowed_case : (b' : Bool) (low high : ℕ) → nat_le low high ≡ b' → (most : ℕ) (answer : Move) (ts : Lexemes) → Accepted most (allowed b' answer) ts → (low ≤ high) × Accepted most answer ts
 allowed_case true low high e most answer ts a = (leb-true low high e, a)
 allowed_case false low high e most answer ts a = absurd a
 
@@ -368,7 +369,7 @@ lt_true a c q = grind (arith, nat_tests)
 lt_false : (a c : ℕ) → nat_lt a c ≡ false → c ≤ a
 lt_false a c q = grind (arith, nat_tests)
 
-from_more : (b' c' : Bool) (op : BinOp) (most d low : ℕ) (x : Exp) (k : Exp → Goal) (sign : Sign) (w : List ℕ) (at : Span) (ts : Lexemes) (skip : Answer) → operator sign ≡ Some op
+from_more : (b' c' : Bool) (op : BinOp) (most d low : ℕ) (x : Exp) (k : Exp → Goal) (sign : Sign) (w : List ℕ) (at : Span) (ts : Lexemes) (skip : Move) → operator sign ≡ Some op
     → nat_lt (rank op) low ≡ b' → nat_le (rank op) (top x) ≡ c'
     → Accepted most (if b' then skip else (if c' then operand d op (λ y. more_exp d low (s.binary op x y (across (span_of x) (span_of y))) k) else stuck)) ts
     → (Accepted most skip ts → Accepts most (k x) (lexeme sign w at ∷ ts)) → Accepts most (more_exp d low x k) (lexeme sign w at ∷ ts)
@@ -379,7 +380,7 @@ from_more true c' op most d low x k sign w at ts skip e p q a ih =
 from_more false true op most d low x k sign w at ts skip e p q a ih = taken op most d low x k sign w at ts (sign_operator sign op e) (lt_false (rank op) low p) (leb-true (rank op) (top x) q) a
 from_more false false op most d low x k sign w at ts skip e p q a ih = absurd a
 
-from_extend : (o : Option BinOp) (most d low : ℕ) (x : Exp) (k : Exp → Goal) (sign : Sign) (w : List ℕ) (at : Span) (ts : Lexemes) (skip : Answer) → operator sign ≡ o
+from_extend : (o : Option BinOp) (most d low : ℕ) (x : Exp) (k : Exp → Goal) (sign : Sign) (w : List ℕ) (at : Span) (ts : Lexemes) (skip : Move) → operator sign ≡ o
     → Accepted most (extend o d low x k skip) ts → (Accepted most skip ts → Accepts most (k x) (lexeme sign w at ∷ ts)) → Accepts most (more_exp d low x k) (lexeme sign w at ∷ ts)
 from_extend None most d low x k sign w at ts skip e a ih =
     skipped most d low x k (lexeme sign w at ∷ ts) (λ o sign' w' at' rest' g g'. absurd (none_some (operator sign) o e (ap operator (same_first sign sign' w w' at at' ts rest' g) ∙ g'))) (ih a)
@@ -693,7 +694,7 @@ read_open : (most d : ℕ) (goal : Goal) (us : Lexemes) (x : List Declaration) (
 read_open most d goal us x true q ih e = (leb-true d most q, ih goal e)
 read_open most d goal us x false q ih e = cc
 
-read_step : (most : ℕ) (answer : Answer) (us : Lexemes) (x : List Declaration) → ((g : Goal) → outcome most g us ≡ Ok x → Accepts most g us)
+read_step : (most : ℕ) (answer : Move) (us : Lexemes) (x : List Declaration) → ((g : Goal) → outcome most g us ≡ Ok x → Accepts most g us)
     → onward most answer (length us) (λ goal. outcome most goal us) ≡ Ok x → Accepted most answer us
 read_step most stuck us x ih e = cc
 read_step most (next goal) us x ih e = ih goal e

@@ -1,24 +1,25 @@
 -- A text has one place where reading must stop, and a program's text has none.
-use Rattle.std.proofs.Common.{◌≡◌, List, [], ◌∷◌, ◌++◌, refl, sym, ◌∙◌, ap, subst, ℕ, ◌⊎◌, inl, inr}
+use Rattle.std.proofs.Common.{◌≡◌, List, [], ◌∷◌, ◌++◌, refl, sym, ◌∙◌, ap, subst, ℕ, suc, ◌⊎◌, inl, inr}
 use Rattle.std.proofs.lemmas.List.{append_assoc, append-nil}
 use Rattle.lt_ast.specs.Syntax.{Declaration}
 use Rattle.lt_parser.specs.Lexemes.{Lexeme, Lexemes}
 use Rattle.lt_parser.specs.Grammar.{SpellsWithin}
-use Rattle.lt_parser.specs.Program.{IsViableWithin, NoneGoesOn, IsUnexpected, IsTooDeep}
+use Rattle.lt_parser.specs.Program.{IsViableWithin, NoneContinues, IsUnexpected, IsTooDeep}
+use Rattle.lt_parser.specs.Nesting.{most_levels}
 
 -- TWO WAYS TO PART A TEXT
 
 -- The first token of the rest belongs to this other front too.
-abbrev pub GoesPast : Lexemes → Lexemes → Lexemes → Type 0
-GoesPast before rest other = (u : Lexeme) × (us : Lexemes) × (m : Lexemes) × (rest ≡ u ∷ us) × (other ≡ (before ++ u ∷ []) ++ m)
+abbrev pub IsPast : Lexemes → Lexemes → Lexemes → Type 0
+IsPast before rest other = (u : Lexeme) × (us : Lexemes) × (m : Lexemes) × (rest ≡ u ∷ us) × (other ≡ (before ++ u ∷ []) ++ m)
 
 -- Two parts are the same.
 abbrev AreSame : Lexemes → Lexemes → Lexemes → Lexemes → Type 0
 AreSame a b c d = (a ≡ c) × (b ≡ d)
 
--- The fronts are the same, or one goes past the other.
+-- The fronts are the same, or one reaches past the other.
 abbrev Compared : Lexemes → Lexemes → Lexemes → Lexemes → Type 0
-Compared a b c d = AreSame a b c d ⊎ (GoesPast a b c ⊎ GoesPast c d a)
+Compared a b c d = AreSame a b c d ⊎ (IsPast a b c ⊎ IsPast c d a)
 
 -- equal texts begin with equal tokens
 same_head : (v w : Lexeme) (a c : Lexemes) → ◌≡◌ {A = Lexemes} (v ∷ a) (w ∷ c) → v ≡ w
@@ -28,41 +29,41 @@ same_head v w a c e = cc
 same_tail : (v w : Lexeme) (a c : Lexemes) → ◌≡◌ {A = Lexemes} (v ∷ a) (w ∷ c) → a ≡ c
 same_tail v w a c e = cc
 
--- A front with a token before it goes past another with the same token before it, where it does so without them.
-past_behind : (v w : Lexeme) (a b c : Lexemes) → v ≡ w → GoesPast a b c → GoesPast (v ∷ a) b (w ∷ c)
-past_behind v w a b c e p = (p.0, p.1, p.2, p.3, ap (λ m. w ∷ m) p.4 ∙ ap (λ x. x ∷ ((a ++ p.0 ∷ []) ++ p.2)) (sym e))
+-- A front with a token before it reaches past another with the same token before it, where it does so without them.
+past_after : (v w : Lexeme) (a b c : Lexemes) → v ≡ w → IsPast a b c → IsPast (v ∷ a) b (w ∷ c)
+past_after v w a b c e p = (p.0, p.1, p.2, p.3, ap (λ m. w ∷ m) p.4 ∙ ap (λ x. x ∷ ((a ++ p.0 ∷ []) ++ p.2)) (sym e))
 
 -- The comparison stays, with equal tokens put before both fronts.
-compared_behind : (v w : Lexeme) (a b c d : Lexemes) → v ≡ w → Compared a b c d → Compared (v ∷ a) b (w ∷ c) d
-compared_behind v w a b c d e (inl p) = inl (ap (λ m. v ∷ m) p.0 ∙ ap (λ x. x ∷ c) e, p.1)
-compared_behind v w a b c d e (inr (inl p)) = inr (inl (past_behind v w a b c e p))
-compared_behind v w a b c d e (inr (inr p)) = inr (inr (past_behind w v c d a (sym e) p))
+compared_after : (v w : Lexeme) (a b c d : Lexemes) → v ≡ w → Compared a b c d → Compared (v ∷ a) b (w ∷ c) d
+compared_after v w a b c d e (inl p) = inl (ap (λ m. v ∷ m) p.0 ∙ ap (λ x. x ∷ c) e, p.1)
+compared_after v w a b c d e (inr (inl p)) = inr (inl (past_after v w a b c e p))
+compared_after v w a b c d e (inr (inr p)) = inr (inr (past_after w v c d a (sym e) p))
 
 -- any two fronts of one text
 compared : (a b c d : Lexemes) → a ++ b ≡ c ++ d → Compared a b c d
 compared [] b [] d e = inl (refl, e)
 compared [] b (w ∷ c) d e = inr (inl (w, c ++ d, c, e, refl))
 compared (v ∷ a) b [] d e = inr (inr (v, a ++ b, a, sym e, refl))
-compared (v ∷ a) b (w ∷ c) d e = compared_behind v w a b c d (same_head v w (a ++ b) (c ++ d) e) (compared a b c d (same_tail v w (a ++ b) (c ++ d) e))
+compared (v ∷ a) b (w ∷ c) d e = compared_after v w a b c d (same_head v w (a ++ b) (c ++ d) e) (compared a b c d (same_tail v w (a ++ b) (c ++ d) e))
 
 -- WHERE READING MUST STOP
 
--- No program within 200 levels begins with the tokens before a place and the next one; where no next one is, the
+-- No program within the levels that may be open begins with the tokens before a place and the next one; where no next one is, the
 -- tokens before are no program.
 abbrev pub IsBarred : Lexemes → Lexemes → Type 0
-IsBarred before [] = (x : List Declaration) → SpellsWithin 200 before x → ⊥
-IsBarred before (u ∷ us) = IsViableWithin 200 (before ++ u ∷ []) → ⊥
+IsBarred before [] = (x : List Declaration) → SpellsWithin most_levels before x → ⊥
+IsBarred before (u ∷ us) = IsViableWithin most_levels (before ++ u ∷ []) → ⊥
 
--- At this place a text stops beginning programs of 200 levels.
+-- At this place a text stops beginning programs within the levels that may be open.
 pub record StopsAt (ts before rest : Lexemes) : Type 0 where
   pub parts : ts ≡ before ++ rest
-  pub viable : IsViableWithin 200 before
+  pub viable : IsViableWithin most_levels before
   pub barred : IsBarred before rest
 
--- Where no program of any number of levels goes on, none of 200 does.
-none_is_barred : (before rest : Lexemes) → NoneGoesOn before rest → IsBarred before rest
-none_is_barred before [] h = h 200
-none_is_barred before (u ∷ us) h = h 200
+-- Where no program of any number of levels continues, none within those that may be open does.
+none_is_barred : (before rest : Lexemes) → NoneContinues before rest → IsBarred before rest
+none_is_barred before [] h = h most_levels
+none_is_barred before (u ∷ us) h = h most_levels
 
 -- An unexpected token is such a place.
 pub unexpected_stops : (ts rest : Lexemes) (q : IsUnexpected ts rest) → StopsAt ts q.before rest
@@ -76,9 +77,9 @@ deep_stops ts token rest q = record { parts = q.parts; viable = q.viable; barred
 viable_front : (most : ℕ) (a m : Lexemes) → IsViableWithin most (a ++ m) → IsViableWithin most a
 viable_front most a m v = (m ++ v.0, v.1, subst (λ ts. SpellsWithin most ts v.1) (append_assoc a m v.0) v.2)
 
--- No front that may go on to a program goes past such a place.
-none_past : (ts a b c : Lexemes) → StopsAt ts a b → IsViableWithin 200 c → GoesPast a b c → ⊥
-none_past ts a b c s v p = let h : IsViableWithin 200 (a ++ p.0 ∷ []) → ⊥ = subst (λ m. IsBarred a m) p.3 s.barred in h (viable_front 200 (a ++ p.0 ∷ []) p.2 (subst (λ m. IsViableWithin 200 m) p.4 v))
+-- No front that begins a program reaches past such a place.
+none_past : (ts a b c : Lexemes) → StopsAt ts a b → IsViableWithin most_levels c → IsPast a b c → ⊥
+none_past ts a b c s v p = let h : IsViableWithin most_levels (a ++ p.0 ∷ []) → ⊥ = subst (λ m. IsBarred a m) p.3 s.barred in h (viable_front most_levels (a ++ p.0 ∷ []) p.2 (subst (λ m. IsViableWithin most_levels m) p.4 v))
 
 -- Of two such places, compared, only one can be.
 same_compared : (ts a b c d : Lexemes) → StopsAt ts a b → StopsAt ts c d → Compared a b c d → AreSame a b c d
@@ -91,13 +92,13 @@ pub one_stop : (ts a b c d : Lexemes) → StopsAt ts a b → StopsAt ts c d → 
 one_stop ts a b c d s r = same_compared ts a b c d s r (compared a b c d (sym s.parts ∙ r.parts))
 
 -- Tokens parted at such a place are no program.
-barred_is_no_program : (a b : Lexemes) (x : List Declaration) → IsBarred a b → SpellsWithin 200 (a ++ b) x → ⊥
-barred_is_no_program a [] x h p = h x (subst (λ m. SpellsWithin 200 m x) (append-nil a) p)
-barred_is_no_program a (u ∷ us) x h p = h (us, x, subst (λ m. SpellsWithin 200 m x) (sym (append_assoc a (u ∷ []) us)) p)
+barred_is_no_program : (a b : Lexemes) (x : List Declaration) → IsBarred a b → SpellsWithin most_levels (a ++ b) x → ⊥
+barred_is_no_program a [] x h p = h x (subst (λ m. SpellsWithin most_levels m x) (append-nil a) p)
+barred_is_no_program a (u ∷ us) x h p = h (us, x, subst (λ m. SpellsWithin most_levels m x) (sym (append_assoc a (u ∷ []) us)) p)
 
 -- A program's text has no such place.
-pub program_has_none : (ts a b : Lexemes) (x : List Declaration) → StopsAt ts a b → SpellsWithin 200 ts x → ⊥
-program_has_none ts a b x s p = barred_is_no_program a b x s.barred (subst (λ m. SpellsWithin 200 m x) s.parts p)
+pub program_has_none : (ts a b : Lexemes) (x : List Declaration) → StopsAt ts a b → SpellsWithin most_levels ts x → ⊥
+program_has_none ts a b x s p = barred_is_no_program a b x s.barred (subst (λ m. SpellsWithin most_levels m x) s.parts p)
 
 -- Two unexpected places leave as many tokens.
 pub one_unexpected : (ts rest rest' : Lexemes) → IsUnexpected ts rest → IsUnexpected ts rest' → rest ≡ rest'
@@ -108,9 +109,9 @@ pub one_deep : (ts : Lexemes) (token token' : Lexeme) (rest rest' : Lexemes) →
 one_deep ts token token' rest rest' q r =
     same_tail token token' rest rest' (one_stop ts q.before (token ∷ rest) r.before (token' ∷ rest') (deep_stops ts token rest q) (deep_stops ts token' rest' r)).1
 
--- Where a program of 201 levels goes on, no number of levels bars it.
-none_is_not_deep : (a c b d : Lexemes) (token : Lexeme) → a ≡ c → b ≡ token ∷ d → NoneGoesOn a b → IsViableWithin 201 (c ++ token ∷ []) → ⊥
-none_is_not_deep a c b d token e f h v = let g : NoneGoesOn c (token ∷ d) = subst (λ m. NoneGoesOn m (token ∷ d)) e (subst (λ m. NoneGoesOn a m) f h) in g 201 v
+-- Where a program with one level more continues, no number of levels bars it.
+none_is_not_deep : (a c b d : Lexemes) (token : Lexeme) → a ≡ c → b ≡ token ∷ d → NoneContinues a b → IsViableWithin (suc most_levels) (c ++ token ∷ []) → ⊥
+none_is_not_deep a c b d token e f h v = let g : NoneContinues c (token ∷ d) = subst (λ m. NoneContinues m (token ∷ d)) e (subst (λ m. NoneContinues a m) f h) in g (suc most_levels) v
 
 -- A text with an unexpected token has no level too many.
 pub not_both : (ts : Lexemes) (rest : Lexemes) (token : Lexeme) (rest' : Lexemes) → IsUnexpected ts rest → IsTooDeep ts token rest' → ⊥

@@ -13,11 +13,12 @@ use Rattle.lt_ast.specs.declared.expr.BinOp.TheVariants as b
 use Rattle.lt_ast.specs.Syntax as s
 use Rattle.lt_ast.specs.Syntax.{Word, Figure, Interval, Exp, Argument, Arguments, Limits, Braces, Alternative, Alternatives, Trace, Traces, Grouping, Groupings, MaybeExp, MaybeTrace, Parameters, Meaning, Macro, Declaration}
 use Rattle.lt_parser.specs.Lexemes.{Lexemes, lexeme, IsNotFirst}
-use Rattle.lt_parser.specs.Precedence.{rank, operator, across, span_of}
+use Rattle.lt_parser.specs.Precedence.{rank, operator}
+use Rattle.lt_ast.specs.Places.{across, span_of}
 use Rattle.lt_parser.proofs.Skips.{Heads}
 use Rattle.lt_parser.proofs.Begins.{same_first, none_some, closed}
 use Rattle.lt_parser.proofs.Sound.{Accepts, not_first_by}
-use Rattle.lt_parser.specs.Reading.{Goal, Answer, stuck, next, opens, step, extend, operand, allowed, top, done, a_sign, a_name, an_exp, more_exp, a_right_side, after_name, some_arguments, more_arguments, an_argument, an_item, more_items, a_handler, some_limits, a_bound, some_braced, after_first, an_alternative, after_weight, more_alternatives, more_traces, some_groups, more_groups, more_names, a_type, a_ref, a_range, a_figure, a_digits, a_list, a_first, some_parameters, declarations, a_trace, after_group_name, groups, a_meaning, a_macro, sequence_of, begin_exp, begin_item, begin_argument, begin_alternative, begins_item, right_side_low, unary_goal, if_goal}
+use Rattle.lt_parser.specs.inner.Reading.{Goal, Move, stuck, next, opens, step, extend, operand, allowed, top, done, a_sign, a_name, an_exp, more_exp, a_right_side, after_name, some_arguments, more_arguments, an_argument, an_item, more_items, a_handler, some_limits, a_bound, some_braced, after_first, an_alternative, after_weight, more_alternatives, more_traces, some_groups, more_groups, more_names, a_type, a_ref, a_range, a_figure, a_digits, a_list, a_first, some_parameters, declarations, a_trace, after_group_name, groups, a_meaning, a_macro, sequence_of, begin_exp, begin_item, begin_argument, begin_alternative, begins_item, right_side_low, unary_goal, if_goal}
 
 abbrev pub here : Span
 here = record { start = 0; end = 0 }
@@ -64,7 +65,7 @@ head (a_first d k) = head (k s.no_exp)
 head (some_parameters d k) = head (k s.no_parameters)
 head (declarations k) = head (k [])
 
--- what may come behind an expression, behind a trace, behind a group, and behind names
+-- what may come after an expression, after a trace, after a group, and after names
 abbrev pub after_exp : Option Sign → Bool
 after_exp None = true
 after_exp (Some t.In) = true
@@ -138,10 +139,10 @@ Tidy (a_first d k) = (x : MaybeExp) → Tidy (k x) × (after_group (head (k x)) 
 Tidy (some_parameters d k) = (x : Parameters) → Tidy (k x) × (is_colon (head (k x)) ≡ true)
 Tidy (declarations k) = (x : List Declaration) → Tidy (k x) × (head (k x) ≡ None)
 
-abbrev pub TidyAnswer : Answer → Type 0
-TidyAnswer stuck = Unit {0}
-TidyAnswer (next goal) = Tidy goal
-TidyAnswer (opens d goal) = Tidy goal
+abbrev pub TidyMove : Move → Type 0
+TidyMove stuck = Unit {0}
+TidyMove (next goal) = Tidy goal
+TidyMove (opens d goal) = Tidy goal
 
 false_is_true : {A : Type 0} → false ≡ true → A
 false_is_true e = cc
@@ -160,11 +161,11 @@ group_exp (Some sign) e = false_is_true e
 
 -- ONE TOKEN KEEPS IT
 
-tidy_allowed : (b' : Bool) (a : Answer) → TidyAnswer a → TidyAnswer (allowed b' a)
+tidy_allowed : (b' : Bool) (a : Move) → TidyMove a → TidyMove (allowed b' a)
 tidy_allowed true a h = h
 tidy_allowed false a h = tt
 
-tidy_if : (b' : Bool) (x y : Answer) → TidyAnswer x → TidyAnswer y → TidyAnswer (if b' then x else y)
+tidy_if : (b' : Bool) (x y : Move) → TidyMove x → TidyMove y → TidyMove (if b' then x else y)
 tidy_if true x y h g = h
 tidy_if false x y h g = g
 
@@ -186,7 +187,7 @@ tidy_meaning ty.Real d k h = λ e. ((h (s.value_meaning e)).0, trace_exp (head (
 tidy_macro : (d : ℕ) (k : Macro → Goal) → ((y : Macro) → Tidy (k y) × (after_trace (head (k y)) ≡ true)) → Tidy (a_macro d k)
 tidy_macro d k h = λ n ps. ((λ p ki q. tidy_meaning ki d (λ x. k (s.macro n ps ki x)) (λ x. h (s.macro n ps ki x))), refl)
 
-tidy_exp : (d low : ℕ) (k : Exp → Goal) → ((e : Exp) → Tidy (k e) × (after_exp (head (k e)) ≡ true)) → (sign : Sign) (w : List ℕ) (at : Span) → TidyAnswer (begin_exp d low k sign w at)
+tidy_exp : (d low : ℕ) (k : Exp → Goal) → ((e : Exp) → Tidy (k e) × (after_exp (head (k e)) ≡ true)) → (sign : Sign) (w : List ℕ) (at : Span) → TidyMove (begin_exp d low k sign w at)
 tidy_exp d low k h t.Number w at = h
 tidy_exp d low k h t.True w at = h
 tidy_exp d low k h t.False w at = h
@@ -199,7 +200,7 @@ tidy_exp d low k h t.If w at =
     tidy_allowed (nat_le low 0) (opens (suc d) (if_goal (suc d) at (λ e. more_exp d low e k))) (λ e. ((λ p f. ((λ q g. (h, (h (s.choose e f g (across at (span_of g)))).1)), refl)), refl))
 tidy_exp d low k h sign w at = tt
 
-tidy_item : (d : ℕ) (k : Trace → Goal) → ((x : Trace) → Tidy (k x) × (after_trace (head (k x)) ≡ true)) → (sign : Sign) (w : List ℕ) (at : Span) → TidyAnswer (begin_item d k sign w at)
+tidy_item : (d : ℕ) (k : Trace → Goal) → ((x : Trace) → Tidy (k x) × (after_trace (head (k x)) ≡ true)) → (sign : Sign) (w : List ℕ) (at : Span) → TidyMove (begin_item d k sign w at)
 tidy_item d k h t.OpenBrace w at = λ x q. (h (s.braces x (across at q))).0
 tidy_item d k h t.Loop w at = λ l. ((λ x. h (s.loop l x)), refl)
 tidy_item d k h t.Raise w at = λ n. (h (s.raise n)).0
@@ -212,7 +213,7 @@ tidy_item d k h t.Trap w at = λ n p. tidy_trace (suc d) (λ x. a_handler (suc d
 tidy_item d k h t.Try w at = tidy_trace (suc d) (λ x. a_handler (suc d) (λ z. k (s.try x z))) (λ x. ((λ z. h (s.try x z)), (h (s.try x s.no_trace)).1))
 tidy_item d k h sign w at = tidy_exp d 0 (λ e. k (s.value e)) (λ e. ((h (s.value e)).0, trace_exp (head (k (s.value e))) (h (s.value e)).1)) sign w at
 
-tidy_argument : (d : ℕ) (k : Argument → Goal) → ((x : Argument) → Tidy (k x) × (after_exp (head (k x)) ≡ true)) → (sign : Sign) (w : List ℕ) (at : Span) → TidyAnswer (begin_argument d k sign w at)
+tidy_argument : (d : ℕ) (k : Argument → Goal) → ((x : Argument) → Tidy (k x) × (after_exp (head (k x)) ≡ true)) → (sign : Sign) (w : List ℕ) (at : Span) → TidyMove (begin_argument d k sign w at)
 tidy_argument d k h t.OpenBrace w at = λ x q. (h (s.trace_argument x (across at q))).0
 tidy_argument d k h sign w at = tidy_exp d 0 (λ e. k (s.value_argument e)) (λ e. h (s.value_argument e)) sign w at
 
@@ -228,13 +229,13 @@ none_trace h e = ap after_trace e
 none_names : (h : Option Sign) → h ≡ None → after_names h ≡ true
 none_names h e = ap after_names e
 
-tidy_alternative : (c : Bool) (d : ℕ) (k : Alternative → Goal) → ((x : Alternative) → Tidy (k x) × (head (k x) ≡ Some t.CloseBrace)) → (sign : Sign) (w : List ℕ) (at : Span) → TidyAnswer (begin_alternative c d k sign w at)
+tidy_alternative : (c : Bool) (d : ℕ) (k : Alternative → Goal) → ((x : Alternative) → Tidy (k x) × (head (k x) ≡ Some t.CloseBrace)) → (sign : Sign) (w : List ℕ) (at : Span) → TidyMove (begin_alternative c d k sign w at)
 tidy_alternative true d k h sign w at =
     tidy_item d (λ x. more_items d (λ xs. k (s.unweighted (sequence_of x xs))))
     (λ x. ((λ xs. ((h (s.unweighted (sequence_of x xs))).0, brace_trace (head (k (s.unweighted (sequence_of x xs)))) (h (s.unweighted (sequence_of x xs))).1)), brace_trace (head (k (s.unweighted x))) (h (s.unweighted x)).1)) sign w at
 tidy_alternative false d k h sign w at = tidy_exp d 0 (λ e. after_weight d e k) (λ e. (h, brace_exp (head (k (s.unweighted (s.value e)))) (h (s.unweighted (s.value e))).1)) sign w at
 
-tidy_operand : (op : BinOp) (d : ℕ) (k : Exp → Goal) → ((e : Exp) → Tidy (k e) × (after_exp (head (k e)) ≡ true)) → TidyAnswer (operand d op k)
+tidy_operand : (op : BinOp) (d : ℕ) (k : Exp → Goal) → ((e : Exp) → Tidy (k e) × (after_exp (head (k e)) ≡ true)) → TidyMove (operand d op k)
 tidy_operand b.Implies d k h = h
 tidy_operand b.Eq d k h = h
 tidy_operand b.Ne d k h = h
@@ -244,14 +245,14 @@ tidy_operand b.Gt d k h = h
 tidy_operand b.Ge d k h = h
 tidy_operand op d k h = h
 
-tidy_extend : (o : Option BinOp) (d low : ℕ) (x : Exp) (k : Exp → Goal) (skip : Answer) → ((e : Exp) → Tidy (k e) × (after_exp (head (k e)) ≡ true)) → TidyAnswer skip → TidyAnswer (extend o d low x k skip)
+tidy_extend : (o : Option BinOp) (d low : ℕ) (x : Exp) (k : Exp → Goal) (skip : Move) → ((e : Exp) → Tidy (k e) × (after_exp (head (k e)) ≡ true)) → TidyMove skip → TidyMove (extend o d low x k skip)
 tidy_extend None d low x k skip h g = g
 tidy_extend (Some op) d low x k skip h g =
     tidy_if (nat_lt (rank op) low) skip (if nat_le (rank op) (top x) then operand d op (λ y. more_exp d low (s.binary op x y (across (span_of x) (span_of y))) k) else stuck) g
     (tidy_if (nat_le (rank op) (top x)) (operand d op (λ y. more_exp d low (s.binary op x y (across (span_of x) (span_of y))) k)) stuck
     (tidy_operand op d (λ y. more_exp d low (s.binary op x y (across (span_of x) (span_of y))) k) (λ y. (h, (h (s.binary op x y (across (span_of x) (span_of y)))).1))) tt)
 
-pub tidy_step : (g : Goal) (sign : Sign) (w : List ℕ) (at : Span) → Tidy g → TidyAnswer (step g sign w at)
+pub tidy_step : (g : Goal) (sign : Sign) (w : List ℕ) (at : Span) → Tidy g → TidyMove (step g sign w at)
 tidy_step (done xs) sign w at h = tt
 tidy_step (a_sign wanted k) sign w at h = tidy_if (sameb the_type wanted sign) (next (k at)) stuck (h at) tt
 tidy_step (a_name k) t.Name w at h = h (record { text = w; span = at })

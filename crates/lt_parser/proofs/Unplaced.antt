@@ -12,7 +12,8 @@ use Rattle.lt_ast.specs.Syntax as s
 use Rattle.lt_ast.specs.Syntax.{Word, Figure, Interval, Exp, Argument, Arguments, Limits, Braces, Alternative, Alternatives, Trace, Traces, Grouping, Groupings, MaybeExp, MaybeTrace, Parameters, Meaning, Macro, Declaration}
 use Rattle.lt_ast.specs.Tokens.{binary_sign, type_sign}
 use Rattle.lt_parser.specs.Lexemes.{Lexemes, lexeme, IsNotFirst}
-use Rattle.lt_parser.specs.Precedence.{Stands, under, left_least, side_least, right_least, IsNoOperator, across, span_of}
+use Rattle.lt_parser.specs.Precedence.{Stands, under, left_least, side_least, right_least, IsNoOperator}
+use Rattle.lt_ast.specs.Places.{across, span_of}
 use Rattle.lt_parser.specs.Grammar.{IsNoWeight, opened, Place, whole, item, Ends, DerivesNames, DerivesMoreNames, DerivesNumber, DerivesFigure, DerivesRange, DerivesRef, DerivesExp, DerivesArgument, DerivesArguments, DerivesMoreArguments, DerivesBraced, DerivesChoice, DerivesUnweighted, DerivesMoreAlternatives, DerivesAlternative, DerivesTraces, DerivesMoreTraces, DerivesLimits, DerivesBound, DerivesGrouping, DerivesFirst, DerivesGroups, DerivesMoreGroups, DerivesParameters, DerivesMeaning, DerivesMacro, DerivesTrace, DerivesSequence, DerivesMoreItems, DerivesHandler, Means, HasAlternative, HasTrace, HasGroup, DerivesDeclaration, SpellsWithin}
 use Rattle.lt_parser.specs.Unplaced.{nowhere, unplaced_word, unplaced_words, unplaced_figure, unplaced_range, unplaced_exp, unplaced_argument, unplaced_arguments, unplaced_limits, unplaced_braces, unplaced_alternative, unplaced_alternatives, unplaced_traces, unplaced_grouping, unplaced_groupings, unplaced_first, unplaced_handler, unplaced_parameters, unplaced_meaning, unplaced_macro, unplaced_trace, unplaced_declaration, unplaced, AreAlike, SpelledElsewhere}
 
@@ -22,14 +23,14 @@ use Rattle.lt_parser.specs.Unplaced.{nowhere, unplaced_word, unplaced_words, unp
 record Alike (ts us : Lexemes) : Type 0 where
   are : AreAlike ts us
 
--- Tokens begin with this sign and these letters, and behind it they are like m.
+-- Tokens begin with this sign and these letters, and after it they are like m.
 record Takes (sign : Sign) (w : List ℕ) (m us : Lexemes) : Type 0 where
   at : Span
   left : Lexemes
   is : us ≡ lexeme sign w at ∷ left
   like : Alike m left
 
--- Tokens begin with two such signs, and behind them they are like m.
+-- Tokens begin with two such signs, and after them they are like m.
 record TakesTwo (a : Sign) (w : List ℕ) (b : Sign) (v : List ℕ) (m us : Lexemes) : Type 0 where
   at : Span
   at' : Span
@@ -37,7 +38,7 @@ record TakesTwo (a : Sign) (w : List ℕ) (b : Sign) (v : List ℕ) (m us : Lexe
   is : us ≡ lexeme a w at ∷ (lexeme b v at' ∷ left)
   like : Alike m left
 
--- Tokens begin with three such signs, and behind them they are like m.
+-- Tokens begin with three such signs, and after them they are like m.
 record TakesThree (a : Sign) (w : List ℕ) (b : Sign) (v : List ℕ) (c : Sign) (z : List ℕ) (m us : Lexemes) : Type 0 where
   at : Span
   at' : Span
@@ -84,11 +85,11 @@ are_turned [] (u ∷ us) h = absurd h
 are_turned (t ∷ ts) [] h = absurd h
 are_turned (lexeme sign w p ∷ ts) (lexeme sign' w' p' ∷ us) h = ((sym h.0.0, sym h.0.1), are_turned ts us h.1)
 
--- Being alike goes both ways.
+-- Being alike holds both ways.
 turned : {ts us : Lexemes} → Alike ts us → Alike us ts
 turned {ts = ts} {us = us} h = record { are = are_turned ts us h.are }
 
--- What a tree wants of the tokens behind it depends on their signs alone.
+-- What a tree wants of the tokens after it depends on their signs alone.
 unfirst : (sign : Sign) {rest left : Lexemes} → Alike rest left → IsNotFirst sign rest → IsNotFirst sign left
 unfirst sign h n = λ w p m e. let k = first e (turned h) in n w k.at k.left k.is
 
@@ -96,14 +97,14 @@ unfirst sign h n = λ w p m e. let k = first e (turned h) in n w k.at k.left k.i
 no_operator : {rest left : Lexemes} → Alike rest left → IsNoOperator rest → IsNoOperator left
 no_operator h n = λ op sign w p m e q. let k = first e (turned h) in n op sign w k.at k.left k.is q
 
--- A sequence goes on no further: that depends on the signs.
+-- A sequence reaches no further: that depends on the signs.
 ends_again : (place : Place) {rest left : Lexemes} → Alike rest left → Ends place rest → Ends place left
 ends_again whole h n = unfirst t.Fby h n
 ends_again item h n = tt
 
 -- TREES THAT ARE THE SAME BUT FOR THE PLACES
 
--- Such a tree derived, with tokens like the rest behind it.
+-- Such a tree derived, with tokens like the rest after it.
 record Again (A : Type 0) (D : A → Lexemes → Type 0) (un : A → A) (x : A) (rest : Lexemes) : Type 0 where
   tree : A
   left : Lexemes
@@ -341,7 +342,7 @@ mutual
         same = λ i. s.trace_argument (r.same i) nowhere;
       }
 
-  -- arguments and the `)` behind them
+  -- arguments and the `)` after them
   arguments_again : (as' : Arguments) (most d : ℕ) {ts us : Lexemes} (rest : Lexemes) → Alike ts us → DerivesArguments most d ts as' rest → Again Arguments (DerivesArguments most d us) unplaced_arguments as' rest
   arguments_again s.no_arguments most d rest h x = let k = first x.2 h in record { tree = s.no_arguments; left = k.left; derives = (x.0, k.at, k.is); like = k.like; same = refl }
   arguments_again (s.argument a more) most d rest h x =
@@ -403,7 +404,7 @@ mutual
       record { tree = s.unweighted r.tree; left = r.left; derives = r.derives; like = r.like; same = λ i. s.unweighted (r.same i) }
   unweighted_again (s.weighted e y) most d rest h x = absurd x
 
-  -- alternatives, each behind a `|`
+  -- alternatives, each after a `|`
   more_alternatives_again : (ps : Alternatives) (most d : ℕ) {ts us : Lexemes} (q : Span) (rest : Lexemes) → Alike ts us → DerivesMoreAlternatives most d ts ps q rest → Again Alternatives (SomeAlternatives most d us) unplaced_alternatives ps rest
   more_alternatives_again s.no_alternatives most d q rest h x = let k = first x.1 h in record { tree = s.no_alternatives; left = k.left; derives = (k.at, (x.0, k.is)); like = k.like; same = refl }
   more_alternatives_again (s.alternative p more) most d q rest h x =
@@ -442,7 +443,7 @@ mutual
         same = λ i. s.one_trace (l.same i) (r.same i);
       }
 
-  -- traces, each behind the sign
+  -- traces, each after the sign
   more_traces_again : (ys : Traces) (most d : ℕ) (sign : Sign) {ts us : Lexemes} (q : Span) (rest : Lexemes) → Alike ts us → DerivesMoreTraces most d sign ts ys q rest → Again Traces (SomeMoreTraces most d sign us) unplaced_traces ys rest
   more_traces_again s.no_traces most d sign q rest h x = let k = first x.1 h in record { tree = s.no_traces; left = k.left; derives = (k.at, (x.0, k.is)); like = k.like; same = refl }
   more_traces_again (s.one_trace y more) most d sign q rest h x =
@@ -559,7 +560,7 @@ mutual
       let r = exp_again e most d rest h x.0 in
       record { tree = s.value_meaning r.tree; left = r.left; derives = (r.derives, no_operator r.like x.1); like = r.like; same = λ i. s.value_meaning (r.same i) }
 
-  -- a macro behind its `let`
+  -- a macro after its `let`
   macro_again : (y : Macro) (most d : ℕ) {ts us : Lexemes} (rest : Lexemes) → Alike ts us → DerivesMacro most d ts y rest → Again Macro (DerivesMacro most d us) unplaced_macro y rest
   macro_again (s.macro n ps kind y) most d rest h x =
       let k = first x.1 h in
@@ -672,7 +673,7 @@ mutual
       let r = more_items_again more most d rest l.like x.6 in
       record { tree = s.one_trace l.tree r.tree; left = r.left; derives = (x.0, k.at, k.left, k.is, l.left, l.derives, r.derives); like = r.like; same = λ i. s.one_trace (l.same i) (r.same i) }
 
-  -- what follows behind `do`, where it is there
+  -- what follows a `do`, where it is there
   handler_again : (z : MaybeTrace) (most d : ℕ) {ts us : Lexemes} (rest : Lexemes) → Alike ts us → DerivesHandler most d ts z rest → Again MaybeTrace (DerivesHandler most d us) unplaced_handler z rest
   handler_again s.no_trace most d {us = us} rest h x = let k = along x.0 h in record { tree = s.no_trace; left = us; derives = (refl, unfirst t.Do k x.1); like = k; same = refl }
   handler_again (s.a_trace y) most d rest h x =

@@ -142,13 +142,13 @@ ref_written true ts rest x = from x.2 (put t.Ref refl none)
 
 -- LEADING SIGNS
 
--- Alternatives behind a leading bar are alternatives each behind a bar.
+-- Alternatives after a leading bar are alternatives each after a bar.
 led_alternatives : (ps : Alternatives) (ts rest : Lexemes) → HasAlternative ps → Writes ts (more_alternatives ps ++ (mark t.CloseBrace ∷ [])) rest
     → Writes ts ((mark t.Bar ∷ alternatives_tokens ps) ++ (mark t.CloseBrace ∷ [])) rest
 led_alternatives s.no_alternatives ts rest n f = absurd n
 led_alternatives (s.alternative p ps) ts rest n f = f
 
--- Traces behind a leading sign are traces each behind the sign.
+-- Traces after a leading sign are traces each after the sign.
 led_traces : (sign : Sign) (xs : Traces) (ts rest : Lexemes) → HasTrace xs → Writes ts (more_traces sign xs ++ (mark t.CloseBrace ∷ [])) rest
     → Writes ts ((mark sign ∷ traces_tokens sign xs) ++ (mark t.CloseBrace ∷ [])) rest
 led_traces sign s.no_traces ts rest n f = absurd n
@@ -177,7 +177,7 @@ mutual
   argument_written (s.value_argument e) most d ts rest x = exp_written e most d ts rest x
   argument_written (s.trace_argument y at) most d ts rest x = from x.3 (put t.OpenBrace refl (braced_written y most (suc d) x.5 x.2 rest x.6))
 
-  -- arguments and the `)` behind them
+  -- arguments and the `)` after them
   arguments_written : (args : Arguments) (most d : ℕ) (ts rest : Lexemes) → DerivesArguments most d ts args rest → Writes ts (arguments_tokens args ++ (mark t.Close ∷ [])) rest
   arguments_written s.no_arguments most d ts rest x = from x.2 (put t.Close refl none)
   arguments_written (s.argument a more) most d ts rest x =
@@ -190,7 +190,7 @@ mutual
       from x.3 (put t.Comma refl (grouped (argument_tokens a) (more_arguments more) (mark t.Close ∷ [])
       (then (argument_written a most d x.2 x.4 x.5) (more_arguments_written more most d x.4 rest x.6))))
 
-  -- what stands in braces, and the `}` behind it
+  -- what stands in braces, and the `}` after it
   braced_written : (y : Braces) (most d : ℕ) (q : Span) (ts rest : Lexemes) → DerivesBraced most d ts y q rest → Writes ts (braced_tokens y ++ (mark t.CloseBrace ∷ [])) rest
   braced_written (s.plain y) most d q ts rest x = then (trace_written y whole most d ts (lexeme t.CloseBrace x.0 q ∷ rest) x.1) (put t.CloseBrace refl none)
   braced_written (s.choice true ps) most d q ts rest x = led_alternatives ps ts rest x.0 (more_alternatives_written ps most d q ts rest x.1)
@@ -211,7 +211,7 @@ mutual
   unweighted_written (s.unweighted y) most d ts rest x = trace_written y whole most d ts rest x
   unweighted_written (s.weighted e y) most d ts rest x = absurd x
 
-  -- alternatives, each behind a `|`, and the `}`
+  -- alternatives, each after a `|`, and the `}`
   more_alternatives_written : (ps : Alternatives) (most d : ℕ) (q : Span) (ts rest : Lexemes) → DerivesMoreAlternatives most d ts ps q rest
       → Writes ts (more_alternatives ps ++ (mark t.CloseBrace ∷ [])) rest
   more_alternatives_written s.no_alternatives most d q ts rest x = from x.1 (put t.CloseBrace refl none)
@@ -231,7 +231,7 @@ mutual
   traces_written (s.one_trace y ys) sign k most d q ts rest x =
       grouped (trace_tokens y) (more_traces sign ys) (mark t.CloseBrace ∷ []) (then (trace_written y whole most d ts x.0 x.1) (more_traces_written ys sign k most d q x.0 rest x.3))
 
-  -- traces, each behind this sign, and the `}`
+  -- traces, each after this sign, and the `}`
   more_traces_written : (ys : Traces) (sign : Sign) (k : is_mark sign ≡ true) (most d : ℕ) (q : Span) (ts rest : Lexemes) → DerivesMoreTraces most d sign ts ys q rest
       → Writes ts (more_traces sign ys ++ (mark t.CloseBrace ∷ [])) rest
   more_traces_written s.no_traces sign k most d q ts rest x = from x.1 (put t.CloseBrace refl none)
@@ -291,7 +291,7 @@ mutual
   meaning_written (s.trace_meaning y) most d ts rest x = trace_written y whole most d ts rest x
   meaning_written (s.value_meaning e) most d ts rest x = exp_written e most d ts rest x.0
 
-  -- a macro behind its `let`
+  -- a macro after its `let`
   macro_written : (y : Macro) (most d : ℕ) (ts rest : Lexemes) → DerivesMacro most d ts y rest → Writes ts (macro_rest y) rest
   macro_written (s.macro n ps kind y) most d ts rest x =
       from x.1 (put_name n (then (parameters_written ps most d x.0 (lexeme t.Colon x.2 x.3 ∷ (lexeme (type_sign kind) x.4 x.5 ∷ (lexeme t.Equal x.6 x.7 ∷ x.8))) x.9)
@@ -329,7 +329,7 @@ mutual
   more_items_written s.no_traces most d ts rest x = from x.0 none
   more_items_written (s.one_trace y ys) most d ts rest x = from x.3 (put t.Fby refl (then (trace_written y item most d x.2 x.4 x.5) (more_items_written ys most d x.4 rest x.6)))
 
-  -- what follows behind `do`
+  -- what follows a `do`
   handler_written : (h : MaybeTrace) (most d : ℕ) (ts rest : Lexemes) → DerivesHandler most d ts h rest → Writes ts (handler_tokens h) rest
   handler_written s.no_trace most d ts rest x = from x.0 none
   handler_written (s.a_trace y) most d ts rest x = from x.3 (put t.Do refl (trace_written y whole most d x.2 rest x.4))

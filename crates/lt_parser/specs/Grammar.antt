@@ -15,11 +15,12 @@ use Rattle.lt_ast.specs.Syntax as s
 use Rattle.lt_ast.specs.Syntax.{Word, Figure, Interval, Exp, Argument, Arguments, Limits, Braces, Alternative, Alternatives, Trace, Traces, Grouping, Groupings, MaybeExp, MaybeTrace, Parameters, Meaning, Macro, Declaration}
 use Rattle.lt_ast.specs.Tokens.{flag_sign, unary_sign, binary_sign, type_sign}
 use Rattle.lt_parser.specs.Lexemes.{lexeme, Lexemes, IsNotFirst}
-use Rattle.lt_parser.specs.Precedence.{Stands, under, left_least, right_least, IsNoOperator, across, span_of}
+use Rattle.lt_parser.specs.Precedence.{Stands, under, left_least, right_least, IsNoOperator}
+use Rattle.lt_ast.specs.Places.{across, span_of}
 
 -- NAMES, NUMBERS, RANGES
 
--- the names after a first one, each behind a comma
+-- the names after a first one, each after a comma
 abbrev pub DerivesMoreNames : Lexemes → List Word → Lexemes → Type 0
 DerivesMoreNames ts [] rest = (ts ≡ rest) × IsNotFirst t.Comma rest
 DerivesMoreNames ts (n ∷ ns) rest =
@@ -97,7 +98,7 @@ pub data Place : Type 0 where
   whole : Place
   item : Place
 
--- A sequence goes on wherever it can.
+-- A sequence reaches as far as it can.
 abbrev pub Ends : Place → Lexemes → Type 0
 Ends whole rest = IsNotFirst t.Fby rest
 Ends item rest = Unit {0}
@@ -137,12 +138,12 @@ abbrev mutual
       (w : List ℕ) × (p : Span) × (m : Lexemes) × (ts ≡ lexeme t.OpenBrace w p ∷ m) × (suc d ≤ most)
       × (q : Span) × DerivesBraced most (suc d) m x q rest × (at ≡ across p q)
 
-  -- arguments and the `)` behind them
+  -- arguments and the `)` after them
   pub DerivesArguments : ℕ → ℕ → Lexemes → Arguments → Lexemes → Type 0
   DerivesArguments most d ts s.no_arguments rest = (w : List ℕ) × (p : Span) × (ts ≡ lexeme t.Close w p ∷ rest)
   DerivesArguments most d ts (s.argument a more) rest = (m : Lexemes) × DerivesArgument most d ts a m × DerivesMoreArguments most d m more rest
 
-  -- the arguments after a first one, each behind a comma, and the `)`
+  -- the arguments after a first one, each after a comma, and the `)`
   pub DerivesMoreArguments : ℕ → ℕ → Lexemes → Arguments → Lexemes → Type 0
   DerivesMoreArguments most d ts s.no_arguments rest = (w : List ℕ) × (p : Span) × (ts ≡ lexeme t.Close w p ∷ rest)
   DerivesMoreArguments most d ts (s.argument a more) rest =
@@ -150,7 +151,7 @@ abbrev mutual
 
   -- BRACES
 
-  -- what stands in braces, and the `}` behind it, at the place q
+  -- what stands in braces, and the `}` after it, at the place q
   pub DerivesBraced : ℕ → ℕ → Lexemes → Braces → Span → Lexemes → Type 0
   DerivesBraced most d ts (s.plain x) q rest = (w : List ℕ) × DerivesTrace most d whole ts x (lexeme t.CloseBrace w q ∷ rest)
   DerivesBraced most d ts (s.choice true ps) q rest = HasAlternative ps × DerivesMoreAlternatives most d ts ps q rest
@@ -170,7 +171,7 @@ abbrev mutual
   DerivesUnweighted most d ts (s.unweighted x) rest = DerivesTrace most d whole ts x rest
   DerivesUnweighted most d ts (s.weighted e x) rest = ⊥
 
-  -- alternatives, each behind a `|`, and the `}`
+  -- alternatives, each after a `|`, and the `}`
   pub DerivesMoreAlternatives : ℕ → ℕ → Lexemes → Alternatives → Span → Lexemes → Type 0
   DerivesMoreAlternatives most d ts s.no_alternatives q rest = (w : List ℕ) × (ts ≡ lexeme t.CloseBrace w q ∷ rest)
   DerivesMoreAlternatives most d ts (s.alternative p more) q rest =
@@ -187,7 +188,7 @@ abbrev mutual
   DerivesTraces most d sign ts s.no_traces q rest = ⊥
   DerivesTraces most d sign ts (s.one_trace x more) q rest = (m : Lexemes) × DerivesTrace most d whole ts x m × HasTrace more × DerivesMoreTraces most d sign m more q rest
 
-  -- traces, each behind this sign, and the `}`
+  -- traces, each after this sign, and the `}`
   pub DerivesMoreTraces : ℕ → ℕ → Sign → Lexemes → Traces → Span → Lexemes → Type 0
   DerivesMoreTraces most d sign ts s.no_traces q rest = (w : List ℕ) × (ts ≡ lexeme t.CloseBrace w q ∷ rest)
   DerivesMoreTraces most d sign ts (s.one_trace x more) q rest =
@@ -233,7 +234,7 @@ abbrev mutual
   DerivesGroups most d end ts s.no_groups rest = (w : List ℕ) × (p : Span) × (ts ≡ lexeme end w p ∷ rest)
   DerivesGroups most d end ts (s.one_group g more) rest = (m : Lexemes) × DerivesGrouping most d ts g m × DerivesMoreGroups most d end m more rest
 
-  -- the groups after a first one, each behind a semicolon, and the sign that ends them
+  -- the groups after a first one, each after a semicolon, and the sign that ends them
   pub DerivesMoreGroups : ℕ → ℕ → Sign → Lexemes → Groupings → Lexemes → Type 0
   DerivesMoreGroups most d end ts s.no_groups rest = (w : List ℕ) × (p : Span) × (ts ≡ lexeme end w p ∷ rest)
   DerivesMoreGroups most d end ts (s.one_group g more) rest =
@@ -250,7 +251,7 @@ abbrev mutual
   DerivesMeaning most d ts (s.trace_meaning x) rest = DerivesTrace most d whole ts x rest
   DerivesMeaning most d ts (s.value_meaning e) rest = DerivesExp most d ts e rest × IsNoOperator rest
 
-  -- a macro behind its `let`
+  -- a macro after its `let`
   pub DerivesMacro : ℕ → ℕ → Lexemes → Macro → Lexemes → Type 0
   DerivesMacro most d ts (s.macro n ps kind x) rest =
       (m : Lexemes) × (ts ≡ lexeme t.Name n.text n.span ∷ m)
@@ -301,13 +302,13 @@ abbrev mutual
   DerivesSequence most d ts s.no_traces rest = ⊥
   DerivesSequence most d ts (s.one_trace x more) rest = (m : Lexemes) × DerivesTrace most d item ts x m × HasTrace more × DerivesMoreItems most d m more rest
 
-  -- the items after a first one, each behind `fby`
+  -- the items after a first one, each after `fby`
   pub DerivesMoreItems : ℕ → ℕ → Lexemes → Traces → Lexemes → Type 0
   DerivesMoreItems most d ts s.no_traces rest = (ts ≡ rest) × IsNotFirst t.Fby rest
   DerivesMoreItems most d ts (s.one_trace x more) rest =
       (w : List ℕ) × (p : Span) × (m : Lexemes) × (ts ≡ lexeme t.Fby w p ∷ m) × (n : Lexemes) × DerivesTrace most d item m x n × DerivesMoreItems most d n more rest
 
-  -- what follows behind `do`; a `do` belongs to the nearest open form that may have one
+  -- what follows a `do`; a `do` belongs to the nearest open form that may have one
   pub DerivesHandler : ℕ → ℕ → Lexemes → MaybeTrace → Lexemes → Type 0
   DerivesHandler most d ts s.no_trace rest = (ts ≡ rest) × IsNotFirst t.Do rest
   DerivesHandler most d ts (s.a_trace x) rest = (w : List ℕ) × (p : Span) × (m : Lexemes) × (ts ≡ lexeme t.Do w p ∷ m) × DerivesTrace most d whole m x rest

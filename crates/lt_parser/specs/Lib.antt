@@ -1,12 +1,22 @@
-pub mod Going
-pub mod Grammar
+-- tokens as the grammar sees them
 pub mod Lexemes
-pub mod Onto
-pub mod Placing
+-- how tightly expressions bind
 pub mod Precedence
-pub mod PrintedText
+-- which tokens are which tree
+pub mod Grammar
+-- how deeply a program may be nested
+pub mod Nesting
+-- that tokens are a program, that they begin one, and where they stop doing so
 pub mod Program
-pub mod Reading
+-- the same of a text: its program, or why it has none
 pub mod Text
-pub mod Unplaced
+-- codes and places of refusals
+pub mod Refusals
+-- that a program is written with the tokens that spell it
 pub mod Written
+-- programs without places, and tokens at other places
+pub mod Unplaced
+-- that printed text reads back
+pub mod PrintedText
+-- words of private contracts and of proofs
+pub mod inner

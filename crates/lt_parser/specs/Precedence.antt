@@ -94,19 +94,3 @@ operator sign = None
 -- No operator follows: an expression reaches as far right as it can.
 abbrev pub IsNoOperator : Lexemes → Type 0
 IsNoOperator ts = (op : BinOp) (sign : Sign) (text : List ℕ) (at : Span) (rest : Lexemes) → ts ≡ lexeme sign text at ∷ rest → operator sign ≡ Some op → ⊥
-
--- from where the first begins to where the second ends
-abbrev pub across : Span → Span → Span
-across a b = record { start = a.start; end = b.end }
-
--- the place of an expression; that of a name with arguments is the name's
-abbrev pub span_of : Exp → Span
-span_of (s.number f) = f.span
-span_of (s.flag b at) = at
-span_of (s.named w) = w.span
-span_of (s.called w args) = w.span
-span_of (s.pre w at) = at
-span_of (s.paren e at) = at
-span_of (s.unary op e at) = at
-span_of (s.binary op e f at) = at
-span_of (s.choose e f g at) = at

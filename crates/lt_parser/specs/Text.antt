@@ -32,19 +32,19 @@ abbrev pub IsProgramOf : List ℕ → List Declaration → Type 0
 IsProgramOf text x = (ls : Lexemes) × HasLexemes text ls × Spells ls x
 
 -- where the rest of a text's tokens begins: at the first of them, or where the text ends
-abbrev pub place_of : List ℕ → Lexemes → ℕ
-place_of text [] = length text
-place_of text (lexeme sign letters at ∷ ls) = at.start
+abbrev pub start_of : List ℕ → Lexemes → ℕ
+start_of text [] = length text
+start_of text (lexeme sign letters at ∷ ls) = at.start
 
 -- The text spells no program, for this reason.
 abbrev pub IsRefusal : List ℕ → ParseRefusal → Type 0
 -- it has no tokens
 IsRefusal text (Lex refusal) = lexer.IsRefusal text refusal
--- no program goes on with the token at this place, or the text ends too early
-IsRefusal text (Unexpected place) = (ls : Lexemes) × HasLexemes text ls × (rest : Lexemes) × IsUnexpected ls rest × (place ≡ place_of text rest)
+-- the token at this place is the first that no program has there, or the text ends too early
+IsRefusal text (Unexpected place) = (ls : Lexemes) × HasLexemes text ls × (rest : Lexemes) × IsUnexpected ls rest × (place ≡ start_of text rest)
 -- the token at this place opens a level too many
 IsRefusal text (TooDeep place) =
-    (ls : Lexemes) × HasLexemes text ls × (token : Lexeme) × (rest : Lexemes) × IsTooDeep ls token rest × (place ≡ place_of text (token ∷ rest))
+    (ls : Lexemes) × HasLexemes text ls × (token : Lexeme) × (rest : Lexemes) × IsTooDeep ls token rest × (place ≡ start_of text (token ∷ rest))
 -- want of memory is no reason
 IsRefusal text Memory = ⊥
 

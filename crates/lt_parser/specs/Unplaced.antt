@@ -98,7 +98,7 @@ abbrev mutual
   unplaced_first s.no_exp = s.no_exp
   unplaced_first (s.an_exp e) = s.an_exp (unplaced_exp e)
 
-  -- what follows behind `do`, without its places, or none
+  -- what follows a `do`, without its places, or none
   pub unplaced_handler : MaybeTrace → MaybeTrace
   unplaced_handler s.no_trace = s.no_trace
   unplaced_handler (s.a_trace x) = s.a_trace (unplaced_trace x)

@@ -2,35 +2,60 @@
 
 ghost use Rattle.std.specs.Prelude.{◌≡◌, ◌<◌, ◌≤◌, suc, Bool, length, nat_le, true, false, IfOk, MatchOption, MatchResult};
 ghost use Rattle.lt_ast.specs.View.{figure, interval, word, words};
-ghost use Rattle.lt_parser.specs.Going.{Goes};
-ghost use Rattle.lt_parser.specs.Lexemes.{Begins, IsNotFirst, lexemes};
-ghost use Rattle.lt_parser.specs.Reading.{Goal, a_digits, a_figure, a_name, a_range, a_ref, a_sign, a_type, outcome};
-ghost use Rattle.lt_parser.specs.Reading as reading;
+ghost use Rattle.lt_parser.specs.Nesting.{most_levels};
+ghost use Rattle.lt_parser.specs.inner.Parsing.{ReadsAs};
+ghost use Rattle.lt_parser.specs.Lexemes.{IsNotFirst};
+ghost use Rattle.lt_parser.specs.inner.Tokens.{Begins, lexemes};
+ghost use Rattle.lt_parser.specs.inner.Reading.{Goal, a_digits, a_figure, a_name, a_range, a_ref, a_sign, a_type, outcome};
+ghost use Rattle.lt_parser.specs.inner.Reading as reading;
 
-use crate::precedence::across;
 use crate::refusal::Refusal;
 use crate::token::Token;
 use lt_ast::{Literal, Name, Names, Range, Sign, Span, TypeName};
-use std::alloc::Global;
+use std::alloc::{AllocError, Global};
 
-/// How many levels may be open at once.
-pub(crate) const MOST: u32 = 200;
+// How many levels may be open at once.
+const MOST_LEVELS: u32 = 200;
 
-/// What was found, and the tokens behind it.
+/// What was found, and the tokens after it.
 pub(crate) type Parsed<'a, T> = Result<(T, &'a [Token<'a>]), Refusal>;
+
+/// The name that a token is.
+pub(crate) fn name_of(alloc: Global, token: &Token<'_>) -> Result<Name, AllocError>
+    ensures { IfOk result (λ n. word n ≡ record { text = token.now.text.now; span = token.now.span }) }
+{
+    Ok(Name {
+        text: String::from_str(alloc, token.text)?,
+        span: token.span,
+    })
+}
+
+/// The number that a token is, after a minus or not, at a place.
+pub(crate) fn number_of(
+    alloc: Global,
+    minus: bool,
+    span: Span,
+    token: &Token<'_>,
+) -> Result<Literal, AllocError>
+    requires { token.now.sign ≡ Sign.Number }
+    ensures { IfOk result (λ l. figure l ≡ record { minus = minus; text = token.now.text.now; span = span }) }
+{
+    let text = String::from_str(alloc, token.text)?;
+    Ok(Literal::new(minus, text, span))
+}
 
 /// One level more.
 pub(crate) fn deeper(depth: u32, left: usize) -> Result<u32, Refusal>
-    requires { depth ≤ MOST }
-    ensures deep { MatchResult result (λ d. (d ≡ suc depth) × (d ≤ MOST) × (nat_le (suc depth) 200 ≡ true)) (λ e. (e ≡ Refusal.TooDeep left) × (nat_le (suc depth) 200 ≡ false)) }
+    requires { depth ≤ most_levels }
+    ensures deep { MatchResult result (λ d. (d ≡ suc depth) × (d ≤ most_levels) × (nat_le (suc depth) most_levels ≡ true)) (λ e. (e ≡ Refusal.TooDeep left) × (nat_le (suc depth) most_levels ≡ false)) }
 {
-    if depth == MOST {
+    if depth == MOST_LEVELS {
         return Err(Refusal::TooDeep(left));
     }
     Ok(depth + 1)
 }
 
-/// The place of this sign and the tokens behind it, where it is the first.
+/// The place of this sign and the tokens after it, where it is the first.
 #[tactic(auto, using(crate::proofs::Steps::firsts))]
 pub(crate) fn after<'a>(tokens: &'a [Token<'a>], sign: Sign) -> Option<(Span, &'a [Token<'a>])>
     ensures found { MatchOption result (IsNotFirst sign (lexemes tokens.now)) (λ r. Begins sign r.0 (lexemes tokens.now) (lexemes r.1.now)) }
@@ -49,7 +74,7 @@ pub(crate) fn after<'a>(tokens: &'a [Token<'a>], sign: Sign) -> Option<(Span, &'
 
 /// This sign.
 pub(crate) fn expect<'a>(tokens: &'a [Token<'a>], sign: Sign) -> Parsed<'a, Span>
-    ensures goes { Goes (λ x. x.0) (λ x. lexemes x.1.now) (a_sign sign) (lexemes tokens.now) result }
+    ensures reads { ReadsAs (λ x. x.0) (λ x. lexemes x.1.now) (a_sign sign) (lexemes tokens.now) result }
     ensures shorter { IfOk result (λ x. length x.1.now < length tokens.now) }
 {
     match after(tokens, sign) {
@@ -58,21 +83,13 @@ pub(crate) fn expect<'a>(tokens: &'a [Token<'a>], sign: Sign) -> Parsed<'a, Span
     }
 }
 
+/// A name.
 pub(crate) fn name<'a>(alloc: Global, tokens: &'a [Token<'a>]) -> Parsed<'a, Name>
-    ensures goes { Goes (λ x. word x.0) (λ x. lexemes x.1.now) a_name (lexemes tokens.now) result }
+    ensures reads { ReadsAs (λ x. word x.0) (λ x. lexemes x.1.now) a_name (lexemes tokens.now) result }
     ensures shorter { IfOk result (λ x. length x.1.now < length tokens.now) }
 {
     match tokens.split_first() {
-        Some((first, rest)) if first.sign == Sign::Name => {
-            let text = String::from_str(alloc, first.text)?;
-            Ok((
-                Name {
-                    text,
-                    span: first.span,
-                },
-                rest,
-            ))
-        }
+        Some((first, rest)) if first.sign == Sign::Name => Ok((name_of(alloc, first)?, rest)),
         _ => Err(Refusal::Unexpected(tokens.len())),
     }
 }
@@ -80,22 +97,22 @@ pub(crate) fn name<'a>(alloc: Global, tokens: &'a [Token<'a>]) -> Parsed<'a, Nam
 /// Names with commas between them.
 #[tactic(auto, using(crate::proofs::Skips::no_name))]
 pub(crate) fn names<'a>(alloc: Global, tokens: &'a [Token<'a>]) -> Parsed<'a, Names>
-    ensures goes { Goes (λ x. words x.0) (λ x. lexemes x.1.now) reading.names (lexemes tokens.now) result }
+    ensures reads { ReadsAs (λ x. words x.0) (λ x. lexemes x.1.now) reading.names (lexemes tokens.now) result }
     ensures shorter { IfOk result (λ x. length x.1.now < length tokens.now) }
 {
     let (first, mut rest) = name(alloc, tokens)?;
     let mut items = vec![in alloc; first]?;
     while let Some((_, next)) = after(rest, Sign::Comma) {
-        let (another, behind) = name(alloc, next)?;
+        let (another, remaining) = name(alloc, next)?;
         items.push(another)?;
-        rest = behind;
+        rest = remaining;
     }
     Ok((Names { items }, rest))
 }
 
 /// The name of a type.
 pub(crate) fn type_name<'a>(tokens: &'a [Token<'a>]) -> Parsed<'a, TypeName>
-    ensures goes { Goes (λ x. x.0) (λ x. lexemes x.1.now) a_type (lexemes tokens.now) result }
+    ensures reads { ReadsAs (λ x. x.0) (λ x. lexemes x.1.now) a_type (lexemes tokens.now) result }
     ensures shorter { IfOk result (λ x. length x.1.now < length tokens.now) }
 {
     let Some((first, rest)) = tokens.split_first() else {
@@ -113,7 +130,7 @@ pub(crate) fn type_name<'a>(tokens: &'a [Token<'a>]) -> Parsed<'a, TypeName>
 /// Whether `ref` comes.
 #[tactic(auto, using(crate::proofs::Skips::no_ref))]
 pub(crate) fn by_ref<'a>(tokens: &'a [Token<'a>]) -> (bool, &'a [Token<'a>])
-    ensures goes { (k : Bool → Goal) → outcome 200 (a_ref k) (lexemes tokens.now) ≡ outcome 200 (k result.0) (lexemes result.1.now) }
+    ensures reads { (k : Bool → Goal) → outcome most_levels (a_ref k) (lexemes tokens.now) ≡ outcome most_levels (k result.0) (lexemes result.1.now) }
     ensures shorter { length result.1.now ≤ length tokens.now }
 {
     match after(tokens, Sign::Ref) {
@@ -124,7 +141,7 @@ pub(crate) fn by_ref<'a>(tokens: &'a [Token<'a>]) -> (bool, &'a [Token<'a>])
 
 /// A number, with a minus or without one.
 pub(crate) fn literal<'a>(alloc: Global, tokens: &'a [Token<'a>]) -> Parsed<'a, Literal>
-    ensures goes { Goes (λ x. figure x.0) (λ x. lexemes x.1.now) a_figure (lexemes tokens.now) result }
+    ensures reads { ReadsAs (λ x. figure x.0) (λ x. lexemes x.1.now) a_figure (lexemes tokens.now) result }
     ensures shorter { IfOk result (λ x. length x.1.now < length tokens.now) }
 {
     let Some((first, rest)) = tokens.split_first() else {
@@ -132,37 +149,19 @@ pub(crate) fn literal<'a>(alloc: Global, tokens: &'a [Token<'a>]) -> Parsed<'a, 
     };
     match first.sign {
         Sign::Minus => digits(alloc, first.span, rest),
-        Sign::Number => {
-            let text = String::from_str(alloc, first.text)?;
-            Ok((
-                Literal {
-                    minus: false,
-                    text,
-                    span: first.span,
-                },
-                rest,
-            ))
-        }
+        Sign::Number => Ok((number_of(alloc, false, first.span, first)?, rest)),
         _ => Err(Refusal::Unexpected(tokens.len())),
     }
 }
 
-// The number behind a minus.
+// The number after a minus.
 fn digits<'a>(alloc: Global, start: Span, tokens: &'a [Token<'a>]) -> Parsed<'a, Literal>
-    ensures goes { Goes (λ x. figure x.0) (λ x. lexemes x.1.now) (a_digits start) (lexemes tokens.now) result }
+    ensures reads { ReadsAs (λ x. figure x.0) (λ x. lexemes x.1.now) (a_digits start) (lexemes tokens.now) result }
     ensures shorter { IfOk result (λ x. length x.1.now < length tokens.now) }
 {
     match tokens.split_first() {
         Some((first, rest)) if first.sign == Sign::Number => {
-            let text = String::from_str(alloc, first.text)?;
-            Ok((
-                Literal {
-                    minus: true,
-                    text,
-                    span: across(start, first.span),
-                },
-                rest,
-            ))
+            Ok((number_of(alloc, true, start.to(first.span), first)?, rest))
         }
         _ => Err(Refusal::Unexpected(tokens.len())),
     }
@@ -171,7 +170,7 @@ fn digits<'a>(alloc: Global, start: Span, tokens: &'a [Token<'a>]) -> Parsed<'a,
 /// A range, where it is there.
 #[tactic(auto, using(crate::proofs::Skips::no_range))]
 pub(crate) fn range<'a>(alloc: Global, tokens: &'a [Token<'a>]) -> Parsed<'a, Option<Range>>
-    ensures goes { Goes (λ x. interval x.0) (λ x. lexemes x.1.now) a_range (lexemes tokens.now) result }
+    ensures reads { ReadsAs (λ x. interval x.0) (λ x. lexemes x.1.now) a_range (lexemes tokens.now) result }
     ensures shorter { IfOk result (λ x. length x.1.now ≤ length tokens.now) }
 {
     match after(tokens, Sign::OpenBracket) {

@@ -5,12 +5,13 @@ ghost use Rattle.lt_ast.specs.inner.Rows.{weighed};
 ghost use Rattle.lt_ast.specs.Syntax as syntax;
 ghost use Rattle.lt_ast.specs.View.{braced, trace};
 ghost use Rattle.lt_ast.specs.View as view;
-ghost use Rattle.lt_parser.specs.Going.{BeginsItem, Goes, GoesTo};
-ghost use Rattle.lt_parser.specs.Lexemes.{lexemes};
-ghost use Rattle.lt_parser.specs.Onto.{alternatives_behind, traces_behind, traces_onto};
-ghost use Rattle.lt_parser.specs.Reading.{after_first, an_alternative, some_braced};
+ghost use Rattle.lt_parser.specs.Nesting.{most_levels};
+ghost use Rattle.lt_parser.specs.inner.Parsing.{BeginsItem, ReadsAs, ReadsTo};
+ghost use Rattle.lt_parser.specs.inner.Tokens.{lexemes};
+ghost use Rattle.lt_parser.specs.inner.Onto.{alternatives_after, traces_after, traces_onto};
+ghost use Rattle.lt_parser.specs.inner.Reading.{after_first, an_alternative, some_braced};
 
-use crate::atoms::{MOST, Parsed, after, expect};
+use crate::atoms::{Parsed, after, expect};
 use crate::expressions::expr;
 use crate::refusal::Refusal;
 use crate::token::Token;
@@ -18,7 +19,7 @@ use crate::traces::{sequence, trace};
 use lt_ast::{Braced, Part, Parts, Sign, Span, TraceExpr, Traces};
 use std::alloc::Global;
 
-/// What stands in braces, and the place of the brace behind it.
+/// What stands in braces, and the place of the brace that ends it.
 #[cycle(parser)]
 #[tactic(auto, using(crate::proofs::Steps::a_trace_first))]
 pub(crate) fn braced<'a>(
@@ -26,8 +27,8 @@ pub(crate) fn braced<'a>(
     depth: u32,
     tokens: &'a [Token<'a>],
 ) -> Result<(Braced, Span, &'a [Token<'a>]), Refusal>
-    requires { depth ≤ MOST }
-    ensures goes { GoesTo (λ x k. k (braced x.0) x.1) (λ x. lexemes x.2.now) (some_braced depth) (lexemes tokens.now) result }
+    requires { depth ≤ most_levels }
+    ensures reads { ReadsTo (λ x k. k (braced x.0) x.1) (λ x. lexemes x.2.now) (some_braced depth) (lexemes tokens.now) result }
     ensures shorter { IfOk result (λ x. length x.2.now < length tokens.now) }
 {
     if let Some((_, rest)) = after(tokens, Sign::Bar) {
@@ -55,8 +56,8 @@ fn unled<'a>(
     first: TraceExpr,
     tokens: &'a [Token<'a>],
 ) -> Result<(Braced, Span, &'a [Token<'a>]), Refusal>
-    requires { depth ≤ MOST }
-    ensures goes { GoesTo (λ x k. k (braced x.0) x.1) (λ x. lexemes x.2.now) (after_first depth (trace first)) (lexemes tokens.now) result }
+    requires { depth ≤ most_levels }
+    ensures reads { ReadsTo (λ x k. k (braced x.0) x.1) (λ x. lexemes x.2.now) (after_first depth (trace first)) (lexemes tokens.now) result }
     ensures shorter { IfOk result (λ x. length x.2.now < length tokens.now) }
 {
     if let Some((_, rest)) = after(tokens, Sign::Bar) {
@@ -91,7 +92,7 @@ fn unled<'a>(
     Ok((Braced::Plain(Box::new(alloc, first)?), end, rest))
 }
 
-// The alternatives from here on, behind others, and the place of the brace behind them.
+// The alternatives that come after others, and the place of the brace that ends them.
 #[cycle(parser)]
 #[tactic(auto, using(crate::proofs::Steps::alternatives_end))]
 fn alternatives<'a>(
@@ -100,23 +101,23 @@ fn alternatives<'a>(
     before: Vec<Part>,
     tokens: &'a [Token<'a>],
 ) -> Result<(Parts, Span, &'a [Token<'a>]), Refusal>
-    requires { depth ≤ MOST }
-    ensures goes { GoesTo (λ x k. k (view.alternatives x.0) x.1) (λ x. lexemes x.2.now) (alternatives_behind depth before.items) (lexemes tokens.now) result }
+    requires { depth ≤ most_levels }
+    ensures reads { ReadsTo (λ x k. k (view.alternatives x.0) x.1) (λ x. lexemes x.2.now) (alternatives_after depth before.items) (lexemes tokens.now) result }
     ensures shorter { IfOk result (λ x. length x.2.now < length tokens.now) }
 {
     let (first, mut rest) = alternative(alloc, depth, tokens)?;
     let mut items = before;
     items.push(first)?;
     while let Some((_, next)) = after(rest, Sign::Bar) {
-        let (another, behind) = alternative(alloc, depth, next)?;
+        let (another, remaining) = alternative(alloc, depth, next)?;
         items.push(another)?;
-        rest = behind;
+        rest = remaining;
     }
     let (end, rest) = expect(rest, Sign::CloseBrace)?;
     Ok((Parts { items }, end, rest))
 }
 
-// The traces from here on, behind others, with this sign between two, and the place of the brace behind them.
+// The traces that come after others, with this sign between two, and the place of the brace that ends them.
 #[cycle(parser)]
 #[tactic(auto, using(crate::proofs::Steps::traces_end))]
 fn traces<'a>(
@@ -126,18 +127,18 @@ fn traces<'a>(
     before: Vec<TraceExpr>,
     tokens: &'a [Token<'a>],
 ) -> Result<(Traces, Span, &'a [Token<'a>]), Refusal>
-    requires open { depth ≤ MOST }
+    requires open { depth ≤ most_levels }
     requires between { sign ≢ Sign.CloseBrace }
-    ensures goes { GoesTo (λ x k. k (traces_onto x.0.items.items syntax.no_traces) x.1) (λ x. lexemes x.2.now) (traces_behind depth sign before.items) (lexemes tokens.now) result }
+    ensures reads { ReadsTo (λ x k. k (traces_onto x.0.items.items syntax.no_traces) x.1) (λ x. lexemes x.2.now) (traces_after depth sign before.items) (lexemes tokens.now) result }
     ensures shorter { IfOk result (λ x. length x.2.now < length tokens.now) }
 {
     let (first, mut rest) = trace(alloc, depth, tokens)?;
     let mut items = before;
     items.push(first)?;
     while let Some((_, next)) = after(rest, sign) {
-        let (another, behind) = trace(alloc, depth, next)?;
+        let (another, remaining) = trace(alloc, depth, next)?;
         items.push(another)?;
-        rest = behind;
+        rest = remaining;
     }
     let (end, rest) = expect(rest, Sign::CloseBrace)?;
     Ok((Traces { items }, end, rest))
@@ -147,8 +148,8 @@ fn traces<'a>(
 #[cycle(parser)]
 #[tactic(auto, using(crate::proofs::Begins::no_weight))]
 fn alternative<'a>(alloc: Global, depth: u32, tokens: &'a [Token<'a>]) -> Parsed<'a, Part>
-    requires { depth ≤ MOST }
-    ensures goes { Goes (λ x. weighed x.0.weight x.0.body) (λ x. lexemes x.1.now) (an_alternative depth) (lexemes tokens.now) result }
+    requires { depth ≤ most_levels }
+    ensures reads { ReadsAs (λ x. weighed x.0.weight x.0.body) (λ x. lexemes x.1.now) (an_alternative depth) (lexemes tokens.now) result }
     ensures shorter { IfOk result (λ x. length x.1.now < length tokens.now) }
 {
     if begins_item(tokens) {

@@ -3,10 +3,10 @@
 ghost use Rattle.std.specs.Prelude.{◌≡◌, ◌<◌, ◌∷◌, length, IfOk};
 ghost use Rattle.lt_ast.specs.View.{groupings};
 ghost use Rattle.lt_ast.specs.View as view;
-ghost use Rattle.lt_parser.specs.Going.{Goes, GoesTo, ProgramGoes};
-ghost use Rattle.lt_parser.specs.Lexemes.{lexemes};
-ghost use Rattle.lt_parser.specs.Onto.{declarations_behind, declarations_more};
-ghost use Rattle.lt_parser.specs.Reading.{a_list, node_goal};
+ghost use Rattle.lt_parser.specs.inner.Parsing.{ReadsAs, ReadsTo, ProgramReadsAs};
+ghost use Rattle.lt_parser.specs.inner.Tokens.{lexemes};
+ghost use Rattle.lt_parser.specs.inner.Onto.{declarations_after, declarations_more};
+ghost use Rattle.lt_parser.specs.inner.Reading.{a_list, node_goal};
 
 use crate::atoms::{Parsed, after, expect, name, names};
 use crate::groups::{listed, macro_decl};
@@ -18,7 +18,7 @@ use std::alloc::Global;
 
 /// Declarations up to the end of the tokens.
 pub(crate) fn program<'a>(alloc: Global, tokens: &'a [Token<'a>]) -> Result<Program, Refusal>
-    ensures { ProgramGoes (lexemes tokens.now) result }
+    ensures { ProgramReadsAs (lexemes tokens.now) result }
 {
     let mut decls = Vec::new(alloc);
     if tokens.is_empty() {
@@ -27,17 +27,17 @@ pub(crate) fn program<'a>(alloc: Global, tokens: &'a [Token<'a>]) -> Result<Prog
     let (first, mut rest) = declaration(alloc, tokens)?;
     decls.push(first)?;
     while !rest.is_empty() {
-        let (declared, behind) = declaration(alloc, rest)?;
+        let (declared, remaining) = declaration(alloc, rest)?;
         decls.push(declared)?;
-        rest = behind;
+        rest = remaining;
     }
     Ok(Program { decls })
 }
 
-// A declaration, behind others.
+// A declaration that comes after others.
 fn declaration<'a>(alloc: Global, tokens: &'a [Token<'a>]) -> Parsed<'a, Decl>
     requires { 0 < length tokens.now }
-    ensures goes { GoesTo (λ x before. declarations_more before (view.declaration x.0)) (λ x. lexemes x.1.now) declarations_behind (lexemes tokens.now) result }
+    ensures reads { ReadsTo (λ x before. declarations_more before (view.declaration x.0)) (λ x. lexemes x.1.now) declarations_after (lexemes tokens.now) result }
     ensures shorter { IfOk result (λ x. length x.1.now < length tokens.now) }
 {
     let Some((first, rest)) = tokens.split_first() else {
@@ -60,9 +60,9 @@ fn declaration<'a>(alloc: Global, tokens: &'a [Token<'a>]) -> Parsed<'a, Decl>
     }
 }
 
-// A node, behind its `node`.
+// What follows `node`.
 fn node<'a>(alloc: Global, tokens: &'a [Token<'a>]) -> Parsed<'a, NodeDecl>
-    ensures goes { Goes (λ x. view.declaration (Decl.Node x.0)) (λ x. lexemes x.1.now) node_goal (lexemes tokens.now) result }
+    ensures reads { ReadsAs (λ x. view.declaration (Decl.Node x.0)) (λ x. lexemes x.1.now) node_goal (lexemes tokens.now) result }
     ensures shorter { IfOk result (λ x. length x.1.now < length tokens.now) }
 {
     let (name, rest) = name(alloc, tokens)?;
@@ -85,7 +85,7 @@ fn node<'a>(alloc: Global, tokens: &'a [Token<'a>]) -> Parsed<'a, NodeDecl>
 // Groups in parentheses.
 #[tactic(auto, using(crate::proofs::Steps::no_list))]
 fn list<'a>(alloc: Global, tokens: &'a [Token<'a>]) -> Parsed<'a, Groups>
-    ensures goes { Goes (λ x. groupings x.0) (λ x. lexemes x.1.now) (a_list 0) (lexemes tokens.now) result }
+    ensures reads { ReadsAs (λ x. groupings x.0) (λ x. lexemes x.1.now) (a_list 0) (lexemes tokens.now) result }
     ensures shorter { IfOk result (λ x. length x.1.now < length tokens.now) }
 {
     match after(tokens, Sign::Open) {

@@ -3,18 +3,19 @@
 ghost use Rattle.std.specs.Prelude.{◌≡◌, ◌<◌, ◌≤◌, suc, length, IfOk, MatchOption};
 ghost use Rattle.lt_ast.specs.Syntax as syntax;
 ghost use Rattle.lt_ast.specs.View.{argument, exp, word};
-ghost use Rattle.lt_parser.specs.Going.{Goes, GoesTo, IsExtended, IsNotExtended, OperandGoes};
-ghost use Rattle.lt_parser.specs.Precedence as places;
-ghost use Rattle.lt_parser.specs.Lexemes.{lexemes};
-ghost use Rattle.lt_parser.specs.Onto.{arguments_onto};
-ghost use Rattle.lt_parser.specs.Reading.{a_right_side, after_name, an_argument, an_exp, if_goal, more_exp, paren_goal, some_arguments, unary_goal};
+ghost use Rattle.lt_parser.specs.Nesting.{most_levels};
+ghost use Rattle.lt_parser.specs.inner.Parsing.{ReadsAs, ReadsTo, IsExtended, IsNotExtended, OperandReadsAs};
+ghost use Rattle.lt_ast.specs.Places.{across, span_of};
+ghost use Rattle.lt_parser.specs.inner.Tokens.{lexemes};
+ghost use Rattle.lt_parser.specs.inner.Onto.{arguments_onto};
+ghost use Rattle.lt_parser.specs.inner.Reading.{a_right_side, after_name, an_argument, an_exp, if_goal, more_exp, paren_goal, some_arguments, unary_goal};
 
-use crate::atoms::{MOST, Parsed, after, deeper, expect, name};
+use crate::atoms::{Parsed, after, deeper, expect, name, name_of, number_of};
 use crate::braces::braced;
-use crate::precedence::{across, operator, rank, span_of, top};
+use crate::precedence::{operator, rank, top};
 use crate::refusal::Refusal;
 use crate::token::Token;
-use lt_ast::{Arg, Args, BinOp, Expr, Literal, Name, Sign, Span, UnOp};
+use lt_ast::{Arg, Args, BinOp, Expr, Name, Sign, Span, UnOp};
 use std::alloc::{AllocError, Global};
 
 /// An expression that binds at least so tightly.
@@ -25,8 +26,8 @@ pub(crate) fn expr<'a>(
     low: u32,
     tokens: &'a [Token<'a>],
 ) -> Parsed<'a, Expr>
-    requires { depth ≤ MOST }
-    ensures goes { Goes (λ x. exp x.0) (λ x. lexemes x.1.now) (an_exp depth low) (lexemes tokens.now) result }
+    requires { depth ≤ most_levels }
+    ensures reads { ReadsAs (λ x. exp x.0) (λ x. lexemes x.1.now) (an_exp depth low) (lexemes tokens.now) result }
     ensures shorter { IfOk result (λ x. length x.1.now < length tokens.now) }
 {
     let (mut left, mut rest) = prefix(alloc, depth, low, tokens)?;
@@ -34,14 +35,14 @@ pub(crate) fn expr<'a>(
         if rank(operator) > top(&left) {
             return Err(Refusal::Unexpected(rest.len()));
         }
-        let (right, behind) = operand(alloc, depth, operator, rest.len(), next)?;
+        let (right, remaining) = operand(alloc, depth, operator, rest.len(), next)?;
         left = joined(alloc, operator, left, right)?;
-        rest = behind;
+        rest = remaining;
     }
     Ok((left, rest))
 }
 
-// An operator that binds at least so tightly, and the tokens behind it.
+// An operator that binds at least so tightly, and the tokens after it.
 fn operation<'a>(tokens: &'a [Token<'a>], low: u32) -> Option<(BinOp, &'a [Token<'a>])>
     ensures found { MatchOption result (IsNotExtended low (lexemes tokens.now)) (λ r. IsExtended low r.0 (lexemes tokens.now) (lexemes r.1.now)) }
     ensures shorter { MatchOption result (length tokens.now ≡ length tokens.now) (λ r. length tokens.now ≡ suc (length r.1.now)) }
@@ -64,9 +65,9 @@ fn operand<'a>(
     left: usize,
     tokens: &'a [Token<'a>],
 ) -> Parsed<'a, Expr>
-    requires open { depth ≤ MOST }
+    requires open { depth ≤ most_levels }
     requires left { left ≡ suc (length tokens.now) }
-    ensures goes { OperandGoes (λ x. exp x.0) (λ x. lexemes x.1.now) depth operator (lexemes tokens.now) result }
+    ensures reads { OperandReadsAs (λ x. exp x.0) (λ x. lexemes x.1.now) depth operator (lexemes tokens.now) result }
     ensures shorter { IfOk result (λ x. length x.1.now < length tokens.now) }
 {
     match operator {
@@ -88,8 +89,8 @@ fn operand<'a>(
 #[cycle(parser)]
 #[tactic(auto, using(crate::proofs::Steps::a_sum, crate::proofs::Steps::a_negation))]
 fn side<'a>(alloc: Global, depth: u32, tokens: &'a [Token<'a>]) -> Parsed<'a, Expr>
-    requires { depth ≤ MOST }
-    ensures goes { Goes (λ x. exp x.0) (λ x. lexemes x.1.now) (a_right_side depth) (lexemes tokens.now) result }
+    requires { depth ≤ most_levels }
+    ensures reads { ReadsAs (λ x. exp x.0) (λ x. lexemes x.1.now) (a_right_side depth) (lexemes tokens.now) result }
     ensures shorter { IfOk result (λ x. length x.1.now < length tokens.now) }
 {
     match after(tokens, Sign::Not) {
@@ -100,9 +101,9 @@ fn side<'a>(alloc: Global, depth: u32, tokens: &'a [Token<'a>]) -> Parsed<'a, Ex
 
 // An operator between its operands.
 fn joined(alloc: Global, operator: BinOp, left: Expr, right: Expr) -> Result<Expr, AllocError>
-    ensures { IfOk result (λ e. exp e ≡ syntax.binary operator (exp left) (exp right) (places.across (places.span_of (exp left)) (places.span_of (exp right)))) }
+    ensures { IfOk result (λ e. exp e ≡ syntax.binary operator (exp left) (exp right) (across (span_of (exp left)) (span_of (exp right)))) }
 {
-    let span = across(span_of(&left), span_of(&right));
+    let span = left.span().to(right.span());
     Ok(Expr::Binary(
         operator,
         Box::new(alloc, left)?,
@@ -114,8 +115,8 @@ fn joined(alloc: Global, operator: BinOp, left: Expr, right: Expr) -> Result<Exp
 // The first operand, with the operator before it.
 #[cycle(parser)]
 fn prefix<'a>(alloc: Global, depth: u32, low: u32, tokens: &'a [Token<'a>]) -> Parsed<'a, Expr>
-    requires { depth ≤ MOST }
-    ensures goes { GoesTo (λ x k. more_exp depth low (exp x.0) k) (λ x. lexemes x.1.now) (an_exp depth low) (lexemes tokens.now) result }
+    requires { depth ≤ most_levels }
+    ensures reads { ReadsTo (λ x k. more_exp depth low (exp x.0) k) (λ x. lexemes x.1.now) (an_exp depth low) (lexemes tokens.now) result }
     ensures shorter { IfOk result (λ x. length x.1.now < length tokens.now) }
 {
     let Some((first, rest)) = tokens.split_first() else {
@@ -138,41 +139,23 @@ fn prefix<'a>(alloc: Global, depth: u32, low: u32, tokens: &'a [Token<'a>]) -> P
         ),
         Sign::If if low == 0 => conditional(alloc, deeper(depth, tokens.len())?, first.span, rest),
         Sign::Open => paren(alloc, deeper(depth, tokens.len())?, first.span, rest),
-        Sign::Name => {
-            let text = String::from_str(alloc, first.text)?;
-            named(
-                alloc,
-                depth,
-                Name {
-                    text,
-                    span: first.span,
-                },
-                rest,
-            )
-        }
+        Sign::Name => named(alloc, depth, name_of(alloc, first)?, rest),
         Sign::Pre => {
             let (name, rest) = name(alloc, rest)?;
-            let span = across(first.span, name.span);
+            let span = first.span.to(name.span);
             Ok((Expr::Pre(name, span), rest))
         }
-        Sign::Number => {
-            let text = String::from_str(alloc, first.text)?;
-            Ok((
-                Expr::Number(Literal {
-                    minus: false,
-                    text,
-                    span: first.span,
-                }),
-                rest,
-            ))
-        }
+        Sign::Number => Ok((
+            Expr::Number(number_of(alloc, false, first.span, first)?),
+            rest,
+        )),
         Sign::True => Ok((Expr::Flag(true, first.span), rest)),
         Sign::False => Ok((Expr::Flag(false, first.span), rest)),
         _ => Err(Refusal::Unexpected(tokens.len())),
     }
 }
 
-// An operator, behind its sign, and its operand.
+// What follows the sign of an operator with one operand.
 #[cycle(parser)]
 fn unary<'a>(
     alloc: Global,
@@ -181,8 +164,8 @@ fn unary<'a>(
     start: Span,
     tokens: &'a [Token<'a>],
 ) -> Parsed<'a, Expr>
-    requires { inside ≤ MOST }
-    ensures goes { Goes (λ x. exp x.0) (λ x. lexemes x.1.now) (unary_goal inside operator start) (lexemes tokens.now) result }
+    requires { inside ≤ most_levels }
+    ensures reads { ReadsAs (λ x. exp x.0) (λ x. lexemes x.1.now) (unary_goal inside operator start) (lexemes tokens.now) result }
     ensures shorter { IfOk result (λ x. length x.1.now < length tokens.now) }
 {
     let least = match operator {
@@ -190,11 +173,11 @@ fn unary<'a>(
         UnOp::Not => 4,
     };
     let (inner, rest) = expr(alloc, inside, least, tokens)?;
-    let span = across(start, span_of(&inner));
+    let span = start.to(inner.span());
     Ok((Expr::Unary(operator, Box::new(alloc, inner)?, span), rest))
 }
 
-/// An expression in parentheses, behind the first one.
+/// What follows an opening parenthesis: an expression, and the closing one.
 #[cycle(parser)]
 pub(crate) fn paren<'a>(
     alloc: Global,
@@ -202,16 +185,13 @@ pub(crate) fn paren<'a>(
     start: Span,
     tokens: &'a [Token<'a>],
 ) -> Parsed<'a, Expr>
-    requires { inside ≤ MOST }
-    ensures goes { Goes (λ x. exp x.0) (λ x. lexemes x.1.now) (paren_goal inside start) (lexemes tokens.now) result }
+    requires { inside ≤ most_levels }
+    ensures reads { ReadsAs (λ x. exp x.0) (λ x. lexemes x.1.now) (paren_goal inside start) (lexemes tokens.now) result }
     ensures shorter { IfOk result (λ x. length x.1.now < length tokens.now) }
 {
     let (inner, rest) = expr(alloc, inside, 0, tokens)?;
     let (end, rest) = expect(rest, Sign::Close)?;
-    Ok((
-        Expr::Paren(Box::new(alloc, inner)?, across(start, end)),
-        rest,
-    ))
+    Ok((Expr::Paren(Box::new(alloc, inner)?, start.to(end)), rest))
 }
 
 // What follows an `if`.
@@ -222,8 +202,8 @@ fn conditional<'a>(
     start: Span,
     tokens: &'a [Token<'a>],
 ) -> Parsed<'a, Expr>
-    requires { inside ≤ MOST }
-    ensures goes { Goes (λ x. exp x.0) (λ x. lexemes x.1.now) (if_goal inside start) (lexemes tokens.now) result }
+    requires { inside ≤ most_levels }
+    ensures reads { ReadsAs (λ x. exp x.0) (λ x. lexemes x.1.now) (if_goal inside start) (lexemes tokens.now) result }
     ensures shorter { IfOk result (λ x. length x.1.now < length tokens.now) }
 {
     let (condition, rest) = expr(alloc, inside, 0, tokens)?;
@@ -231,7 +211,7 @@ fn conditional<'a>(
     let (holds, rest) = expr(alloc, inside, 0, rest)?;
     let (_, rest) = expect(rest, Sign::Else)?;
     let (otherwise, rest) = expr(alloc, inside, 0, rest)?;
-    let span = across(start, span_of(&otherwise));
+    let span = start.to(otherwise.span());
     Ok((
         Expr::If(
             Box::new(alloc, condition)?,
@@ -247,8 +227,8 @@ fn conditional<'a>(
 #[cycle(parser)]
 #[tactic(auto, using(crate::proofs::Skips::no_call, crate::proofs::Steps::exp_called))]
 fn named<'a>(alloc: Global, depth: u32, name: Name, tokens: &'a [Token<'a>]) -> Parsed<'a, Expr>
-    requires { depth ≤ MOST }
-    ensures goes { Goes (λ x. exp x.0) (λ x. lexemes x.1.now) (after_name depth (word name)) (lexemes tokens.now) result }
+    requires { depth ≤ most_levels }
+    ensures reads { ReadsAs (λ x. exp x.0) (λ x. lexemes x.1.now) (after_name depth (word name)) (lexemes tokens.now) result }
     ensures shorter { IfOk result (λ x. length x.1.now ≤ length tokens.now) }
 {
     match after(tokens, Sign::Open) {
@@ -261,12 +241,12 @@ fn named<'a>(alloc: Global, depth: u32, name: Name, tokens: &'a [Token<'a>]) -> 
     }
 }
 
-// Arguments, and the parenthesis behind them.
+// Arguments, if any, and the parenthesis that ends them.
 #[cycle(parser)]
 #[tactic(auto, using(crate::proofs::Steps::an_argument_first, crate::proofs::Steps::arguments_end))]
 fn args<'a>(alloc: Global, depth: u32, tokens: &'a [Token<'a>]) -> Parsed<'a, Args>
-    requires { depth ≤ MOST }
-    ensures goes { Goes (λ x. arguments_onto x.0.items.items syntax.no_arguments) (λ x. lexemes x.1.now) (some_arguments depth) (lexemes tokens.now) result }
+    requires { depth ≤ most_levels }
+    ensures reads { ReadsAs (λ x. arguments_onto x.0.items.items syntax.no_arguments) (λ x. lexemes x.1.now) (some_arguments depth) (lexemes tokens.now) result }
     ensures shorter { IfOk result (λ x. length x.1.now < length tokens.now) }
 {
     if let Some((_, rest)) = after(tokens, Sign::Close) {
@@ -280,9 +260,9 @@ fn args<'a>(alloc: Global, depth: u32, tokens: &'a [Token<'a>]) -> Parsed<'a, Ar
     let (first, mut rest) = arg(alloc, depth, tokens)?;
     let mut items = vec![in alloc; first]?;
     while let Some((_, next)) = after(rest, Sign::Comma) {
-        let (another, behind) = arg(alloc, depth, next)?;
+        let (another, remaining) = arg(alloc, depth, next)?;
         items.push(another)?;
-        rest = behind;
+        rest = remaining;
     }
     let (_, rest) = expect(rest, Sign::Close)?;
     Ok((Args { items }, rest))
@@ -292,15 +272,15 @@ fn args<'a>(alloc: Global, depth: u32, tokens: &'a [Token<'a>]) -> Parsed<'a, Ar
 #[cycle(parser)]
 #[tactic(auto, using(crate::proofs::Steps::an_argument_value))]
 fn arg<'a>(alloc: Global, depth: u32, tokens: &'a [Token<'a>]) -> Parsed<'a, Arg>
-    requires { depth ≤ MOST }
-    ensures goes { Goes (λ x. argument x.0) (λ x. lexemes x.1.now) (an_argument depth) (lexemes tokens.now) result }
+    requires { depth ≤ most_levels }
+    ensures reads { ReadsAs (λ x. argument x.0) (λ x. lexemes x.1.now) (an_argument depth) (lexemes tokens.now) result }
     ensures shorter { IfOk result (λ x. length x.1.now < length tokens.now) }
 {
     match after(tokens, Sign::OpenBrace) {
         Some((start, rest)) => {
             let inside = deeper(depth, tokens.len())?;
             let (found, end, rest) = braced(alloc, inside, rest)?;
-            Ok((Arg::Trace(found, across(start, end)), rest))
+            Ok((Arg::Trace(found, start.to(end)), rest))
         }
         None => {
             let (value, rest) = expr(alloc, depth, 0, tokens)?;

@@ -3,12 +3,13 @@
 ghost use Rattle.std.specs.Prelude.{◌<◌, ◌≤◌, length, IfOk};
 ghost use Rattle.lt_ast.specs.inner.Rows.{group_of, maybe_exp};
 ghost use Rattle.lt_ast.specs.View.{groupings, macro, meaning};
-ghost use Rattle.lt_parser.specs.Going.{Goes, parameters_of};
-ghost use Rattle.lt_parser.specs.Lexemes.{lexemes};
-ghost use Rattle.lt_parser.specs.Reading.{a_first, a_group, a_macro, a_meaning, some_groups, some_parameters};
-ghost use Rattle.lt_parser.specs.Reading as reading;
+ghost use Rattle.lt_parser.specs.Nesting.{most_levels};
+ghost use Rattle.lt_parser.specs.inner.Parsing.{ReadsAs, parameters_of};
+ghost use Rattle.lt_parser.specs.inner.Tokens.{lexemes};
+ghost use Rattle.lt_parser.specs.inner.Reading.{a_first, a_group, a_macro, a_meaning, some_groups, some_parameters};
+ghost use Rattle.lt_parser.specs.inner.Reading as reading;
 
-use crate::atoms::{MOST, Parsed, after, by_ref, deeper, expect, name, names, range, type_name};
+use crate::atoms::{Parsed, after, by_ref, deeper, expect, name, names, range, type_name};
 use crate::expressions::expr;
 use crate::refusal::Refusal;
 use crate::token::Token;
@@ -20,8 +21,8 @@ use std::alloc::Global;
 #[cycle(parser)]
 #[tactic(auto, using(crate::proofs::Skips::no_first))]
 fn first_value<'a>(alloc: Global, depth: u32, tokens: &'a [Token<'a>]) -> Parsed<'a, Option<Expr>>
-    requires { depth ≤ MOST }
-    ensures goes { Goes (λ x. maybe_exp x.0) (λ x. lexemes x.1.now) (a_first depth) (lexemes tokens.now) result }
+    requires { depth ≤ most_levels }
+    ensures reads { ReadsAs (λ x. maybe_exp x.0) (λ x. lexemes x.1.now) (a_first depth) (lexemes tokens.now) result }
     ensures shorter { IfOk result (λ x. length x.1.now ≤ length tokens.now) }
 {
     match after(tokens, Sign::Equal) {
@@ -36,8 +37,8 @@ fn first_value<'a>(alloc: Global, depth: u32, tokens: &'a [Token<'a>]) -> Parsed
 // Names of one type.
 #[cycle(parser)]
 fn group<'a>(alloc: Global, depth: u32, tokens: &'a [Token<'a>]) -> Parsed<'a, Group>
-    requires { depth ≤ MOST }
-    ensures goes { Goes (λ x. group_of x.0) (λ x. lexemes x.1.now) (a_group depth) (lexemes tokens.now) result }
+    requires { depth ≤ most_levels }
+    ensures reads { ReadsAs (λ x. group_of x.0) (λ x. lexemes x.1.now) (a_group depth) (lexemes tokens.now) result }
     ensures shorter { IfOk result (λ x. length x.1.now < length tokens.now) }
 {
     let (names, rest) = names(alloc, tokens)?;
@@ -67,27 +68,27 @@ pub(crate) fn groups<'a>(
     end: Sign,
     tokens: &'a [Token<'a>],
 ) -> Parsed<'a, Groups>
-    requires { depth ≤ MOST }
-    ensures goes { Goes (λ x. groupings x.0) (λ x. lexemes x.1.now) (reading.groups depth end) (lexemes tokens.now) result }
+    requires { depth ≤ most_levels }
+    ensures reads { ReadsAs (λ x. groupings x.0) (λ x. lexemes x.1.now) (reading.groups depth end) (lexemes tokens.now) result }
     ensures shorter { IfOk result (λ x. length x.1.now < length tokens.now) }
 {
     let (first, mut rest) = group(alloc, depth, tokens)?;
     let mut items = vec![in alloc; first]?;
     while let Some((_, next)) = after(rest, Sign::Semicolon) {
-        let (another, behind) = group(alloc, depth, next)?;
+        let (another, remaining) = group(alloc, depth, next)?;
         items.push(another)?;
-        rest = behind;
+        rest = remaining;
     }
     let (_, rest) = expect(rest, end)?;
     Ok((Groups { items }, rest))
 }
 
-/// Groups, if any, and the parenthesis behind them.
+/// Groups, if any, and the parenthesis that ends them.
 #[cycle(parser)]
 #[tactic(auto, using(crate::proofs::Steps::a_group_first))]
 pub(crate) fn listed<'a>(alloc: Global, inside: u32, tokens: &'a [Token<'a>]) -> Parsed<'a, Groups>
-    requires { inside ≤ MOST }
-    ensures goes { Goes (λ x. groupings x.0) (λ x. lexemes x.1.now) (some_groups inside) (lexemes tokens.now) result }
+    requires { inside ≤ most_levels }
+    ensures reads { ReadsAs (λ x. groupings x.0) (λ x. lexemes x.1.now) (some_groups inside) (lexemes tokens.now) result }
     ensures shorter { IfOk result (λ x. length x.1.now < length tokens.now) }
 {
     if let Some((_, rest)) = after(tokens, Sign::Close) {
@@ -105,8 +106,8 @@ pub(crate) fn listed<'a>(alloc: Global, inside: u32, tokens: &'a [Token<'a>]) ->
 #[cycle(parser)]
 #[tactic(auto, using(crate::proofs::Skips::no_parameters))]
 fn params<'a>(alloc: Global, depth: u32, tokens: &'a [Token<'a>]) -> Parsed<'a, Option<Groups>>
-    requires { depth ≤ MOST }
-    ensures goes { Goes (λ x. parameters_of x.0) (λ x. lexemes x.1.now) (some_parameters depth) (lexemes tokens.now) result }
+    requires { depth ≤ most_levels }
+    ensures reads { ReadsAs (λ x. parameters_of x.0) (λ x. lexemes x.1.now) (some_parameters depth) (lexemes tokens.now) result }
     ensures shorter { IfOk result (λ x. length x.1.now ≤ length tokens.now) }
 {
     match after(tokens, Sign::Open) {
@@ -118,15 +119,15 @@ fn params<'a>(alloc: Global, depth: u32, tokens: &'a [Token<'a>]) -> Parsed<'a, 
     }
 }
 
-/// A macro, behind its `let`.
+/// What follows the `let` of a macro.
 #[cycle(parser)]
 pub(crate) fn macro_decl<'a>(
     alloc: Global,
     depth: u32,
     tokens: &'a [Token<'a>],
 ) -> Parsed<'a, MacroDecl>
-    requires { depth ≤ MOST }
-    ensures goes { Goes (λ x. macro x.0) (λ x. lexemes x.1.now) (a_macro depth) (lexemes tokens.now) result }
+    requires { depth ≤ most_levels }
+    ensures reads { ReadsAs (λ x. macro x.0) (λ x. lexemes x.1.now) (a_macro depth) (lexemes tokens.now) result }
     ensures shorter { IfOk result (λ x. length x.1.now < length tokens.now) }
 {
     let (name, rest) = name(alloc, tokens)?;
@@ -149,8 +150,8 @@ pub(crate) fn macro_decl<'a>(
 // What a macro of this type stands for.
 #[cycle(parser)]
 fn body<'a>(alloc: Global, depth: u32, kind: TypeName, tokens: &'a [Token<'a>]) -> Parsed<'a, Body>
-    requires { depth ≤ MOST }
-    ensures goes { Goes (λ x. meaning x.0) (λ x. lexemes x.1.now) (a_meaning depth kind) (lexemes tokens.now) result }
+    requires { depth ≤ most_levels }
+    ensures reads { ReadsAs (λ x. meaning x.0) (λ x. lexemes x.1.now) (a_meaning depth kind) (lexemes tokens.now) result }
     ensures shorter { IfOk result (λ x. length x.1.now < length tokens.now) }
 {
     match kind {

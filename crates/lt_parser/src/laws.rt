@@ -4,7 +4,6 @@ ghost use Rattle.std.specs.Prelude.{◌≡◌, ◌⊎◌, ℕ, List};
 ghost use Rattle.lt_ast.specs.Syntax.{Declaration};
 ghost use Rattle.lt_parser.specs.PrintedText.{PrintedReadsBack};
 ghost use Rattle.lt_parser.specs.Program.{SpellsAtMostOne};
-ghost use Rattle.lt_parser.specs.Reading.{ReadIsSpelled, ReadsTheSpelled, TooDeepIsExact, UnexpectedIsExact};
 ghost use Rattle.lt_parser.specs.Text.{IsProgramOf, IsRefusal};
 ghost use Rattle.lt_parser.specs.Unplaced.{SpelledElsewhere};
 ghost use Rattle.lt_parser.specs.Written.{WrittenAsSpelled};
@@ -14,30 +13,6 @@ ghost use Rattle.lt_parser.specs.declared.refusal.ParseRefusal.{ParseRefusal};
 #[tactic(auto, using(crate::proofs::Complete::at_most_one))]
 pub fn at_most_one_program()
     ensures { SpellsAtMostOne }
-{}
-
-/// Reading from left to right, one token a step, gives the program that the tokens spell.
-#[tactic(auto, using(crate::proofs::Complete::reads_the_spelled))]
-pub fn spelled_is_read()
-    ensures { ReadsTheSpelled }
-{}
-
-/// What reading gives is spelled by the tokens.
-#[tactic(auto, using(crate::proofs::Sound::read_is_spelled))]
-pub fn read_is_spelled()
-    ensures { ReadIsSpelled }
-{}
-
-/// Reading stops for an unexpected token exactly where some program within 200 levels begins with the tokens before it,
-/// but no program, however many levels it opens, has the next one after them; where no next one is, they are no program.
-pub fn unexpected_is_exact()
-    ensures { UnexpectedIsExact }
-{}
-
-/// Reading stops for a level too many exactly at the token that opens level 201: the tokens before it begin some program
-/// within 200 levels, and together with it they begin one within 201, but none within 200.
-pub fn too_deep_is_exact()
-    ensures { TooDeepIsExact }
 {}
 
 /// A program is written with the tokens that spell it.

@@ -3,9 +3,9 @@
 ghost use Rattle.std.specs.Prelude.{◌≡◌};
 ghost use Rattle.lt_ast.specs.View.{exp};
 ghost use Rattle.lt_parser.specs.Precedence as precedence;
-ghost use Rattle.lt_parser.specs.Reading as reading;
+ghost use Rattle.lt_parser.specs.inner.Reading as reading;
 
-use lt_ast::{BinOp, Expr, Sign, Span, UnOp};
+use lt_ast::{BinOp, Expr, Sign, UnOp};
 
 /// The operator that a sign is between two operands.
 pub fn operator(sign: Sign) -> Option<BinOp>
@@ -62,31 +62,5 @@ pub fn top(expr: &Expr) -> u32
         Expr::Binary(operator, _, _, _) => rank(*operator),
         Expr::Unary(UnOp::Not, _, _) => 3,
         _ => 7,
-    }
-}
-
-/// The place of an expression; that of a name with arguments is the name's.
-pub fn span_of(expr: &Expr) -> Span
-    ensures { result ≡ precedence.span_of (exp expr.now) }
-{
-    match expr {
-        Expr::Number(literal) => literal.span,
-        Expr::Named(name, _) => name.span,
-        Expr::Flag(_, span)
-        | Expr::Pre(_, span)
-        | Expr::Paren(_, span)
-        | Expr::Unary(_, _, span)
-        | Expr::Binary(_, _, _, span)
-        | Expr::If(_, _, _, span) => *span,
-    }
-}
-
-/// From where the first begins to where the second ends.
-pub fn across(first: Span, second: Span) -> Span
-    ensures { result ≡ precedence.across first second }
-{
-    Span {
-        start: first.start,
-        end: second.end,
     }
 }

@@ -11,11 +11,11 @@ pub enum ParseRefusal {
     #[error("{0}")]
     Lex(LexRefusal),
 
-    /// No program goes on with the token that begins here; at the text's length, the text ends too early.
+    /// The token that begins here is the first that no program has there; at the text's length, the text ends too early.
     #[error("no program goes on at byte {0}")]
     Unexpected(usize),
 
-    /// The token that begins here opens level 201 of nesting.
+    /// The token that begins here opens a level of nesting more than may be open.
     #[error("more than 200 levels are open at byte {0}")]
     TooDeep(usize),
 
@@ -24,9 +24,37 @@ pub enum ParseRefusal {
     Memory,
 }
 
+impl ParseRefusal {
+    ghost use Rattle.std.specs.Prelude.{◌≡◌};
+    ghost use Rattle.lt_parser.specs.Refusals.{parse_code, parse_place};
+
+    /// Its code, by which a call tells it: the word of the layer that refuses, and the name of the variant.
+    pub fn code(self) -> &'static str
+        ensures { result.now ≡ parse_code self }
+    {
+        match self {
+            ParseRefusal::Lex(refusal) => refusal.code(),
+            ParseRefusal::Unexpected(_) => "parse.Unexpected",
+            ParseRefusal::TooDeep(_) => "parse.TooDeep",
+            ParseRefusal::Memory => "parse.Memory",
+        }
+    }
+
+    /// The place of the byte at which it shows, where it has one.
+    pub fn place(self) -> Option<usize>
+        ensures { result ≡ parse_place self }
+    {
+        match self {
+            ParseRefusal::Lex(refusal) => refusal.place(),
+            ParseRefusal::Unexpected(place) | ParseRefusal::TooDeep(place) => Some(place),
+            ParseRefusal::Memory => None,
+        }
+    }
+}
+
 impl From<LexRefusal> for ParseRefusal {
     ghost use Rattle.std.specs.Prelude.{◌≡◌};
-    ghost use Rattle.lt_parser.specs.Placing.{of_lexer};
+    ghost use Rattle.lt_parser.specs.Refusals.{of_lexer};
 
     ghost from_gives = { λ refusal result. result ≡ of_lexer refusal };
 

@@ -4,9 +4,9 @@ ghost use Rattle.std.specs.Prelude.{◌≡◌, ◌≤◌, ◌⊎◌, List, All, 
 ghost use Rattle.lt_ast.specs.Syntax.{Declaration};
 ghost use Rattle.lt_ast.specs.View.{program};
 ghost use Rattle.lt_lexer.specs.Source.{IsTokenOf};
-ghost use Rattle.lt_parser.specs.Lexemes.{lexemes};
-ghost use Rattle.lt_parser.specs.Placing.{IsPlaced, IsWithin, last_of};
-ghost use Rattle.lt_parser.specs.Text.{AnswersProgram, AnswersRefusal, AreLexemesOf, IsProgramOf, IsRefusal, place_of};
+ghost use Rattle.lt_parser.specs.inner.Tokens.{lexemes};
+ghost use Rattle.lt_parser.specs.inner.Placing.{IsPlaced, IsWithin, last_of};
+ghost use Rattle.lt_parser.specs.Text.{AnswersProgram, AnswersRefusal, AreLexemesOf, IsProgramOf, IsRefusal, start_of};
 ghost use Rattle.lt_parser.specs.declared.refusal.ParseRefusal.{ParseRefusal};
 
 use crate::declarations::program;
@@ -18,8 +18,8 @@ use std::alloc::Global;
 
 /// The program that a text spells.
 ///
-/// A text that spells none is refused at the first token after which no program goes on, or at the one that opens a
-/// level of nesting too many, whichever comes first. The one answer that the text doesn't determine is
+/// A text that spells none is refused at the first token that no program has after the tokens before it, or at the one
+/// that opens a level of nesting too many, whichever comes first. The one answer that the text doesn't determine is
 /// [`ParseRefusal::Memory`].
 pub fn parse(alloc: Global, text: &[u8]) -> Result<Program, ParseRefusal>
     // What is answered is the text's program ..
@@ -60,11 +60,12 @@ fn tokens_of<'a>(
 {
     let mut tokens = Vec::with_capacity(alloc, lexed.len())?;
     for token in lexed {
-        tokens.push(Token {
+        let found = Token {
             sign: token.sign(text),
             text: token.letters(text),
             span: token.span,
-        })?;
+        };
+        tokens.push(found)?;
     }
     Ok(tokens)
 }
@@ -84,7 +85,7 @@ fn placed(text: &[u8], tokens: &[Token<'_>], refusal: Refusal) -> ParseRefusal
 // Where the token stands from which on so many are left, or where the text ends.
 fn place(text: &[u8], tokens: &[Token<'_>], left: usize) -> usize
     requires { left ≤ length (lexemes tokens.now) }
-    ensures { result ≡ place_of text.now (last_of (lexemes tokens.now) left) }
+    ensures { result ≡ start_of text.now (last_of (lexemes tokens.now) left) }
 {
     match tokens.get(tokens.len() - left) {
         Some(token) => token.span.start,

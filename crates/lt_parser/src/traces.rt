@@ -4,27 +4,27 @@ ghost use Rattle.std.specs.Prelude.{◌<◌, ◌≤◌, length, IfOk};
 ghost use Rattle.lt_ast.specs.inner.Rows.{maybe_trace};
 ghost use Rattle.lt_ast.specs.Syntax as syntax;
 ghost use Rattle.lt_ast.specs.View.{exp, limits, trace};
-ghost use Rattle.lt_parser.specs.Going.{Goes};
-ghost use Rattle.lt_parser.specs.Lexemes.{lexemes};
-ghost use Rattle.lt_parser.specs.Onto.{items_behind};
-ghost use Rattle.lt_parser.specs.Reading.{a_handler, a_name, a_bound, a_trace, an_item, assert_goal, braces_goal, catch_goal, define_goal, exceptions_goal, exist_goal, loop_goal, sequence_goal, trap_goal, try_goal, some_limits, value_goal};
-ghost use Rattle.lt_parser.specs.Reading as reading;
+ghost use Rattle.lt_parser.specs.Nesting.{most_levels};
+ghost use Rattle.lt_parser.specs.inner.Parsing.{ReadsAs, guard_goal};
+ghost use Rattle.lt_parser.specs.inner.Tokens.{lexemes};
+ghost use Rattle.lt_parser.specs.inner.Onto.{items_after};
+ghost use Rattle.lt_parser.specs.inner.Reading.{a_handler, a_name, a_bound, a_trace, an_item, assert_goal, braces_goal, define_goal, exceptions_goal, exist_goal, loop_goal, sequence_goal, try_goal, some_limits, value_goal};
+ghost use Rattle.lt_parser.specs.inner.Reading as reading;
 
-use crate::atoms::{MOST, Parsed, after, deeper, expect, name, names};
+use crate::atoms::{Parsed, after, deeper, expect, name, name_of, names, number_of};
 use crate::braces::braced;
 use crate::expressions::{expr, paren};
 use crate::groups::{groups, macro_decl};
-use crate::precedence::across;
 use crate::refusal::Refusal;
 use crate::token::Token;
-use lt_ast::{Bounds, Expr, Literal, Name, Sign, Span, TraceExpr, Traces};
+use lt_ast::{Bounds, Expr, Sign, Span, TraceExpr, Traces};
 use std::alloc::Global;
 
 /// A trace: items with `fby` between them.
 #[cycle(parser)]
 pub(crate) fn trace<'a>(alloc: Global, depth: u32, tokens: &'a [Token<'a>]) -> Parsed<'a, TraceExpr>
-    requires { depth ≤ MOST }
-    ensures goes { Goes (λ x. trace x.0) (λ x. lexemes x.1.now) (a_trace depth) (lexemes tokens.now) result }
+    requires { depth ≤ most_levels }
+    ensures reads { ReadsAs (λ x. trace x.0) (λ x. lexemes x.1.now) (a_trace depth) (lexemes tokens.now) result }
     ensures shorter { IfOk result (λ x. length x.1.now < length tokens.now) }
 {
     let (first, rest) = item(alloc, depth, tokens)?;
@@ -40,8 +40,8 @@ pub(crate) fn sequence<'a>(
     first: TraceExpr,
     tokens: &'a [Token<'a>],
 ) -> Parsed<'a, TraceExpr>
-    requires { depth ≤ MOST }
-    ensures goes { Goes (λ x. trace x.0) (λ x. lexemes x.1.now) (sequence_goal depth (trace first)) (lexemes tokens.now) result }
+    requires { depth ≤ most_levels }
+    ensures reads { ReadsAs (λ x. trace x.0) (λ x. lexemes x.1.now) (sequence_goal depth (trace first)) (lexemes tokens.now) result }
     ensures shorter { IfOk result (λ x. length x.1.now ≤ length tokens.now) }
 {
     match after(tokens, Sign::Fby) {
@@ -50,7 +50,7 @@ pub(crate) fn sequence<'a>(
     }
 }
 
-// The items of a sequence from here on, behind others.
+// The items of a sequence that come after others.
 #[cycle(parser)]
 #[tactic(auto, using(crate::proofs::Skips::no_item))]
 fn more_items<'a>(
@@ -59,17 +59,17 @@ fn more_items<'a>(
     before: Vec<TraceExpr>,
     tokens: &'a [Token<'a>],
 ) -> Parsed<'a, TraceExpr>
-    requires { depth ≤ MOST }
-    ensures goes { Goes (λ x. trace x.0) (λ x. lexemes x.1.now) (items_behind depth before.items) (lexemes tokens.now) result }
+    requires { depth ≤ most_levels }
+    ensures reads { ReadsAs (λ x. trace x.0) (λ x. lexemes x.1.now) (items_after depth before.items) (lexemes tokens.now) result }
     ensures shorter { IfOk result (λ x. length x.1.now < length tokens.now) }
 {
     let (first, mut rest) = item(alloc, depth, tokens)?;
     let mut items = before;
     items.push(first)?;
     while let Some((_, next)) = after(rest, Sign::Fby) {
-        let (another, behind) = item(alloc, depth, next)?;
+        let (another, remaining) = item(alloc, depth, next)?;
         items.push(another)?;
-        rest = behind;
+        rest = remaining;
     }
     Ok((TraceExpr::Seq(Traces { items }), rest))
 }
@@ -77,8 +77,8 @@ fn more_items<'a>(
 // An item of a sequence.
 #[cycle(parser)]
 fn item<'a>(alloc: Global, depth: u32, tokens: &'a [Token<'a>]) -> Parsed<'a, TraceExpr>
-    requires { depth ≤ MOST }
-    ensures goes { Goes (λ x. trace x.0) (λ x. lexemes x.1.now) (an_item depth) (lexemes tokens.now) result }
+    requires { depth ≤ most_levels }
+    ensures reads { ReadsAs (λ x. trace x.0) (λ x. lexemes x.1.now) (an_item depth) (lexemes tokens.now) result }
     ensures shorter { IfOk result (λ x. length x.1.now < length tokens.now) }
 {
     let Some((first, rest)) = tokens.split_first() else {
@@ -92,8 +92,8 @@ fn item<'a>(alloc: Global, depth: u32, tokens: &'a [Token<'a>]) -> Parsed<'a, Tr
         Sign::Exist => locals(alloc, deeper(depth, tokens.len())?, rest),
         Sign::Let => defined(alloc, deeper(depth, tokens.len())?, rest),
         Sign::Exception => exceptions(alloc, deeper(depth, tokens.len())?, rest),
-        Sign::Catch => caught(alloc, deeper(depth, tokens.len())?, rest),
-        Sign::Trap => trapped(alloc, deeper(depth, tokens.len())?, rest),
+        Sign::Catch => guarded(alloc, deeper(depth, tokens.len())?, Guard::Catch, rest),
+        Sign::Trap => guarded(alloc, deeper(depth, tokens.len())?, Guard::Trap, rest),
         Sign::Try => tried(alloc, deeper(depth, tokens.len())?, rest),
         _ => value(alloc, depth, tokens),
     }
@@ -102,15 +102,15 @@ fn item<'a>(alloc: Global, depth: u32, tokens: &'a [Token<'a>]) -> Parsed<'a, Tr
 // An expression as an item.
 #[cycle(parser)]
 fn value<'a>(alloc: Global, depth: u32, tokens: &'a [Token<'a>]) -> Parsed<'a, TraceExpr>
-    requires { depth ≤ MOST }
-    ensures goes { Goes (λ x. trace x.0) (λ x. lexemes x.1.now) (value_goal depth) (lexemes tokens.now) result }
+    requires { depth ≤ most_levels }
+    ensures reads { ReadsAs (λ x. trace x.0) (λ x. lexemes x.1.now) (value_goal depth) (lexemes tokens.now) result }
     ensures shorter { IfOk result (λ x. length x.1.now < length tokens.now) }
 {
     let (value, rest) = expr(alloc, depth, 0, tokens)?;
     Ok((TraceExpr::Value(value), rest))
 }
 
-// A trace in braces, behind the first one.
+// What follows an opening brace.
 #[cycle(parser)]
 fn braces<'a>(
     alloc: Global,
@@ -118,19 +118,19 @@ fn braces<'a>(
     start: Span,
     tokens: &'a [Token<'a>],
 ) -> Parsed<'a, TraceExpr>
-    requires { inside ≤ MOST }
-    ensures goes { Goes (λ x. trace x.0) (λ x. lexemes x.1.now) (braces_goal inside start) (lexemes tokens.now) result }
+    requires { inside ≤ most_levels }
+    ensures reads { ReadsAs (λ x. trace x.0) (λ x. lexemes x.1.now) (braces_goal inside start) (lexemes tokens.now) result }
     ensures shorter { IfOk result (λ x. length x.1.now < length tokens.now) }
 {
     let (found, end, rest) = braced(alloc, inside, tokens)?;
-    Ok((TraceExpr::Braces(found, across(start, end)), rest))
+    Ok((TraceExpr::Braces(found, start.to(end)), rest))
 }
 
 // What follows `loop`.
 #[cycle(parser)]
 fn looped<'a>(alloc: Global, inside: u32, tokens: &'a [Token<'a>]) -> Parsed<'a, TraceExpr>
-    requires { inside ≤ MOST }
-    ensures goes { Goes (λ x. trace x.0) (λ x. lexemes x.1.now) (loop_goal inside) (lexemes tokens.now) result }
+    requires { inside ≤ most_levels }
+    ensures reads { ReadsAs (λ x. trace x.0) (λ x. lexemes x.1.now) (loop_goal inside) (lexemes tokens.now) result }
     ensures shorter { IfOk result (λ x. length x.1.now < length tokens.now) }
 {
     let (bounds, rest) = bounds(alloc, inside, tokens)?;
@@ -140,18 +140,18 @@ fn looped<'a>(alloc: Global, inside: u32, tokens: &'a [Token<'a>]) -> Parsed<'a,
 
 // What follows `raise`.
 fn raised<'a>(alloc: Global, tokens: &'a [Token<'a>]) -> Parsed<'a, TraceExpr>
-    ensures goes { Goes (λ x. trace x.0) (λ x. lexemes x.1.now) (λ k. a_name (λ n. k (syntax.raise n))) (lexemes tokens.now) result }
+    ensures reads { ReadsAs (λ x. trace x.0) (λ x. lexemes x.1.now) (λ k. a_name (λ n. k (syntax.raise n))) (lexemes tokens.now) result }
     ensures shorter { IfOk result (λ x. length x.1.now < length tokens.now) }
 {
     let (name, rest) = name(alloc, tokens)?;
     Ok((TraceExpr::Raise(name), rest))
 }
 
-// A trace behind `in`.
+// A trace after `in`.
 #[cycle(parser)]
 fn in_trace<'a>(alloc: Global, inside: u32, tokens: &'a [Token<'a>]) -> Parsed<'a, Box<TraceExpr>>
-    requires { inside ≤ MOST }
-    ensures goes { Goes (λ x. trace x.0.value) (λ x. lexemes x.1.now) (reading.in_trace inside) (lexemes tokens.now) result }
+    requires { inside ≤ most_levels }
+    ensures reads { ReadsAs (λ x. trace x.0.value) (λ x. lexemes x.1.now) (reading.in_trace inside) (lexemes tokens.now) result }
     ensures shorter { IfOk result (λ x. length x.1.now < length tokens.now) }
 {
     let (_, rest) = expect(tokens, Sign::In)?;
@@ -162,8 +162,8 @@ fn in_trace<'a>(alloc: Global, inside: u32, tokens: &'a [Token<'a>]) -> Parsed<'
 // What follows `assert`.
 #[cycle(parser)]
 fn asserted<'a>(alloc: Global, inside: u32, tokens: &'a [Token<'a>]) -> Parsed<'a, TraceExpr>
-    requires { inside ≤ MOST }
-    ensures goes { Goes (λ x. trace x.0) (λ x. lexemes x.1.now) (assert_goal inside) (lexemes tokens.now) result }
+    requires { inside ≤ most_levels }
+    ensures reads { ReadsAs (λ x. trace x.0) (λ x. lexemes x.1.now) (assert_goal inside) (lexemes tokens.now) result }
     ensures shorter { IfOk result (λ x. length x.1.now < length tokens.now) }
 {
     let (condition, rest) = expr(alloc, inside, 0, tokens)?;
@@ -174,8 +174,8 @@ fn asserted<'a>(alloc: Global, inside: u32, tokens: &'a [Token<'a>]) -> Parsed<'
 // What follows `exist`.
 #[cycle(parser)]
 fn locals<'a>(alloc: Global, inside: u32, tokens: &'a [Token<'a>]) -> Parsed<'a, TraceExpr>
-    requires { inside ≤ MOST }
-    ensures goes { Goes (λ x. trace x.0) (λ x. lexemes x.1.now) (exist_goal inside) (lexemes tokens.now) result }
+    requires { inside ≤ most_levels }
+    ensures reads { ReadsAs (λ x. trace x.0) (λ x. lexemes x.1.now) (exist_goal inside) (lexemes tokens.now) result }
     ensures shorter { IfOk result (λ x. length x.1.now < length tokens.now) }
 {
     let (groups, rest) = groups(alloc, inside, Sign::In, tokens)?;
@@ -186,8 +186,8 @@ fn locals<'a>(alloc: Global, inside: u32, tokens: &'a [Token<'a>]) -> Parsed<'a,
 // What follows a `let` that has an `in`.
 #[cycle(parser)]
 fn defined<'a>(alloc: Global, inside: u32, tokens: &'a [Token<'a>]) -> Parsed<'a, TraceExpr>
-    requires { inside ≤ MOST }
-    ensures goes { Goes (λ x. trace x.0) (λ x. lexemes x.1.now) (define_goal inside) (lexemes tokens.now) result }
+    requires { inside ≤ most_levels }
+    ensures reads { ReadsAs (λ x. trace x.0) (λ x. lexemes x.1.now) (define_goal inside) (lexemes tokens.now) result }
     ensures shorter { IfOk result (λ x. length x.1.now < length tokens.now) }
 {
     let (declared, rest) = macro_decl(alloc, inside, tokens)?;
@@ -198,8 +198,8 @@ fn defined<'a>(alloc: Global, inside: u32, tokens: &'a [Token<'a>]) -> Parsed<'a
 // What follows an `exception` that has an `in`.
 #[cycle(parser)]
 fn exceptions<'a>(alloc: Global, inside: u32, tokens: &'a [Token<'a>]) -> Parsed<'a, TraceExpr>
-    requires { inside ≤ MOST }
-    ensures goes { Goes (λ x. trace x.0) (λ x. lexemes x.1.now) (exceptions_goal inside) (lexemes tokens.now) result }
+    requires { inside ≤ most_levels }
+    ensures reads { ReadsAs (λ x. trace x.0) (λ x. lexemes x.1.now) (exceptions_goal inside) (lexemes tokens.now) result }
     ensures shorter { IfOk result (λ x. length x.1.now < length tokens.now) }
 {
     let (names, rest) = names(alloc, tokens)?;
@@ -207,37 +207,42 @@ fn exceptions<'a>(alloc: Global, inside: u32, tokens: &'a [Token<'a>]) -> Parsed
     Ok((TraceExpr::Exceptions(names, body), rest))
 }
 
-// What follows `catch`.
-#[cycle(parser)]
-fn caught<'a>(alloc: Global, inside: u32, tokens: &'a [Token<'a>]) -> Parsed<'a, TraceExpr>
-    requires { inside ≤ MOST }
-    ensures goes { Goes (λ x. trace x.0) (λ x. lexemes x.1.now) (catch_goal inside) (lexemes tokens.now) result }
-    ensures shorter { IfOk result (λ x. length x.1.now < length tokens.now) }
-{
-    let (name, rest) = name(alloc, tokens)?;
-    let (body, rest) = in_trace(alloc, inside, rest)?;
-    let (otherwise, rest) = handler(alloc, inside, rest)?;
-    Ok((TraceExpr::Catch(name, body, otherwise), rest))
+/// The forms that have an exception of their own.
+#[derive(Clone, Copy)]
+pub(crate) enum Guard {
+    /// `catch`.
+    Catch,
+
+    /// `trap`.
+    Trap,
 }
 
-// What follows `trap`.
+// What follows `catch` or `trap`.
 #[cycle(parser)]
-fn trapped<'a>(alloc: Global, inside: u32, tokens: &'a [Token<'a>]) -> Parsed<'a, TraceExpr>
-    requires { inside ≤ MOST }
-    ensures goes { Goes (λ x. trace x.0) (λ x. lexemes x.1.now) (trap_goal inside) (lexemes tokens.now) result }
+fn guarded<'a>(
+    alloc: Global,
+    inside: u32,
+    guard: Guard,
+    tokens: &'a [Token<'a>],
+) -> Parsed<'a, TraceExpr>
+    requires { inside ≤ most_levels }
+    ensures reads { ReadsAs (λ x. trace x.0) (λ x. lexemes x.1.now) (guard_goal inside guard) (lexemes tokens.now) result }
     ensures shorter { IfOk result (λ x. length x.1.now < length tokens.now) }
 {
     let (name, rest) = name(alloc, tokens)?;
     let (body, rest) = in_trace(alloc, inside, rest)?;
     let (otherwise, rest) = handler(alloc, inside, rest)?;
-    Ok((TraceExpr::Trap(name, body, otherwise), rest))
+    match guard {
+        Guard::Catch => Ok((TraceExpr::Catch(name, body, otherwise), rest)),
+        Guard::Trap => Ok((TraceExpr::Trap(name, body, otherwise), rest)),
+    }
 }
 
 // What follows `try`.
 #[cycle(parser)]
 fn tried<'a>(alloc: Global, inside: u32, tokens: &'a [Token<'a>]) -> Parsed<'a, TraceExpr>
-    requires { inside ≤ MOST }
-    ensures goes { Goes (λ x. trace x.0) (λ x. lexemes x.1.now) (try_goal inside) (lexemes tokens.now) result }
+    requires { inside ≤ most_levels }
+    ensures reads { ReadsAs (λ x. trace x.0) (λ x. lexemes x.1.now) (try_goal inside) (lexemes tokens.now) result }
     ensures shorter { IfOk result (λ x. length x.1.now < length tokens.now) }
 {
     let (body, rest) = trace(alloc, inside, tokens)?;
@@ -245,7 +250,7 @@ fn tried<'a>(alloc: Global, inside: u32, tokens: &'a [Token<'a>]) -> Parsed<'a, 
     Ok((TraceExpr::Try(Box::new(alloc, body)?, otherwise), rest))
 }
 
-// What follows behind `do`, where it is there: the nearest form that may have it takes it.
+// What follows a `do`, where it is there: the nearest form that may have it takes it.
 #[cycle(parser)]
 #[tactic(auto, using(crate::proofs::Skips::no_handler))]
 fn handler<'a>(
@@ -253,8 +258,8 @@ fn handler<'a>(
     inside: u32,
     tokens: &'a [Token<'a>],
 ) -> Parsed<'a, Option<Box<TraceExpr>>>
-    requires { inside ≤ MOST }
-    ensures goes { Goes (λ x. maybe_trace x.0) (λ x. lexemes x.1.now) (a_handler inside) (lexemes tokens.now) result }
+    requires { inside ≤ most_levels }
+    ensures reads { ReadsAs (λ x. maybe_trace x.0) (λ x. lexemes x.1.now) (a_handler inside) (lexemes tokens.now) result }
     ensures shorter { IfOk result (λ x. length x.1.now ≤ length tokens.now) }
 {
     match after(tokens, Sign::Do) {
@@ -270,8 +275,8 @@ fn handler<'a>(
 #[cycle(parser)]
 #[tactic(auto, using(crate::proofs::Skips::no_limits))]
 fn bounds<'a>(alloc: Global, inside: u32, tokens: &'a [Token<'a>]) -> Parsed<'a, Bounds>
-    requires { inside ≤ MOST }
-    ensures goes { Goes (λ x. limits x.0) (λ x. lexemes x.1.now) (some_limits inside) (lexemes tokens.now) result }
+    requires { inside ≤ most_levels }
+    ensures reads { ReadsAs (λ x. limits x.0) (λ x. lexemes x.1.now) (some_limits inside) (lexemes tokens.now) result }
     ensures shorter { IfOk result (λ x. length x.1.now ≤ length tokens.now) }
 {
     if let Some((_, rest)) = after(tokens, Sign::OpenBracket) {
@@ -293,8 +298,8 @@ fn bounds<'a>(alloc: Global, inside: u32, tokens: &'a [Token<'a>]) -> Parsed<'a,
 // A number, a name without arguments, or an expression in parentheses.
 #[cycle(parser)]
 fn bound<'a>(alloc: Global, depth: u32, tokens: &'a [Token<'a>]) -> Parsed<'a, Expr>
-    requires { depth ≤ MOST }
-    ensures goes { Goes (λ x. exp x.0) (λ x. lexemes x.1.now) (a_bound depth) (lexemes tokens.now) result }
+    requires { depth ≤ most_levels }
+    ensures reads { ReadsAs (λ x. exp x.0) (λ x. lexemes x.1.now) (a_bound depth) (lexemes tokens.now) result }
     ensures shorter { IfOk result (λ x. length x.1.now < length tokens.now) }
 {
     let Some((first, rest)) = tokens.split_first() else {
@@ -302,30 +307,11 @@ fn bound<'a>(alloc: Global, depth: u32, tokens: &'a [Token<'a>]) -> Parsed<'a, E
     };
     match first.sign {
         Sign::Open => paren(alloc, deeper(depth, tokens.len())?, first.span, rest),
-        Sign::Number => {
-            let text = String::from_str(alloc, first.text)?;
-            Ok((
-                Expr::Number(Literal {
-                    minus: false,
-                    text,
-                    span: first.span,
-                }),
-                rest,
-            ))
-        }
-        Sign::Name => {
-            let text = String::from_str(alloc, first.text)?;
-            Ok((
-                Expr::Named(
-                    Name {
-                        text,
-                        span: first.span,
-                    },
-                    None,
-                ),
-                rest,
-            ))
-        }
+        Sign::Number => Ok((
+            Expr::Number(number_of(alloc, false, first.span, first)?),
+            rest,
+        )),
+        Sign::Name => Ok((Expr::Named(name_of(alloc, first)?, None), rest)),
         _ => Err(Refusal::Unexpected(tokens.len())),
     }
 }

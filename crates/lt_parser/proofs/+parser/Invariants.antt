@@ -3,10 +3,11 @@ use Rattle.lt_ast.specs.declared.span.Span.{Span}
 use Rattle.lt_ast.specs.Syntax as s
 use Rattle.lt_ast.specs.Syntax.{Exp, Arguments, Alternatives, Traces, Trace, Groupings}
 use Rattle.lt_ast.specs.View.{exp}
-use Rattle.lt_parser.specs.Lexemes.{lexemes}
-use Rattle.lt_parser.specs.Onto.{alternatives_behind, traces_behind, items_behind, arguments_onto, alternatives_onto, traces_onto, groups_onto}
-use Rattle.lt_parser.specs.Reading.{Goal, groups, some_arguments, an_exp, more_exp, more_arguments, more_alternatives, more_traces, more_items, more_groups, outcome}
+use Rattle.lt_parser.specs.inner.Tokens.{lexemes}
+use Rattle.lt_parser.specs.inner.Onto.{alternatives_after, traces_after, items_after, arguments_onto, alternatives_onto, traces_onto, groups_onto}
+use Rattle.lt_parser.specs.inner.Reading.{Goal, groups, some_arguments, an_exp, more_exp, more_arguments, more_alternatives, more_traces, more_items, more_groups, outcome}
 use Rattle.lt_parser.proofs.+parser.Given as goal
+use Rattle.lt_parser.specs.Nesting.{most_levels}
 
 abbrev pub decreases-expressions::prefix : goal.decreases-expressions::prefix
 decreases-expressions::prefix l = 16 * length l.tokens.now + 1
@@ -89,11 +90,8 @@ decreases-traces::defined l = 16 * length l.tokens.now + 13
 abbrev pub decreases-traces::exceptions : goal.decreases-traces::exceptions
 decreases-traces::exceptions l = 16 * length l.tokens.now + 13
 
-abbrev pub decreases-traces::caught : goal.decreases-traces::caught
-decreases-traces::caught l = 16 * length l.tokens.now + 13
-
-abbrev pub decreases-traces::trapped : goal.decreases-traces::trapped
-decreases-traces::trapped l = 16 * length l.tokens.now + 13
+abbrev pub decreases-traces::guarded : goal.decreases-traces::guarded
+decreases-traces::guarded l = 16 * length l.tokens.now + 13
 
 abbrev pub decreases-traces::tried : goal.decreases-traces::tried
 decreases-traces::tried l = 16 * length l.tokens.now + 13
@@ -132,7 +130,7 @@ decreases-groups::body l = 16 * length l.tokens.now + 10
 abbrev pub invariant-expressions::expr-loop-operator : goal.invariant-expressions::expr-loop-operator
 invariant-expressions::expr-loop-operator l =
     record {
-      goes : (k : Exp → Goal) → outcome 200 (an_exp l.depth l.low k) (lexemes l.fn.tokens) ≡ outcome 200 (more_exp l.depth l.low (exp l.left) k) (lexemes l.rest);
+      reads : (k : Exp → Goal) → outcome most_levels (an_exp l.depth l.low k) (lexemes l.fn.tokens) ≡ outcome most_levels (more_exp l.depth l.low (exp l.left) k) (lexemes l.rest);
       shorter : length l.rest < length l.fn.tokens;
     }
 
@@ -143,7 +141,7 @@ decreases-expressions::expr-loop-operator l = length l.rest
 abbrev pub invariant-expressions::args-loop-next : goal.invariant-expressions::args-loop-next
 invariant-expressions::args-loop-next l =
     record {
-      goes : (k : Arguments → Goal) → outcome 200 (some_arguments l.depth k) (lexemes l.fn.tokens) ≡ outcome 200 (more_arguments l.depth (λ more. k (arguments_onto l.items.items more))) (lexemes l.rest);
+      reads : (k : Arguments → Goal) → outcome most_levels (some_arguments l.depth k) (lexemes l.fn.tokens) ≡ outcome most_levels (more_arguments l.depth (λ more. k (arguments_onto l.items.items more))) (lexemes l.rest);
       shorter : length l.rest < length l.fn.tokens;
     }
 
@@ -154,7 +152,7 @@ decreases-expressions::args-loop-next l = length l.rest
 abbrev pub invariant-braces::alternatives-loop-next : goal.invariant-braces::alternatives-loop-next
 invariant-braces::alternatives-loop-next l =
     record {
-      goes : (k : Alternatives → Span → Goal) → outcome 200 (alternatives_behind l.depth l.fn.before.items k) (lexemes l.fn.tokens) ≡ outcome 200 (more_alternatives l.depth (λ more. k (alternatives_onto l.items.items more))) (lexemes l.rest);
+      reads : (k : Alternatives → Span → Goal) → outcome most_levels (alternatives_after l.depth l.fn.before.items k) (lexemes l.fn.tokens) ≡ outcome most_levels (more_alternatives l.depth (λ more. k (alternatives_onto l.items.items more))) (lexemes l.rest);
       shorter : length l.rest < length l.fn.tokens;
     }
 
@@ -165,7 +163,7 @@ decreases-braces::alternatives-loop-next l = length l.rest
 abbrev pub invariant-braces::traces-loop-next : goal.invariant-braces::traces-loop-next
 invariant-braces::traces-loop-next l =
     record {
-      goes : (k : Traces → Span → Goal) → outcome 200 (traces_behind l.depth l.sign l.fn.before.items k) (lexemes l.fn.tokens) ≡ outcome 200 (more_traces l.depth l.sign (λ more. k (traces_onto l.items.items more))) (lexemes l.rest);
+      reads : (k : Traces → Span → Goal) → outcome most_levels (traces_after l.depth l.sign l.fn.before.items k) (lexemes l.fn.tokens) ≡ outcome most_levels (more_traces l.depth l.sign (λ more. k (traces_onto l.items.items more))) (lexemes l.rest);
       shorter : length l.rest < length l.fn.tokens;
     }
 
@@ -176,7 +174,7 @@ decreases-braces::traces-loop-next l = length l.rest
 abbrev pub invariant-traces::more_items-loop-next : goal.invariant-traces::more_items-loop-next
 invariant-traces::more_items-loop-next l =
     record {
-      goes : (k : Trace → Goal) → outcome 200 (items_behind l.depth l.fn.before.items k) (lexemes l.fn.tokens) ≡ outcome 200 (more_items l.depth (λ more. k (s.sequence (traces_onto l.items.items more)))) (lexemes l.rest);
+      reads : (k : Trace → Goal) → outcome most_levels (items_after l.depth l.fn.before.items k) (lexemes l.fn.tokens) ≡ outcome most_levels (more_items l.depth (λ more. k (s.sequence (traces_onto l.items.items more)))) (lexemes l.rest);
       shorter : length l.rest < length l.fn.tokens;
     }
 
@@ -187,7 +185,7 @@ decreases-traces::more_items-loop-next l = length l.rest
 abbrev pub invariant-groups::groups-loop-next : goal.invariant-groups::groups-loop-next
 invariant-groups::groups-loop-next l =
     record {
-      goes : (k : Groupings → Goal) → outcome 200 (groups l.depth l.end k) (lexemes l.fn.tokens) ≡ outcome 200 (more_groups l.depth l.end (λ more. k (groups_onto l.items.items more))) (lexemes l.rest);
+      reads : (k : Groupings → Goal) → outcome most_levels (groups l.depth l.end k) (lexemes l.fn.tokens) ≡ outcome most_levels (more_groups l.depth l.end (λ more. k (groups_onto l.items.items more))) (lexemes l.rest);
       shorter : length l.rest < length l.fn.tokens;
     }
 

@@ -1,5 +1,5 @@
 use Rattle.std.proofs.Common.{take}
-use Rattle.lt_parser.specs.Lexemes.{lexemes}
+use Rattle.lt_parser.specs.inner.Tokens.{lexemes}
 use Rattle.lt_parser.specs.Text.{AreLexemesOf}
 use Rattle.lt_parser.proofs.text.tokens_of.Given as goal
 

@@ -6,7 +6,7 @@ use Rattle.lt_ast.specs.Syntax.{Word, Arguments, Alternatives, Trace, Traces, Gr
 use Rattle.lt_ast.specs.View.{word, argument, trace, declaration}
 use Rattle.lt_ast.specs.declared.sign.Sign.{Sign}
 use Rattle.lt_ast.specs.declared.span.Span.{Span}
-use Rattle.lt_parser.specs.Reading.{Goal, an_alternative, more_alternatives, a_trace, more_traces, an_item, more_items, declarations, done}
+use Rattle.lt_parser.specs.inner.Reading.{Goal, an_alternative, more_alternatives, a_trace, more_traces, an_item, more_items, declarations, done}
 use Rattle.lt_ast.specs.declared.name.Name.{Name}
 use Rattle.lt_ast.specs.declared.expr.Arg.{Arg}
 use Rattle.lt_ast.specs.declared.trace.Part.{Part}
@@ -44,20 +44,20 @@ abbrev pub declarations_onto : List Decl → List Declaration → List Declarati
 declarations_onto xs more = onto (λ x ds. declaration x ∷ ds) xs more
 
 -- What is wanted where parts are read already: an alternative and more of them ..
-abbrev pub alternatives_behind : ℕ → List Part → (Alternatives → Span → Goal) → Goal
-alternatives_behind d before k = an_alternative d (λ p. more_alternatives d (λ more. k (alternatives_onto before (s.alternative p more))))
+abbrev pub alternatives_after : ℕ → List Part → (Alternatives → Span → Goal) → Goal
+alternatives_after d before k = an_alternative d (λ p. more_alternatives d (λ more. k (alternatives_onto before (s.alternative p more))))
 
--- .. a trace and more of them behind a sign ..
-abbrev pub traces_behind : ℕ → Sign → List TraceExpr → (Traces → Span → Goal) → Goal
-traces_behind d sign before k = a_trace d (λ x. more_traces d sign (λ more. k (traces_onto before (s.one_trace x more))))
+-- .. a trace and more of them after a sign ..
+abbrev pub traces_after : ℕ → Sign → List TraceExpr → (Traces → Span → Goal) → Goal
+traces_after d sign before k = a_trace d (λ x. more_traces d sign (λ more. k (traces_onto before (s.one_trace x more))))
 
 -- .. an item and more of them of a sequence ..
-abbrev pub items_behind : ℕ → List TraceExpr → (Trace → Goal) → Goal
-items_behind d before k = an_item d (λ x. more_items d (λ more. k (s.sequence (traces_onto before (s.one_trace x more)))))
+abbrev pub items_after : ℕ → List TraceExpr → (Trace → Goal) → Goal
+items_after d before k = an_item d (λ x. more_items d (λ more. k (s.sequence (traces_onto before (s.one_trace x more)))))
 
 -- .. declarations up to the end ..
-abbrev pub declarations_behind : List Decl → Goal
-declarations_behind before = declarations (λ xs. done (declarations_onto before xs))
+abbrev pub declarations_after : List Decl → Goal
+declarations_after before = declarations (λ xs. done (declarations_onto before xs))
 
 -- .. and the same with one more that is read already
 abbrev pub declarations_more : List Decl → Declaration → Goal

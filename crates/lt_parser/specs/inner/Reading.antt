@@ -1,4 +1,4 @@
--- Reading from left to right, by what is still wanted. Laws tie this to the grammar; the parser's functions go as it goes.
+-- Reading from left to right, by what is still wanted. Proofs tie this to the grammar; the parser's functions answer as it does.
 use Rattle.std.specs.Prelude.{◌≡◌, ◌↔◌, ℕ, suc, List, [], ◌∷◌, length, Bool, true, false, Option, Some, None, Result, Ok, Err, nat_le, nat_lt, if◌then◌else◌}
 use Rattle.lt_ast.specs.declared.sign.Sign.{Sign}
 use Rattle.lt_ast.specs.declared.sign.Sign.TheVariants as t
@@ -16,7 +16,9 @@ use Rattle.lt_ast.specs.Syntax.{Word, Figure, Interval, Exp, Argument, Arguments
 use Rattle.lt_parser.specs.Lexemes.{Lexeme, lexeme, Lexemes}
 use Rattle.lt_parser.specs.Grammar.{SpellsWithin}
 use Rattle.lt_parser.specs.Program.{IsUnexpected, IsTooDeep}
-use Rattle.lt_parser.specs.Precedence.{rank, under, operator, across, span_of}
+use Rattle.lt_parser.specs.Precedence.{rank, under, operator}
+use Rattle.lt_ast.specs.Places.{across, span_of}
+use Rattle.lt_parser.specs.Nesting.{most_levels}
 
 -- What is wanted next, and what is wanted after it, once that is found. The number in front is how many levels of
 -- nesting are open; an expression has a second one, how tightly it binds at least.
@@ -33,28 +35,28 @@ pub data Goal : Type 0 where
   a_right_side : ℕ → (Exp → Goal) → Goal
   -- what may follow a name in an expression
   after_name : ℕ → Word → (Exp → Goal) → Goal
-  -- arguments with the parenthesis behind them, more of them, and one
+  -- arguments with the parenthesis after them, more of them, and one
   some_arguments : ℕ → (Arguments → Goal) → Goal
   more_arguments : ℕ → (Arguments → Goal) → Goal
   an_argument : ℕ → (Argument → Goal) → Goal
   -- an item of a sequence, and the items after it
   an_item : ℕ → (Trace → Goal) → Goal
   more_items : ℕ → (Traces → Goal) → Goal
-  -- what follows behind `do`, if it is there
+  -- what follows a `do`, if it is there
   a_handler : ℕ → (MaybeTrace → Goal) → Goal
   -- the bounds of a loop, and a number, a name or a parenthesis in them
   some_limits : ℕ → (Limits → Goal) → Goal
   a_bound : ℕ → (Exp → Goal) → Goal
-  -- what stands in braces, with the brace behind it, and what follows a first trace in them
+  -- what stands in braces, with the brace after it, and what follows a first trace in them
   some_braced : ℕ → (Braces → Span → Goal) → Goal
   after_first : ℕ → Trace → (Braces → Span → Goal) → Goal
   -- an alternative, what follows an expression that may be its weight, and more alternatives, with the brace
   an_alternative : ℕ → (Alternative → Goal) → Goal
   after_weight : ℕ → Exp → (Alternative → Goal) → Goal
   more_alternatives : ℕ → (Alternatives → Span → Goal) → Goal
-  -- more traces behind this sign, with the brace
+  -- more traces after this sign, with the brace
   more_traces : ℕ → Sign → (Traces → Span → Goal) → Goal
-  -- groups with the parenthesis behind them, and more groups with this sign behind them
+  -- groups with the parenthesis after them, and more groups with this sign after them
   some_groups : ℕ → (Groupings → Goal) → Goal
   more_groups : ℕ → Sign → (Groupings → Goal) → Goal
   -- more names, and the parts of a group
@@ -63,7 +65,7 @@ pub data Goal : Type 0 where
   a_ref : (Bool → Goal) → Goal
   a_range : (Option Interval → Goal) → Goal
   a_figure : (Figure → Goal) → Goal
-  -- the number behind a minus, and the parenthesis before groups
+  -- the number after a minus, and the parenthesis before groups
   a_digits : Span → (Figure → Goal) → Goal
   a_list : ℕ → (Groupings → Goal) → Goal
   a_first : ℕ → (MaybeExp → Goal) → Goal
@@ -73,10 +75,10 @@ pub data Goal : Type 0 where
   declarations : (List Declaration → Goal) → Goal
 
 -- what a token does: it has no place, it is taken, or it is taken and opens the level of this number
-pub data Answer : Type 0 where
-  stuck : Answer
-  next : Goal → Answer
-  opens : ℕ → Goal → Answer
+pub data Move : Type 0 where
+  stuck : Move
+  next : Goal → Move
+  opens : ℕ → Goal → Move
 
 -- how tightly an operator may bind at most that follows an expression of this operator
 abbrev pub cap : BinOp → ℕ
@@ -97,7 +99,7 @@ top (s.unary u.Not e at) = 3
 top e = 7
 
 -- what a token does where it may stand
-abbrev pub allowed : Bool → Answer → Answer
+abbrev pub allowed : Bool → Move → Move
 allowed true a = a
 allowed false a = stuck
 
@@ -114,7 +116,7 @@ sequence_goal d x k = more_items d (λ xs. k (sequence_of x xs))
 abbrev pub a_trace : ℕ → (Trace → Goal) → Goal
 a_trace d k = an_item d (λ x. sequence_goal d x k)
 
--- a trace behind `in`
+-- a trace after `in`
 abbrev pub in_trace : ℕ → (Trace → Goal) → Goal
 in_trace d k = a_sign t.In (λ p. a_trace d k)
 
@@ -141,17 +143,17 @@ abbrev pub a_macro : ℕ → (Macro → Goal) → Goal
 a_macro d k =
     a_name (λ n. some_parameters d (λ ps. a_sign t.Colon (λ p. a_type (λ kind. a_sign t.Equal (λ q. a_meaning d kind (λ x. k (s.macro n ps kind x)))))))
 
--- a node behind its `node`
+-- a node after its `node`
 abbrev pub node_goal : (Declaration → Goal) → Goal
 node_goal k = a_name (λ n. a_list 0 (λ ins. a_sign t.Returns (λ p. a_list 0 (λ outs. a_sign t.Equal (λ q. a_trace 0 (λ x. k (s.node n ins outs x)))))))
 
 -- WHAT A TOKEN BEGINS
 
-abbrev pub begin_name : (Word → Goal) → Sign → List ℕ → Span → Answer
+abbrev pub begin_name : (Word → Goal) → Sign → List ℕ → Span → Move
 begin_name k t.Name w at = next (k (record { text = w; span = at }))
 begin_name k sign w at = stuck
 
--- an expression behind a parenthesis, an operand behind its operator, and what follows an `if`, each with the place of its first sign
+-- an expression after a parenthesis, an operand after its operator, and what follows an `if`, each with the place of its first sign
 abbrev pub paren_goal : ℕ → Span → (Exp → Goal) → Goal
 paren_goal d at k = an_exp d 0 (λ e. a_sign t.Close (λ q. k (s.paren e (across at q))))
 
@@ -161,7 +163,7 @@ unary_goal d op at k = an_exp d (under op) (λ e. k (s.unary op e (across at (sp
 abbrev pub if_goal : ℕ → Span → (Exp → Goal) → Goal
 if_goal d at k = an_exp d 0 (λ e. a_sign t.Then (λ p. an_exp d 0 (λ f. a_sign t.Else (λ q. an_exp d 0 (λ g. k (s.choose e f g (across at (span_of g))))))))
 
-abbrev pub begin_exp : ℕ → ℕ → (Exp → Goal) → Sign → List ℕ → Span → Answer
+abbrev pub begin_exp : ℕ → ℕ → (Exp → Goal) → Sign → List ℕ → Span → Move
 begin_exp d low k t.Number w at = next (more_exp d low (s.number (record { minus = false; text = w; span = at })) k)
 begin_exp d low k t.True w at = next (more_exp d low (s.flag true at) k)
 begin_exp d low k t.False w at = next (more_exp d low (s.flag false at) k)
@@ -224,7 +226,7 @@ trap_goal d k = a_name (λ n. in_trace d (λ x. a_handler d (λ h. k (s.trap n x
 abbrev pub try_goal : ℕ → (Trace → Goal) → Goal
 try_goal d k = a_trace d (λ x. a_handler d (λ h. k (s.try x h)))
 
-abbrev pub begin_item : ℕ → (Trace → Goal) → Sign → List ℕ → Span → Answer
+abbrev pub begin_item : ℕ → (Trace → Goal) → Sign → List ℕ → Span → Move
 begin_item d k t.OpenBrace w at = opens (suc d) (braces_goal (suc d) at k)
 begin_item d k t.Loop w at = opens (suc d) (loop_goal (suc d) k)
 begin_item d k t.Raise w at = next (a_name (λ n. k (s.raise n)))
@@ -237,17 +239,17 @@ begin_item d k t.Trap w at = opens (suc d) (trap_goal (suc d) k)
 begin_item d k t.Try w at = opens (suc d) (try_goal (suc d) k)
 begin_item d k sign w at = begin_exp d 0 (λ e. k (s.value e)) sign w at
 
-abbrev pub begin_argument : ℕ → (Argument → Goal) → Sign → List ℕ → Span → Answer
+abbrev pub begin_argument : ℕ → (Argument → Goal) → Sign → List ℕ → Span → Move
 begin_argument d k t.OpenBrace w at = opens (suc d) (some_braced (suc d) (λ x q. k (s.trace_argument x (across at q))))
 begin_argument d k sign w at = begin_exp d 0 (λ e. k (s.value_argument e)) sign w at
 
 -- A token that begins an expression may begin a weight.
-abbrev pub begin_alternative : Bool → ℕ → (Alternative → Goal) → Sign → List ℕ → Span → Answer
+abbrev pub begin_alternative : Bool → ℕ → (Alternative → Goal) → Sign → List ℕ → Span → Move
 begin_alternative true d k sign w at = begin_item d (λ x. more_items d (λ xs. k (s.unweighted (sequence_of x xs)))) sign w at
 begin_alternative false d k sign w at = begin_exp d 0 (λ e. after_weight d e k) sign w at
 
 -- An operator wants its right side.
-abbrev pub operand : ℕ → BinOp → (Exp → Goal) → Answer
+abbrev pub operand : ℕ → BinOp → (Exp → Goal) → Move
 operand d b.Implies k = opens (suc d) (an_exp (suc d) 1 k)
 operand d b.Eq k = next (a_right_side d k)
 operand d b.Ne k = next (a_right_side d k)
@@ -259,13 +261,13 @@ operand d op k = next (an_exp d (suc (rank op)) k)
 
 -- An operator extends an expression where it binds as tightly as wanted; then it has no place where it binds more tightly
 -- than the expression lets it. What else comes isn't the expression's.
-abbrev pub extend : Option BinOp → ℕ → ℕ → Exp → (Exp → Goal) → Answer → Answer
+abbrev pub extend : Option BinOp → ℕ → ℕ → Exp → (Exp → Goal) → Move → Move
 extend None d low x k skip = skip
 extend (Some op) d low x k skip =
     if nat_lt (rank op) low then skip else (if nat_le (rank op) (top x) then operand d op (λ y. more_exp d low (s.binary op x y (across (span_of x) (span_of y))) k) else stuck)
 
 -- one token
-abbrev pub step : Goal → Sign → List ℕ → Span → Answer
+abbrev pub step : Goal → Sign → List ℕ → Span → Move
 step (done xs) sign w at = stuck
 step (a_sign wanted k) sign w at = if sameb the_type wanted sign then next (k at) else stuck
 step (a_name k) sign w at = begin_name k sign w at
@@ -364,7 +366,7 @@ finish (declarations k) = finish (k [])
 finish goal = Err (unexpected 0)
 
 -- after a token, where at most so many levels may be open
-abbrev pub onward : ℕ → Answer → ℕ → (Goal → Result (List Declaration) Stop) → Result (List Declaration) Stop
+abbrev pub onward : ℕ → Move → ℕ → (Goal → Result (List Declaration) Stop) → Result (List Declaration) Stop
 onward most stuck left go = Err (unexpected (suc left))
 onward most (next goal) left go = go goal
 onward most (opens d goal) left go = if nat_le d most then go goal else Err (too_deep (suc left))
@@ -385,10 +387,10 @@ ReadIsSpelled = (most : ℕ) (ts : Lexemes) (x : List Declaration) → outcome m
 -- Reading stops for an unexpected token where so many are left exactly where so many follow from the first unexpected one on.
 abbrev pub UnexpectedIsExact : Type 0
 UnexpectedIsExact =
-    (ts : Lexemes) (left : ℕ) → outcome 200 (declarations done) ts ≡ Err (unexpected left) ↔ ((rest : Lexemes) × (length rest ≡ left) × IsUnexpected ts rest)
+    (ts : Lexemes) (left : ℕ) → outcome most_levels (declarations done) ts ≡ Err (unexpected left) ↔ ((rest : Lexemes) × (length rest ≡ left) × IsUnexpected ts rest)
 
 -- Reading stops for a level too many where so many are left exactly where so many follow from the token on that opens it.
 abbrev pub TooDeepIsExact : Type 0
 TooDeepIsExact =
-    (ts : Lexemes) (left : ℕ) → outcome 200 (declarations done) ts ≡ Err (too_deep left)
+    (ts : Lexemes) (left : ℕ) → outcome most_levels (declarations done) ts ≡ Err (too_deep left)
     ↔ ((token : Lexeme) × (rest : Lexemes) × (suc (length rest) ≡ left) × IsTooDeep ts token rest)

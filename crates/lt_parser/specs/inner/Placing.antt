@@ -1,18 +1,11 @@
 -- How refusals of tokens are refusals of a text.
 use Rattle.std.specs.Prelude.{◌≡◌, ℕ, ◌≤◌, ◌-◌, List, drop, length}
-use Rattle.lt_lexer.specs.declared.refusal.LexRefusal.{LexRefusal}
-use Rattle.lt_lexer.specs.declared.refusal.LexRefusal.TheVariants as l
 use Rattle.lt_parser.specs.declared.refusal.ParseRefusal.{ParseRefusal}
-use Rattle.lt_parser.specs.declared.refusal.ParseRefusal.TheVariants.{Lex, Unexpected, TooDeep, Memory}
+use Rattle.lt_parser.specs.declared.refusal.ParseRefusal.TheVariants.{Unexpected, TooDeep, Memory}
 use Rattle.lt_parser.specs.declared.refusal.Refusal.{Refusal}
 use Rattle.lt_parser.specs.declared.refusal.Refusal.TheVariants as r
 use Rattle.lt_parser.specs.Lexemes.{Lexemes}
-use Rattle.lt_parser.specs.Text.{place_of}
-
--- the lexer's refusal, or that memory ran out
-abbrev pub of_lexer : LexRefusal → ParseRefusal
-of_lexer l.Memory = Memory
-of_lexer refusal = Lex refusal
+use Rattle.lt_parser.specs.Text.{start_of}
 
 -- No more tokens are left than there are.
 abbrev pub IsWithin : Lexemes → Refusal → Type 0
@@ -26,6 +19,6 @@ last_of ls left = drop (length ls - left) ls
 
 -- the same refusal by its place in the text
 abbrev pub IsPlaced : List ℕ → Lexemes → Refusal → ParseRefusal → Type 0
-IsPlaced text ls (r.Unexpected left) refusal = refusal ≡ Unexpected (place_of text (last_of ls left))
-IsPlaced text ls (r.TooDeep left) refusal = refusal ≡ TooDeep (place_of text (last_of ls left))
+IsPlaced text ls (r.Unexpected left) refusal = refusal ≡ Unexpected (start_of text (last_of ls left))
+IsPlaced text ls (r.TooDeep left) refusal = refusal ≡ TooDeep (start_of text (last_of ls left))
 IsPlaced text ls r.Memory refusal = refusal ≡ Memory
