@@ -1,8 +1,6 @@
 //! Whole calls over files and sinks in memory, which have ample memory: no clause can promise that.
 
-use crate::status::Status;
-use crate::top::{LONGEST, lurette};
-use crate::trace_text::{write_header, write_step};
+use lt_call::{Status, lurette, write_header, write_step};
 use lt_io::{Calls, MemFiles, MemSink};
 use lt_num::{Kind, Range, Value};
 use lt_term::Var;
@@ -156,6 +154,12 @@ fn a_run_is_written_to_its_end_or_limit(rt: HostRuntime) -> Result<(), Fail> {
             TWO_OUTPUTS,
             "#step 1\nf t #outs\n#end normal 1\n",
         ),
+        ended(
+            "node n() returns (b: bool) = loop { loop b }",
+            "3",
+            HEADER,
+            "#step 1\nt #outs\n#step 2\nt #outs\n#step 3\nt #outs\n#end limit 3\n",
+        ),
         // A loop whose body can't begin is passed over.
         ended(
             "node n() returns (b: bool) = loop false fby { b } -- once",
@@ -177,6 +181,56 @@ fn a_run_is_written_to_its_end_or_limit(rt: HostRuntime) -> Result<(), Fail> {
         check(&rt, &call, run.code, trace.as_bytes(), run.says);
         assert_eq!(rt; call.asked, 1);
     }
+    Ok(())
+}
+
+// The two lines of each step from 1 to this one, of a variable that is true in each odd step and false in each
+// even one.
+fn alternating(alloc: Global, steps: u32) -> Result<String, AllocError> {
+    let mut trace = String::new(alloc);
+    for before in 0..steps {
+        let value = if before % 2 == 0 { "t" } else { "f" };
+        let step = u64::from(before) + 1;
+        let lines = format!(in alloc; "#step {step}\n{value} #outs\n")?;
+        trace.push_str(&lines)?;
+    }
+    Ok(trace)
+}
+
+#[test]
+fn a_thousand_steps_are_written(rt: HostRuntime) -> Result<(), Fail> {
+    let alloc = rt.alloc();
+    let outside = Outside {
+        room: 100_000,
+        ..Outside::sound(b"node n() returns (b: bool) = loop { b fby not b }")
+    };
+    let call = call_of(alloc, &["run", "f", "-l", "1000"], &outside)?;
+    let steps = alternating(alloc, 1_000)?;
+    let trace = format!(in alloc; "{HEADER}{steps}#end limit 1000\n")?;
+    check(&rt, &call, 0, trace.as_bytes(), "");
+    Ok(())
+}
+
+#[test]
+fn a_program_of_some_thousand_tokens_is_run_and_printed(rt: HostRuntime) -> Result<(), Fail> {
+    let alloc = rt.alloc();
+    let mut text = String::from_str(alloc, "node n() returns (b: bool) = b fby not b")?;
+    let mut printed = String::from_str(alloc, "node n ( ) returns ( b : bool ) = b fby not b")?;
+    for _ in 0..499 {
+        text.push_str(" fby b fby not b")?;
+        printed.push_str(" fby b fby not b")?;
+    }
+    printed.push_str("\n")?;
+    let outside = Outside {
+        room: 100_000,
+        ..Outside::sound(text.as_bytes())
+    };
+    let run = call_of(alloc, &["run", "f", "-l", "1000000"], &outside)?;
+    let steps = alternating(alloc, 1_000)?;
+    let trace = format!(in alloc; "{HEADER}{steps}#end normal 1000\n")?;
+    check(&rt, &run, 0, trace.as_bytes(), "");
+    let print = call_of(alloc, &["print", "f"], &outside)?;
+    check(&rt, &print, 0, printed.as_bytes(), "");
     Ok(())
 }
 
@@ -206,6 +260,9 @@ node n ( p : real [ - 1.5 ; 2 ] ; q : bool = false ) returns ( a , b : bool ; i 
         check(&rt, &call, 0, printed.as_bytes(), "");
         assert_eq!(rt; call.asked, 1);
     }
+    let outside = Outside::sound(b"node n()returns(b:bool)=b--x");
+    let call = call_of(rt.alloc(), &["print", "f"], &outside)?;
+    check(&rt, &call, 0, b"node n ( ) returns ( b : bool ) = b\n", "");
     Ok(())
 }
 
@@ -265,6 +322,10 @@ fn texts_are_refused_with_their_places(rt: HostRuntime) -> Result<(), Fail> {
         ("let 1234567890123456789", "lex.NumberTooLong at 4"),
         ("node n() returns (b: bool) = run", "parse.Unexpected at 29"),
         ("node n()", "parse.Unexpected at 8"),
+        (
+            "node n() returns (b: bool) = b fby",
+            "parse.Unexpected at 34",
+        ),
         (deep.as_str(), "parse.TooDeep at 229"),
     ];
     for (text, refusal) in refusals {
@@ -401,8 +462,8 @@ fn files_are_refused(rt: HostRuntime) -> Result<(), Fail> {
 #[test]
 fn long_files_are_refused(rt: HostRuntime) -> Result<(), Fail> {
     for (length, says) in [
-        (LONGEST, "lurette: refused type.NoNode\n"),
-        (LONGEST + 1, "lurette: refused file.TooLong\n"),
+        (1_048_576, "lurette: refused type.NoNode\n"),
+        (1_048_577, "lurette: refused file.TooLong\n"),
     ] {
         let blanks = vec![in rt.alloc(); b' '; length]?;
         let call = call_of(rt.alloc(), &["run", "f"], &Outside::sound(&blanks))?;

@@ -1,0 +1,9 @@
+pub mod Dues
+pub mod Gives
+pub mod Limits
+pub mod Numbers
+pub mod Options
+pub mod Prepared
+pub mod Runs
+pub mod Texts
+pub mod Wholes

@@ -1,0 +1,36 @@
+-- Numbers that a call goes by: the greatest that it takes, and those that hold where its words give none.
+use Rattle.std.specs.Prelude.{ℕ}
+use Rattle.lt_num.specs.Bounds as numbers
+use Rattle.lt_step.specs.Machine as machine
+
+-- the longest text of a scenario, in bytes
+abbrev pub longest_text : ℕ
+longest_text = 1048576
+
+-- the most steps that words may ask for: as many as a machine makes
+abbrev pub most_steps : ℕ
+most_steps = machine.most_steps
+
+-- the most steps where they don't say
+abbrev pub default_steps : ℕ
+default_steps = 100
+
+-- the most decimals that words may ask for: as many as a real may have
+abbrev pub most_decimals : ℕ
+most_decimals = numbers.most_decimals
+
+-- the decimals of a real where words don't say
+abbrev pub default_decimals : ℕ
+default_decimals = 2
+
+-- the most outputs of a program that runs
+abbrev pub most_outputs : ℕ
+most_outputs = 8
+
+-- the seed of a run, for which no words ask yet
+abbrev pub default_seed : ℕ
+default_seed = 0
+
+-- the greatest search that a run makes, for which no words ask yet
+abbrev pub default_budget : ℕ
+default_budget = 10000000

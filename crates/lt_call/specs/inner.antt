@@ -1,0 +1,9 @@
+-- Words that private functions and proofs alone use.
+-- the status of what isn't taken
+pub mod Statuses
+-- the answer that is due to a program
+pub mod Programs
+-- the functions that prepare a scenario
+pub mod Preparing
+-- a run that is under way
+pub mod Running

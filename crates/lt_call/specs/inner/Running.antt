@@ -1,0 +1,55 @@
+-- A run that is under way: what its machine has still to put out, and how one more instant shows.
+use Rattle.std.specs.Prelude.{◌≡◌, ℕ, suc, ◌+◌, List, ◌∷◌, take, drop}
+use Rattle.std.specs.Io.KnownBytes.{Appends, Keeps}
+use Rattle.std.specs.declared.option.Option.{Option}
+use Rattle.lt_term.specs.Scene.{Scene}
+use Rattle.lt_step.specs.Machine.{Phase, running, finished, State, outputs_in}
+use Rattle.lt_call.specs.Pieces.{trace_texts, joined}
+use Rattle.lt_call.specs.Play.{Play, ended, with_text, instant_text, play_from}
+use Rattle.lt_call.specs.TraceText.{end_text}
+use Rattle.lt_call.specs.Writing.{AppendsPart}
+use Rattle.lt_call.specs.declared.ending.End.TheVariants as end
+use Rattle.lt_call.specs.declared.ending.Ending.{Ending}
+use Rattle.lt_call.specs.declared.status.Status.{Status}
+use Rattle.lt_call.specs.declared.status.Status.TheVariants as status
+use Rattle.lt_call.specs.declared.status.Device.TheVariants as device
+
+-- what a machine that is running has still to put out, in at most so many steps
+abbrev pub rest_in : Scene → ℕ → Phase → Play
+rest_in s left (running c) = play_from s left c
+rest_in s left finished = ended end.Normal 0
+
+-- the same of a machine
+abbrev pub rest_of : State → ℕ → Play
+rest_of m left = rest_in m.scene left m.phase
+
+-- the machine is running, and its next instant has this number
+abbrev pub IsAt : ℕ → Phase → Type 0
+IsAt step (running c) = c.step ≡ step
+IsAt step finished = ⊥
+
+-- one more step was made and written
+pub record WritesStep (step : ℕ) (old new : State) (before now : Option (List ℕ)) : Type 0 where
+  pub scene : new.scene ≡ old.scene
+  pub at : IsAt (step + 1) new.phase
+  pub rest : (left : ℕ) → rest_of old (suc left) ≡ with_text (instant_text new.scene step (outputs_in new.phase)) (rest_of new left)
+  pub written : Appends before now (instant_text new.scene step (outputs_in new.phase))
+
+-- nothing but this end is to come, and it was written
+abbrev pub WritesEnd : Ending → Play → Option (List ℕ) → Option (List ℕ) → Type 0
+WritesEnd ending rest before now = (rest ≡ ended ending.end ending.at) × Appends before now (end_text ending.end ending.at)
+
+-- the text of this number was not written whole: a write failed in it, or memory ran out before it
+pub data FailsIn (number : ℕ) (text : List ℕ) (before now : Option (List ℕ)) : Status → Type 0 where
+  by_write : AppendsPart before now text → FailsIn number text before now (status.Device device.Trace number)
+  by_memory : Keeps before now → FailsIn number text before now status.Memory
+
+-- the same of the text that comes first in the rest of a run
+abbrev pub FailsFirst : ℕ → Play → Option (List ℕ) → Option (List ℕ) → Status → Type 0
+FailsFirst number rest before now s = (text : List ℕ) × (later : List (List ℕ)) × (trace_texts rest.pieces ≡ text ∷ later) × FailsIn number text before now s
+
+-- the first k texts of a run were written, and this rest of it is to come
+pub record Follows (k : ℕ) (whole rest : Play) (before now : Option (List ℕ)) : Type 0 where
+  pub ending : rest.ending ≡ whole.ending
+  pub texts : trace_texts rest.pieces ≡ drop k (trace_texts whole.pieces)
+  pub written : Appends before now (joined (take k (trace_texts whole.pieces)))

@@ -1,0 +1,31 @@
+//! The call of lurette: from its words to its status.
+//!
+//! [`lurette`] is the whole call, over any files and sinks: it reads the scenario that its words name, runs or prints
+//! it, writes the trace, and says what went wrong. `specs/Call.antt` says what it does. [`program`] is the same down to
+//! the number that a program ends with, and [`start`] hands it the system.
+#![tactic(auto)]
+
+mod ending;
+mod laws;
+mod prepare;
+mod put;
+mod run;
+mod say;
+mod settings;
+mod status;
+mod system;
+mod top;
+mod trace_text;
+mod words;
+
+pub use ending::{End, Ending};
+pub use laws::{
+    contents_have_one_due_answer, refusals_are_exact, same_call_same_bytes,
+    undisturbed_calls_are_whole,
+};
+pub use settings::settings_are_as_defined;
+pub use status::{Device, Refusal, Status, UsageKind};
+pub use system::{program, start};
+pub use top::lurette;
+pub use trace_text::{write_header, write_step};
+pub use words::limits_are_printed;

@@ -1,0 +1,147 @@
+//! The run of a scenario with nobody beside the tester.
+
+ghost use Rattle.std.specs.Prelude.{◌≡◌, ◌≤◌, ℕ, suc, ◌+◌, [], false, IfErr, IfOk, OnOk, MatchOption};
+ghost use Rattle.std.specs.Io.KnownBytes.{Appends};
+ghost use Rattle.lt_step.specs.Machine.{started, outputs_in};
+ghost use Rattle.lt_step.specs.View.{machine_state};
+ghost use Rattle.lt_call.specs.Call.{Counts, blames};
+ghost use Rattle.lt_call.specs.Cut.{Gives, IsCut};
+ghost use Rattle.lt_call.specs.Due.{ran};
+ghost use Rattle.lt_call.specs.Pieces.{trace_of};
+ghost use Rattle.lt_call.specs.Play.{play_of, instant_text};
+ghost use Rattle.lt_call.specs.Settings.{most_steps, default_seed};
+ghost use Rattle.lt_call.specs.TraceText.{end_text};
+ghost use Rattle.lt_call.specs.declared.status.Device.{Device};
+ghost use Rattle.lt_call.specs.inner.Running.{rest_of, IsAt, WritesStep, WritesEnd, FailsIn, FailsFirst};
+
+use crate::ending::{End, Ending};
+use crate::put::put_text;
+use crate::settings::DEFAULT_SEED;
+use crate::status::Status;
+use crate::trace_text::{write_end, write_header, write_step};
+use lt_io::Sink;
+use lt_step::{Machine, Outcome};
+use std::alloc::Global;
+
+/// Runs a machine that has not stepped, for at most `limit` steps, and writes the trace.
+pub fn run<S: Sink>(alloc: Global, machine: &mut Machine, limit: u64, trace: &mut S) -> Status
+    requires fresh { machine_state machine.old ≡ started (machine_state machine.old).scene }
+    requires inputs { (machine_state machine.old).scene.inputs ≡ [] }
+    requires few { limit ≤ most_steps }
+    ensures gives { Gives (ran (play_of (machine_state machine.old).scene (record { seed = default_seed; limit = limit }))) (S.written trace.old) (S.written trace.new) result }
+    ensures no_file { blames result Device.File ≡ false }
+    ensures faults { Counts (blames result Device.Trace) (S.faults trace.old) (S.faults trace.new) }
+{
+    match steps(alloc, machine, limit, trace) {
+        Ok(ending) => Status::Ran(ending),
+        Err(status) => status,
+    }
+}
+
+// Makes and writes the header, the steps and the end line. How the run ended, or what cut it short.
+fn steps<S: Sink>(
+    alloc: Global,
+    machine: &mut Machine,
+    limit: u64,
+    trace: &mut S,
+) -> Result<Ending, Status>
+    requires fresh { machine_state machine.old ≡ started (machine_state machine.old).scene }
+    requires inputs { (machine_state machine.old).scene.inputs ≡ [] }
+    requires few { limit ≤ most_steps }
+    ensures ends { IfOk result (λ ending. ending ≡ (play_of (machine_state machine.old).scene (record { seed = default_seed; limit = limit })).ending) }
+    ensures all { OnOk result (Appends (S.written trace.old) (S.written trace.new) (trace_of (play_of (machine_state machine.old).scene (record { seed = default_seed; limit = limit })).pieces)) }
+    ensures cut { IfErr result (IsCut (play_of (machine_state machine.old).scene (record { seed = default_seed; limit = limit })).pieces (S.written trace.old) (S.written trace.new)) }
+    ensures no_file { IfErr result (λ s. blames s Device.File ≡ false) }
+    ensures calm { OnOk result (S.faults trace.new ≡ S.faults trace.old) }
+    ensures blame { IfErr result (λ s. Counts (blames s Device.Trace) (S.faults trace.old) (S.faults trace.new)) }
+{
+    let mut text = Vec::new(alloc);
+    write_header(
+        &mut text,
+        DEFAULT_SEED,
+        machine.output_vars(),
+        machine.input_vars(),
+    )?;
+    put_text(trace, &text, 0)?;
+    for steps in 0..limit {
+        if let Some(ending) = advance(alloc, machine, steps + 1, &mut text, trace)? {
+            return Ok(ending);
+        }
+    }
+    finish(End::Limit, limit, limit + 1, &mut text, trace)
+}
+
+// Makes and writes the step of this number; or the end line, where the run ends instead.
+fn advance<S: Sink>(
+    alloc: Global,
+    machine: &mut Machine,
+    step: u64,
+    text: &mut Vec<u8>,
+    trace: &mut S,
+) -> Result<Option<Ending>, Status>
+    requires inputs { (machine_state machine.old).scene.inputs ≡ [] }
+    requires at { IsAt step (machine_state machine.old).phase }
+    requires first { 1 ≤ step }
+    requires few { step ≤ most_steps }
+    ensures goes { IfOk result (λ end. MatchOption end
+        (WritesStep step (machine_state machine.old) (machine_state machine.new) (S.written trace.old) (S.written trace.new))
+        (λ ending. (left : ℕ) → WritesEnd ending (rest_of (machine_state machine.old) (suc left)) (S.written trace.old) (S.written trace.new))) }
+    ensures fails { IfErr result (λ s. (left : ℕ) → FailsFirst step (rest_of (machine_state machine.old) (suc left)) (S.written trace.old) (S.written trace.new) s) }
+    ensures calm { OnOk result (S.faults trace.new ≡ S.faults trace.old) }
+    ensures blame { IfErr result (λ s. Counts (blames s Device.Trace) (S.faults trace.old) (S.faults trace.new)) }
+{
+    match machine.step(alloc, &[]) {
+        Outcome::Values => {
+            write_out(machine, step, text, trace)?;
+            Ok(None)
+        }
+        Outcome::Normal => Ok(Some(finish(End::Normal, step - 1, step, text, trace)?)),
+        Outcome::Deadlock => Ok(Some(finish(End::Deadlock, step, step, text, trace)?)),
+        Outcome::Memory => Err(Status::Memory),
+        Outcome::Ended => unreachable!(),
+    }
+}
+
+// Writes the end line, which is the text of this number in the trace.
+fn finish<S: Sink>(
+    end: End,
+    at: u64,
+    number: u64,
+    text: &mut Vec<u8>,
+    trace: &mut S,
+) -> Result<Ending, Status>
+    ensures ends { IfOk result (λ ending. ending ≡ record { end = end; at = at }) }
+    ensures all { OnOk result (Appends (S.written trace.old) (S.written trace.new) (end_text end at)) }
+    ensures fails { IfErr result (FailsIn number (end_text end at) (S.written trace.old) (S.written trace.new)) }
+    ensures calm { OnOk result (S.faults trace.new ≡ S.faults trace.old) }
+    ensures blame { IfErr result (λ s. Counts (blames s Device.Trace) (S.faults trace.old) (S.faults trace.new)) }
+{
+    text.clear();
+    write_end(text, end, at)?;
+    put_text(trace, text, number)?;
+    Ok(Ending { end, at })
+}
+
+// Writes the step that the machine has made.
+fn write_out<S: Sink>(
+    machine: &Machine,
+    step: u64,
+    text: &mut Vec<u8>,
+    trace: &mut S,
+) -> Result<(), Status>
+    requires { IsAt (step + 1) (machine_state machine.now).phase }
+    ensures all { OnOk result (Appends (S.written trace.old) (S.written trace.new) (instant_text (machine_state machine.now).scene step (outputs_in (machine_state machine.now).phase))) }
+    ensures fails { IfErr result (FailsIn step (instant_text (machine_state machine.now).scene step (outputs_in (machine_state machine.now).phase)) (S.written trace.old) (S.written trace.new)) }
+    ensures calm { OnOk result (S.faults trace.new ≡ S.faults trace.old) }
+    ensures blame { IfErr result (λ s. Counts (blames s Device.Trace) (S.faults trace.old) (S.faults trace.new)) }
+{
+    text.clear();
+    write_step(
+        text,
+        machine.decimals(),
+        machine.output_vars(),
+        step,
+        machine.outputs(),
+    )?;
+    put_text(trace, text, step)
+}

@@ -1,0 +1,122 @@
+//! What a call says on standard error, by `docs/COMMAND.md`.
+
+ghost use Rattle.std.specs.Prelude.{◌≡◌, OnErr, OnOk};
+ghost use Rattle.std.specs.Io.KnownBytes.{Appends};
+ghost use Rattle.lt_io.specs.Causes.{HasCause};
+ghost use Rattle.lt_call.specs.Writing.{AppendsPart};
+ghost use Rattle.lt_call.specs.Lines.{status_lines, end_lines, usage_word, refusal_code, refusal_place, device_word};
+
+use crate::ending::{End, Ending};
+use crate::put::put_all;
+use crate::status::{Device, Refusal, Status, UsageKind};
+use itoa::Buffer;
+use lt_io::{Failed, Sink};
+
+// How the program is called.
+const USAGE: &[u8] =
+    b"lurette MODE FILE [-l N] [--seed N] [--precision N] [--budget N] [--node NAME] [--sut CMD] [--oracle CMD] [--replay FILE] [--locals]";
+
+/// Says the line of a status, if any. Where that fails, a front of it was said, but not all.
+pub fn say<M: Sink>(says: &mut M, status: Status) -> Result<(), Failed>
+    ensures all { OnOk result (Appends (M.written says.old) (M.written says.new) (status_lines status)) }
+    ensures front { OnErr result (AppendsPart (M.written says.old) (M.written says.new) (status_lines status)) }
+    ensures cause { HasCause (M.faults says.old) (M.faults says.new) result }
+{
+    let mut digits = Buffer::new();
+    match status {
+        Status::Done => Ok(()),
+        Status::Ran(ending) => say_ending(says, ending),
+        Status::Usage(kind) => put_all(
+            says,
+            &[b"lurette: usage: ", usage_name(kind), b"\n", USAGE, b"\n"],
+        ),
+        Status::Refused(reason) => say_refusal(says, reason),
+        Status::Device { device, text } => put_all(
+            says,
+            &[
+                b"lurette: device ",
+                device_name(device),
+                b" ",
+                digits.format(text).as_bytes(),
+                b"\n",
+            ],
+        ),
+        Status::Memory => put_all(says, &[b"lurette: memory\n"]),
+    }
+}
+
+// Says the line of an ending, if any.
+fn say_ending<M: Sink>(says: &mut M, ending: Ending) -> Result<(), Failed>
+    ensures all { OnOk result (Appends (M.written says.old) (M.written says.new) (end_lines ending.end ending.at)) }
+    ensures front { OnErr result (AppendsPart (M.written says.old) (M.written says.new) (end_lines ending.end ending.at)) }
+    ensures cause { HasCause (M.faults says.old) (M.faults says.new) result }
+{
+    let mut digits = Buffer::new();
+    match ending.end {
+        End::Normal | End::Limit => Ok(()),
+        End::Deadlock => put_all(
+            says,
+            &[
+                b"lurette: deadlock ",
+                digits.format(ending.at).as_bytes(),
+                b"\n",
+            ],
+        ),
+    }
+}
+
+fn usage_name(kind: UsageKind) -> &'static [u8]
+    ensures { result.now ≡ usage_word kind }
+{
+    match kind {
+        UsageKind::Words => b"words",
+        UsageKind::Mode => b"mode",
+    }
+}
+
+// Says why a file is refused, and where, if that is a place in its text.
+fn say_refusal<M: Sink>(says: &mut M, reason: Refusal) -> Result<(), Failed>
+    ensures all { OnOk result (Appends (M.written says.old) (M.written says.new) (status_lines (Status.Refused reason))) }
+    ensures front { OnErr result (AppendsPart (M.written says.old) (M.written says.new) (status_lines (Status.Refused reason))) }
+    ensures cause { HasCause (M.faults says.old) (M.faults says.new) result }
+{
+    let code = refusal_code(reason);
+    match refusal_place(reason) {
+        None => put_all(says, &[b"lurette: refused ", code, b"\n"]),
+        Some(place) => {
+            let mut digits = Buffer::new();
+            let place = digits.format(place).as_bytes();
+            put_all(says, &[b"lurette: refused ", code, b" at ", place, b"\n"])
+        }
+    }
+}
+
+fn refusal_code(reason: Refusal) -> &'static [u8]
+    ensures { result.now ≡ refusal_code reason }
+{
+    match reason {
+        Refusal::TooLong => b"file.TooLong",
+        Refusal::Text(refusal) => refusal.code().as_bytes(),
+        Refusal::Types(refusal) => refusal.code().as_bytes(),
+        Refusal::NotBuilt => b"early.NotBuilt",
+    }
+}
+
+fn refusal_place(reason: Refusal) -> Option<usize>
+    ensures { result ≡ refusal_place reason }
+{
+    match reason {
+        Refusal::Text(refusal) => refusal.place(),
+        Refusal::Types(refusal) => refusal.place(),
+        Refusal::TooLong | Refusal::NotBuilt => None,
+    }
+}
+
+fn device_name(device: Device) -> &'static [u8]
+    ensures { result.now ≡ device_word device }
+{
+    match device {
+        Device::File => b"file",
+        Device::Trace => b"trace",
+    }
+}

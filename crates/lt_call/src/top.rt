@@ -1,0 +1,177 @@
+//! The call of the program.
+
+ghost use Rattle.std.specs.Prelude.{◌≡◌, ◌↔◌, ◌≤◌, Err, IfOk, OnErr, false, length, map, string_bytes};
+ghost use Rattle.std.specs.Io.KnownBytes.{Keeps};
+ghost use Rattle.lt_ast.specs.Printed.{printed};
+ghost use Rattle.lt_ast.specs.View.{program as declarations};
+ghost use Rattle.lt_types.specs.Refusals.{type_refusals};
+ghost use Rattle.lt_call.specs.Asked.{request as request_of};
+ghost use Rattle.lt_call.specs.Call.{Asks, Counts, GivesDue, IsCall, asks_of, blames};
+ghost use Rattle.lt_call.specs.Cut.{Gives};
+ghost use Rattle.lt_call.specs.Due.{done};
+ghost use Rattle.lt_call.specs.Form.{is_runnable};
+ghost use Rattle.lt_call.specs.Settings.{longest_text};
+ghost use Rattle.lt_call.specs.Words.{IsWithin, requested};
+ghost use Rattle.lt_call.specs.inner.Programs.{GivesForText, built_answer, typed_answer};
+
+use crate::laws::contents_have_one_due_answer;
+use crate::prepare::{Unprepared, scenario_of};
+use crate::put::put_text;
+use crate::run::run;
+use crate::say::say;
+use crate::settings::{DEFAULT_BUDGET, DEFAULT_SEED, LONGEST_TEXT};
+use crate::status::{Device, Refusal, Status, UsageKind};
+use crate::words::{Mode, Request, requested};
+use lt_ast::{Program, print};
+use lt_io::{FileRefusal, Files, Sink};
+use lt_parser::parse;
+use lt_step::Machine;
+use lt_types::{check, well_typed_is_unrefused};
+use std::alloc::Global;
+
+/// Does what the words after the program's name ask for: `run FILE` reads the scenario FILE, runs it for at
+/// most as many steps as `-l N` says, 100 where it isn't given, and writes the trace; `print FILE` writes the
+/// program that FILE spells as text. With `--precision N` a real has N decimals, else 2. What went wrong is
+/// said in a line.
+pub fn lurette<F: Files, S: Sink, M: Sink>(
+    alloc: Global,
+    words: &[String],
+    files: &mut F,
+    trace: &mut S,
+    says: &mut M,
+) -> Status
+    ensures { IsCall (map string_bytes words.now)
+        (record {
+          files = record { contents = F.contents files.old; asked = F.asked files.old; faults = F.faults files.old };
+          trace = record { written = S.written trace.old; faults = S.faults trace.old };
+          says = record { written = M.written says.old; faults = M.faults says.old };
+        })
+        (record {
+          files = record { contents = F.contents files.new; asked = F.asked files.new; faults = F.faults files.new };
+          trace = record { written = S.written trace.new; faults = S.faults trace.new };
+          says = record { written = M.written says.new; faults = M.faults says.new };
+        })
+        result }
+{
+    let status = serve(alloc, words, files, trace);
+    let _ = say(says, status);
+    status
+}
+
+// Does what words ask for, and says nothing.
+fn serve<F: Files, S: Sink>(alloc: Global, words: &[String], files: &mut F, trace: &mut S) -> Status
+    ensures usage { (kind : UsageKind) → (result ≡ Status.Usage kind) ↔ (requested (map string_bytes words.now) ≡ Err kind) }
+    ensures untouched { OnErr (requested (map string_bytes words.now)) ((F.asked files.new ≡ F.asked files.old) × Keeps (S.written trace.old) (S.written trace.new)) }
+    ensures answers { IfOk (requested (map string_bytes words.now)) (λ request. GivesDue request (F.contents files.old) (S.written trace.old) (S.written trace.new) result) }
+    ensures asks { IfOk (requested (map string_bytes words.now)) (λ request. Asks (asks_of request) (F.asked files.old) (F.asked files.new) result) }
+    ensures file { Counts (blames result Device.File) (F.faults files.old) (F.faults files.new) }
+    ensures trace { Counts (blames result Device.Trace) (S.faults trace.old) (S.faults trace.new) }
+{
+    match requested(words) {
+        Ok(request) => serve_request(alloc, &request, files, trace),
+        Err(kind) => Status::Usage(kind),
+    }
+}
+
+// Does what is asked for with the scenario's file.
+fn serve_request<F: Files, S: Sink>(
+    alloc: Global,
+    request: &Request<'_>,
+    files: &mut F,
+    trace: &mut S,
+) -> Status
+    requires { IsWithin (request_of request.now) }
+    ensures answers { GivesDue (request_of request.now) (F.contents files.old) (S.written trace.old) (S.written trace.new) result }
+    ensures asks { Asks (asks_of (request_of request.now)) (F.asked files.old) (F.asked files.new) result }
+    ensures file { Counts (blames result Device.File) (F.faults files.old) (F.faults files.new) }
+    ensures trace { Counts (blames result Device.Trace) (S.faults trace.old) (S.faults trace.new) }
+{
+    // Where it stays unread, an answer was due all the same.
+    contents_have_one_due_answer();
+    match files.read(alloc, request.file, LONGEST_TEXT) {
+        Ok(text) => serve_text(alloc, request, &text, trace),
+        Err(FileRefusal::Failed) => Status::Device {
+            device: Device::File,
+            text: 0,
+        },
+        Err(FileRefusal::TooLong) => Status::Refused(Refusal::TooLong),
+        Err(FileRefusal::Memory) => Status::Memory,
+    }
+}
+
+// Does what is asked for with the scenario's text.
+fn serve_text<S: Sink>(alloc: Global, request: &Request<'_>, text: &[u8], trace: &mut S) -> Status
+    requires within { IsWithin (request_of request.now) }
+    requires short { length text.now ≤ longest_text }
+    ensures gives { GivesForText (request_of request.now) text.now (S.written trace.old) (S.written trace.new) result }
+    ensures no_file { blames result Device.File ≡ false }
+    ensures trace { Counts (blames result Device.Trace) (S.faults trace.old) (S.faults trace.new) }
+{
+    contents_have_one_due_answer();
+    well_typed_is_unrefused();
+    let program = match parse(alloc, text) {
+        Ok(program) => program,
+        Err(refusal) => return Status::from(refusal),
+    };
+    match request.mode {
+        Mode::Run => run_program(alloc, request, program, trace),
+        Mode::Print => print_program(alloc, &program, trace),
+    }
+}
+
+// Runs a program, where it is well typed.
+fn run_program<S: Sink>(
+    alloc: Global,
+    request: &Request<'_>,
+    program: Program,
+    trace: &mut S,
+) -> Status
+    requires { IsWithin (request_of request.now) }
+    ensures gives { Gives (typed_answer (request_of request.now) (declarations program) (type_refusals request.now.decimals (declarations program))) (S.written trace.old) (S.written trace.new) result }
+    ensures no_file { blames result Device.File ≡ false }
+    ensures trace { Counts (blames result Device.Trace) (S.faults trace.old) (S.faults trace.new) }
+{
+    well_typed_is_unrefused();
+    match check(alloc, program, request.decimals) {
+        Ok(typed) => run_typed(alloc, request, typed.program(), trace),
+        Err(refusal) => Status::from(refusal),
+    }
+}
+
+// Runs a program that is well typed.
+fn run_typed<S: Sink>(
+    alloc: Global,
+    request: &Request<'_>,
+    program: &Program,
+    trace: &mut S,
+) -> Status
+    requires { IsWithin (request_of request.now) }
+    ensures gives { Gives (built_answer (request_of request.now) (declarations program.now) (is_runnable (declarations program.now))) (S.written trace.old) (S.written trace.new) result }
+    ensures no_file { blames result Device.File ≡ false }
+    ensures trace { Counts (blames result Device.Trace) (S.faults trace.old) (S.faults trace.new) }
+{
+    let scenario = match scenario_of(alloc, program, request.decimals) {
+        Ok(scenario) => scenario,
+        Err(Unprepared::NotBuilt) => return Status::Refused(Refusal::NotBuilt),
+        Err(Unprepared::Memory) => return Status::Memory,
+    };
+    match Machine::make(alloc, scenario, DEFAULT_SEED, DEFAULT_BUDGET) {
+        Ok(mut machine) => run(alloc, &mut machine, request.limit, trace),
+        Err(_) => Status::Memory,
+    }
+}
+
+// Prints a program. Its whole text is made before any of it is written.
+fn print_program<S: Sink>(alloc: Global, program: &Program, trace: &mut S) -> Status
+    ensures gives { Gives (done (printed (declarations program.now))) (S.written trace.old) (S.written trace.new) result }
+    ensures no_file { blames result Device.File ≡ false }
+    ensures trace { Counts (blames result Device.Trace) (S.faults trace.old) (S.faults trace.new) }
+{
+    let Ok(text) = print(alloc, program) else {
+        return Status::Memory;
+    };
+    match put_text(trace, text.as_bytes(), 0) {
+        Ok(()) => Status::Done,
+        Err(status) => status,
+    }
+}
