@@ -1,4 +1,4 @@
--- The programs that run so far: one node without inputs, whose outputs are Booleans.
+-- The programs that can be run: one node without inputs, whose outputs are Booleans.
 use Rattle.std.specs.Prelude.{ℕ, Bool, true, false, not, ◌&&◌, nat_le, IsTrue, List, [], ◌∷◌, None, length, map}
 use Rattle.std.specs.List.{list_any}
 use Rattle.std.specs.Str.{bytes_eq}

@@ -86,7 +86,7 @@ fn serve_request<F: Files, S: Sink>(
     ensures file { Counts (blames result Device.File) (F.faults files.old) (F.faults files.new) }
     ensures trace { Counts (blames result Device.Trace) (S.faults trace.old) (S.faults trace.new) }
 {
-    // Where it stays unread, an answer was due all the same.
+    // A law that the proof needs: where the file stays unread, an answer is due all the same.
     contents_have_one_due_answer();
     match files.read(alloc, request.file, LONGEST_TEXT) {
         Ok(text) => serve_text(alloc, request, &text, trace),
@@ -107,6 +107,7 @@ fn serve_text<S: Sink>(alloc: Global, request: &Request<'_>, text: &[u8], trace:
     ensures no_file { blames result Device.File ≡ false }
     ensures trace { Counts (blames result Device.Trace) (S.faults trace.old) (S.faults trace.new) }
 {
+    // Laws that the proof needs: an answer is due, and a program that breaks no rule is well typed.
     contents_have_one_due_answer();
     well_typed_is_unrefused();
     let program = match parse(alloc, text) {
@@ -131,6 +132,7 @@ fn run_program<S: Sink>(
     ensures no_file { blames result Device.File ≡ false }
     ensures trace { Counts (blames result Device.Trace) (S.faults trace.old) (S.faults trace.new) }
 {
+    // A law that the proof needs: a program that is well typed breaks no rule.
     well_typed_is_unrefused();
     match check(alloc, program, request.decimals) {
         Ok(typed) => run_typed(alloc, request, typed.program(), trace),
