@@ -1,0 +1,4 @@
+pub mod DraftLemmas
+pub mod NumberLemmas
+pub mod ReadingLemmas
+pub mod RealLemmas

@@ -1,0 +1,12 @@
+-- words, and what they are outside comments
+pub mod Word
+-- the raw numbers that words write
+pub mod Number
+-- what a word is in a slot
+pub mod Judgement
+-- replies on a whole stream
+pub mod Reply
+-- what a reader has read, and what its answers tell
+pub mod Reading
+-- words of private contracts
+pub mod inner

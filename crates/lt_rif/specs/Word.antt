@@ -1,0 +1,28 @@
+-- Words: the longest runs of bytes that aren't blank.
+use Rattle.std.specs.Prelude.{ℕ, Bool, ◌||◌, ◌==◌, nat_eq, List, [], ◌∷◌, ◌++◌, codes, if◌then◌else◌}
+use Rattle.std.specs.List.{starts_with}
+use Rattle.std.specs.Str.{bytes_eq}
+use Rattle.lt_rif.specs.declared.word.Meaning.{Meaning}
+use Rattle.lt_rif.specs.declared.word.Meaning.TheVariants as meaning
+
+-- a tab, a line feed, a carriage return or a space
+abbrev pub is_blank : ℕ → Bool
+is_blank byte = byte == 9 || byte == 10 || byte == 13 || byte == 32
+
+-- The words of some bytes. Between two blanks that stand side by side is the empty word.
+pub data Words : Type 0 where
+  -- what stands behind the last blank
+  last : (text : List ℕ) → Words
+  -- a word, the blank behind it, the bytes behind that, and the words of these
+  word : (text : List ℕ) (blank : ℕ) (behind : List ℕ) → Words → Words
+
+-- the words of a text without blanks and the bytes behind it
+abbrev pub words_of : List ℕ → List ℕ → Words
+words_of text [] = last text
+words_of text (b ∷ bs) = if is_blank b then word text b bs (words_of [] bs) else words_of (text ++ b ∷ []) bs
+
+-- what a word is that stands outside comments
+unfoldable pub meaning_of : List ℕ → Meaning
+meaning_of text =
+    if bytes_eq text [] || bytes_eq text (codes "#outs") then meaning.Passed
+    else (if starts_with nat_eq text (codes "--") || starts_with nat_eq text (codes "#") then meaning.Comment else meaning.Value)

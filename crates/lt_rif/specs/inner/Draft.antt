@@ -1,0 +1,34 @@
+-- What words make of a draft, the code's reply that has begun.
+use Rattle.std.specs.Prelude.{◌≡◌, ◌≤◌, ℕ, ◌+◌, Bool, List, [], ◌∷◌, ◌++◌, length, drop, if◌then◌else◌}
+use Rattle.lt_num.specs.declared.value.Value.{Value}
+use Rattle.lt_rif.specs.Reply.{Begun, Progress, more, done, refused, past, filled}
+use Rattle.lt_rif.specs.declared.draft.Draft.{Draft}
+use Rattle.lt_rif.specs.declared.draft.Look.{Look}
+use Rattle.lt_rif.specs.declared.draft.Look.TheVariants as look
+use Rattle.lt_rif.specs.declared.draft.Step.{Step}
+use Rattle.lt_rif.specs.declared.draft.Step.TheVariants as step
+
+-- what has come of a reply, up to the last blank
+abbrev pub begun : Draft → Begun
+begun d = record { decimals = d.decimals; slots = drop d.filled d.slots.items; values = d.values.items; is_comment = d.is_comment; taken = d.taken; place = d.place }
+
+-- the next slot of a draft got a value, which it keeps or not
+abbrev pub filled_with : Draft → Value → Bool → Progress
+filled_with d v keep = filled (begun d) d.word.items (drop (d.filled + 1) d.slots.items) (if keep then d.values.items ++ v ∷ [] else d.values.items)
+
+-- what a word that looks so makes of a draft
+abbrev pub looked : Draft → Look → Progress
+looked d (look.Pass is_comment) = more (past (begun d) d.word.items is_comment)
+looked d (look.Value v keep) = filled_with d v keep
+looked d (look.Refused f) = refused f (d.place + d.taken)
+
+-- What a word makes of a draft.
+abbrev pub StepsBy : Progress → Draft → Step → Draft → Type 0
+-- the reply goes on
+StepsBy (more r) old step.More new = (begun new ≡ r) × (new.word.items ≡ []) × (new.slots ≡ old.slots)
+-- it is whole, with these values
+StepsBy (done values) old step.Done new = (new.values.items ≡ values) × (new.slots ≡ old.slots) × (new.place ≡ old.place) × (new.taken ≡ old.taken + length old.word.items + 1) × (new.decimals ≡ old.decimals)
+-- it is refused where the word begins
+StepsBy (refused f place) old (step.Refused fault) new = (f ≡ fault) × (place ≡ old.place + old.taken) × (new ≡ old)
+-- no other step is made
+StepsBy _ old _ new = ⊥
