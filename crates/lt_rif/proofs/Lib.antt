@@ -2,3 +2,4 @@ pub mod DraftLemmas
 pub mod NumberLemmas
 pub mod ReadingLemmas
 pub mod RealLemmas
+pub mod TraceLemmas

@@ -8,5 +8,9 @@ pub mod Judgement
 pub mod Reply
 -- what a reader has read, and what its answers tell
 pub mod Reading
+-- the text of a trace
+pub mod Trace
+-- room in which texts are written
+pub mod Room
 -- words of private contracts
 pub mod inner

@@ -8,3 +8,5 @@ pub mod Decimal
 pub mod Draft
 -- a reader by its draft
 pub mod Open
+-- words with spaces
+pub mod Spaced

@@ -5,15 +5,25 @@
 #![tactic(auto)]
 
 mod decimal;
+mod declared;
 mod draft;
+mod end;
+mod end_line;
 mod fault;
 mod judgement;
 mod number;
 mod reader;
 mod slot;
+mod trace;
+mod values;
 mod word;
+mod writing;
 
+pub use declared::Declared;
 pub use draft::LONGEST;
+pub use end::{End, Who};
+pub use end_line::write_end;
 pub use fault::ValueFault;
 pub use reader::{Closing, Fed, Reader};
 pub use slot::Slot;
+pub use trace::{room_for, write_header, write_line, write_step};

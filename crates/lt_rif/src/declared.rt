@@ -1,0 +1,13 @@
+//! What a header declares.
+
+use lt_num::Kind;
+
+/// A variable as a header declares it.
+#[derive(Debug, Drop)]
+pub struct Declared {
+    /// Its name.
+    pub name: String,
+
+    /// The kind of its values.
+    pub kind: Kind,
+}

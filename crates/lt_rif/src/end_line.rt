@@ -1,0 +1,100 @@
+//! The line that a trace ends with.
+
+ghost use Rattle.std.specs.Prelude.{◌≡◌, ◌<◌, map, length};
+ghost use Rattle.std.specs.String.{string_bytes};
+ghost use Rattle.lt_rif.specs.Room.{Appends, HasRoom};
+ghost use Rattle.lt_rif.specs.Trace.{end_text, end_words, fault_text, refusal_text, who_text, IsNamed};
+ghost use Rattle.lt_rif.specs.inner.Spaced.{behind_space};
+
+use crate::end::{End, Who};
+use crate::fault::ValueFault;
+use crate::writing::{append, append_number};
+use lt_num::Arith;
+
+/// Appends the end line of a trace, with its number: that of the instant at which the run ended, or of the steps
+/// written where it is over or at its limit. Exceptions have these names.
+pub fn write_end(into: &mut Vec<u8>, end: End, names: &[String], number: u64)
+    requires named { IsNamed end (length names.now) }
+    requires room { HasRoom into.old (end_text end (map string_bytes names.now) number) }
+    ensures { Appends into.old into.new (end_text end (map string_bytes names.now) number) }
+{
+    append(into, b"#end");
+    append_end(into, end, names);
+    append(into, b" ");
+    append_number(into, number);
+    append(into, b"\n");
+}
+
+// Appends the words of an end, with a space before each.
+fn append_end(into: &mut Vec<u8>, end: End, names: &[String])
+    requires named { IsNamed end (length names.now) }
+    requires room { HasRoom into.old (behind_space (end_words end (map string_bytes names.now))) }
+    ensures { Appends into.old into.new (behind_space (end_words end (map string_bytes names.now))) }
+{
+    match end {
+        End::Normal => append(into, b" normal"),
+        End::Limit => append(into, b" limit"),
+        End::Oracle => append(into, b" oracle"),
+        End::Deadlock => append(into, b" deadlock"),
+        End::TooLarge => append(into, b" toolarge"),
+        End::Raise { exception } => {
+            append(into, b" raise ");
+            append(into, names[exception as usize].as_bytes());
+        }
+        End::Fault(fault) => {
+            append(into, b" fault ");
+            append(into, fault_word(fault));
+        }
+        End::Malformed { who, fault, .. } => {
+            append(into, b" malformed ");
+            append(into, who_word(who));
+            append(into, b" ");
+            append(into, refusal_word(fault));
+        }
+        End::Ended { who, .. } => {
+            append(into, b" ended ");
+            append(into, who_word(who));
+        }
+        End::Device(who) => {
+            append(into, b" device ");
+            append(into, who_word(who));
+        }
+        End::Budget { need } => {
+            append(into, b" budget ");
+            append_number(into, need);
+        }
+    }
+}
+
+// The word of a side.
+fn who_word(who: Who) -> &'static [u8]
+    ensures { result.now ≡ who_text who }
+{
+    match who {
+        Who::Controller => b"controller",
+        Who::Oracle => b"oracle",
+    }
+}
+
+// The word of a fault of arithmetic.
+fn fault_word(fault: Arith) -> &'static [u8]
+    ensures { result.now ≡ fault_text fault }
+{
+    match fault {
+        Arith::NoPrevious => b"NoPrevious",
+        Arith::DivisionByZero => b"DivisionByZero",
+        Arith::Overflow => b"Overflow",
+        Arith::NegativeWeight => b"NegativeWeight",
+    }
+}
+
+// The word of a refusal.
+fn refusal_word(fault: ValueFault) -> &'static [u8]
+    ensures { result.now ≡ refusal_text fault }
+{
+    match fault {
+        ValueFault::NotAValue => b"NotAValue",
+        ValueFault::OutOfRange => b"OutOfRange",
+        ValueFault::TooLong => b"TooLong",
+    }
+}

@@ -1,0 +1,169 @@
+//! The text of a trace: `docs/TRACE.md` has its form.
+
+ghost use Rattle.std.specs.Prelude.{◌≡◌, ◌≤◌, ◌<◌, ◌+◌, ◌^◌, map, length, drop};
+ghost use Rattle.std.specs.List.{flat_map};
+ghost use Rattle.std.specs.Option.{option_copied, option_map};
+ghost use Rattle.lt_rif.specs.Room.{Appends, HasRoom, room_for};
+ghost use Rattle.lt_rif.specs.Trace.{declaration, declared_text, header_text, kind_text, line_text, locals_header, locals_part, step_text};
+ghost use Rattle.lt_rif.specs.inner.Spaced.{behind_space, step_layout};
+
+use crate::declared::Declared;
+use crate::values::{append_before_space, append_behind_space, append_locals, append_spaced};
+use crate::writing::{append, append_number};
+use lt_num::{Kind, Value};
+
+/// The bytes that are enough for a header, a line, or a step with an end line behind it. The header, the line and
+/// the step have so many variables in all, and their names and those of exceptions so many bytes together.
+pub fn room_for(variables: usize, names: usize) -> usize
+    requires variables { variables < 2 ^ 32 }
+    requires names { names < 2 ^ 32 }
+    ensures { result ≡ room_for variables names }
+{
+    256 + 32 * variables + names
+}
+
+/// Appends the header of a trace: the seed, what the controller takes in, what it gives out, and the scenario's
+/// locals, where they are written.
+pub fn write_header(
+    into: &mut Vec<u8>,
+    seed: u64,
+    outputs: &[Declared],
+    inputs: &[Declared],
+    locals: Option<&[Declared]>,
+)
+    requires { HasRoom into.old (header_text seed (map declaration outputs.now) (map declaration inputs.now) (option_map (map declaration) (option_copied locals))) }
+    ensures { Appends into.old into.new (header_text seed (map declaration outputs.now) (map declaration inputs.now) (option_map (map declaration) (option_copied locals.entry))) }
+{
+    append(into, b"#seed ");
+    append_number(into, seed);
+    append(into, b"\n#inputs");
+    append_declared(into, outputs);
+    append(into, b"\n#outputs");
+    append_declared(into, inputs);
+    append(into, b"\n");
+    append_locals_header(into, locals);
+}
+
+// Appends the line of the locals, where they are written.
+fn append_locals_header(into: &mut Vec<u8>, locals: Option<&[Declared]>)
+    requires { HasRoom into.old (locals_header (option_map (map declaration) (option_copied locals))) }
+    ensures { Appends into.old into.new (locals_header (option_map (map declaration) (option_copied locals.entry))) }
+{
+    if let Some(locals) = locals {
+        append(into, b"#locals");
+        append_declared(into, locals);
+        append(into, b"\n");
+    }
+}
+
+// Appends a space, a quoted name and a kind for each variable.
+fn append_declared(into: &mut Vec<u8>, variables: &[Declared])
+    requires { HasRoom into.old (flat_map declared_text (map declaration variables.now)) }
+    ensures { Appends into.old into.new (flat_map declared_text (map declaration variables.now)) }
+{
+    let mut variables = variables;
+    while let [variable, more @ ..] = variables {
+        append(into, b" \"");
+        append(into, variable.name.as_bytes());
+        append(into, b"\":");
+        append(into, kind_word(variable.kind));
+        variables = more;
+    }
+}
+
+// The word of a kind.
+fn kind_word(kind: Kind) -> &'static [u8]
+    ensures { result.now ≡ kind_text kind }
+{
+    match kind {
+        Kind::Bool => b"bool",
+        Kind::Int => b"int",
+        Kind::Real => b"real",
+    }
+}
+
+/// Appends the two lines of a step: its number, from 1, and the values of the scenario's outputs `x` and inputs
+/// `y`, and of its locals, where they are written; a local out of scope has none. `kinds` has their kinds in this
+/// order. A real has so many decimals, 0 to 6.
+pub fn write_step(
+    into: &mut Vec<u8>,
+    step: u64,
+    x: &[Value],
+    y: &[Value],
+    locals: Option<&[Option<Value>]>,
+    kinds: &[Kind],
+    decimals: u32,
+)
+    requires decimals { decimals ≤ 6 }
+    requires kinds { length x.now + length y.now ≤ length kinds.now }
+    requires room { HasRoom into.old (step_text decimals step kinds.now x.now y.now (option_copied locals)) }
+    ensures { Appends into.old into.new (step_text decimals step kinds.now x.now y.now (option_copied locals.entry)) }
+{
+    append(into, b"#step ");
+    append_number(into, step);
+    append(into, b"\n");
+    append_step_values(into, x, y, locals, kinds, decimals);
+}
+
+// Appends the line of a step's values.
+fn append_step_values(
+    into: &mut Vec<u8>,
+    x: &[Value],
+    y: &[Value],
+    locals: Option<&[Option<Value>]>,
+    kinds: &[Kind],
+    decimals: u32,
+)
+    requires decimals { decimals ≤ 6 }
+    requires kinds { length x.now + length y.now ≤ length kinds.now }
+    requires room { HasRoom into.old (step_layout decimals kinds.now x.now y.now (option_copied locals)) }
+    ensures { Appends into.old into.new (step_layout decimals kinds.now x.now y.now (option_copied locals.entry)) }
+{
+    append_before_space(into, x, kinds, decimals);
+    append(into, b"#outs");
+    append_behind_space(into, y, kinds_behind(kinds, x.len()), decimals);
+    append_locals_part(
+        into,
+        locals,
+        kinds_behind(kinds, x.len() + y.len()),
+        decimals,
+    );
+    append(into, b"\n");
+}
+
+// The kinds behind the first so many.
+fn kinds_behind(kinds: &[Kind], count: usize) -> &[Kind]
+    requires { count ≤ length kinds.now }
+    ensures { result.now ≡ drop count kinds.now }
+{
+    &kinds[count..]
+}
+
+// Appends the mark of the locals and their words, where they are written, with a space before each.
+fn append_locals_part(
+    into: &mut Vec<u8>,
+    locals: Option<&[Option<Value>]>,
+    kinds: &[Kind],
+    decimals: u32,
+)
+    requires decimals { decimals ≤ 6 }
+    requires room { HasRoom into.old (behind_space (locals_part decimals kinds.now (option_copied locals))) }
+    ensures { Appends into.old into.new (behind_space (locals_part decimals kinds.now (option_copied locals.entry))) }
+{
+    if let Some(locals) = locals {
+        append(into, b" #locs");
+        append_locals(into, locals, kinds, decimals);
+    }
+}
+
+/// Appends a line of values of these kinds, as it goes to a controller or to an oracle. A real has so many
+/// decimals, 0 to 6.
+pub fn write_line(into: &mut Vec<u8>, values: &[Value], kinds: &[Kind], decimals: u32)
+    requires decimals { decimals ≤ 6 }
+    requires kinds { length kinds.now ≡ length values.now }
+    requires room { HasRoom into.old (line_text decimals kinds.now values.now) }
+    ensures { Appends into.old into.new (line_text decimals kinds.now values.now) }
+{
+    append_spaced(into, values, kinds, decimals);
+    append(into, b"\n");
+}
