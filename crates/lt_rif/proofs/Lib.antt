@@ -1,4 +1,6 @@
+pub mod CuttingLemmas
 pub mod DraftLemmas
+pub mod GrowingLemmas
 pub mod NumberLemmas
 pub mod ReadingLemmas
 pub mod RealLemmas

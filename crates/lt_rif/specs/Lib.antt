@@ -8,9 +8,13 @@ pub mod Judgement
 pub mod Reply
 -- what a reader has read, and what its answers tell
 pub mod Reading
+-- replies of streams that are cut, and that grow
+pub mod Cutting
+pub mod Growing
 -- the text of a trace
 pub mod Trace
 -- room in which texts are written
 pub mod Room
+pub mod Enough
 -- words of private contracts
 pub mod inner

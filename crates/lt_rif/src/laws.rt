@@ -1,0 +1,22 @@
+//! Laws of the definitions that the contracts cite. The functions do nothing: their contracts say it.
+
+ghost use Rattle.lt_rif.specs.Cutting.{CutsChangeNothing, NextReplyIsAtHand};
+ghost use Rattle.lt_rif.specs.Growing.{RepliesGrow};
+
+/// Between two replies, what a reader finds in the bytes to come is the next reply of the stream.
+#[tactic(auto, using(crate::proofs::ReadingLemmas::next_reply))]
+pub fn next_reply_is_at_hand()
+    ensures { NextReplyIsAtHand }
+{}
+
+/// However a stream is cut, what calls of `feed` find are its replies, one after another, with their places.
+#[tactic(auto, using(crate::proofs::CuttingLemmas::cuts_change_nothing))]
+pub fn cuts_change_nothing()
+    ensures { CutsChangeNothing }
+{}
+
+/// What an open stream has for a reply stays so, however the stream goes on.
+#[tactic(auto, using(crate::proofs::GrowingLemmas::replies_grow))]
+pub fn replies_grow()
+    ensures { RepliesGrow }
+{}
