@@ -1,5 +1,6 @@
 pub mod CuttingLemmas
 pub mod DraftLemmas
+pub mod EnoughLemmas
 pub mod GrowingLemmas
 pub mod NumberLemmas
 pub mod ReadingLemmas

@@ -7,7 +7,7 @@ use Rattle.lt_rif.specs.Trace.{line, locals_part, spaced, step_words, value_word
 use Rattle.lt_rif.specs.inner.Spaced.{before_space, behind_space, step_layout}
 
 -- spaces before words, in two parts
-behind-append : (xs ys : List (List ℕ)) → behind_space (xs ++ ys) ≡ behind_space xs ++ behind_space ys
+pub behind-append : (xs ys : List (List ℕ)) → behind_space (xs ++ ys) ≡ behind_space xs ++ behind_space ys
 behind-append [] ys = refl
 behind-append (x ∷ xs) ys = ap (λ (t : List ℕ). (codes " " ++ x) ++ t) (behind-append xs ys) ∙ sym (append_assoc (codes " " ++ x) (behind_space xs) (behind_space ys))
 

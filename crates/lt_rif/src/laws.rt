@@ -1,6 +1,7 @@
 //! Laws of the definitions that the contracts cite. The functions do nothing: their contracts say it.
 
 ghost use Rattle.lt_rif.specs.Cutting.{CutsChangeNothing, NextReplyIsAtHand};
+ghost use Rattle.lt_rif.specs.Enough.{RoomIsEnough};
 ghost use Rattle.lt_rif.specs.Growing.{RepliesGrow};
 
 /// Between two replies, what a reader finds in the bytes to come is the next reply of the stream.
@@ -19,4 +20,10 @@ pub fn cuts_change_nothing()
 #[tactic(auto, using(crate::proofs::GrowingLemmas::replies_grow))]
 pub fn replies_grow()
     ensures { RepliesGrow }
+{}
+
+/// What `room_for` answers is enough for a header, for a line, and for a step with an end line behind it.
+#[tactic(auto, using(crate::proofs::EnoughLemmas::room_is_enough))]
+pub fn room_is_enough()
+    ensures { RoomIsEnough }
 {}
