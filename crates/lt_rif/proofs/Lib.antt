@@ -5,4 +5,5 @@ pub mod GrowingLemmas
 pub mod NumberLemmas
 pub mod ReadingLemmas
 pub mod RealLemmas
+pub mod SpellingLemmas
 pub mod TraceLemmas

@@ -37,12 +37,12 @@ full_found [] r text bytes closed some full = absurd (omega arith)
 full_found (slot ∷ slots) r text bytes closed some full = full_in closed r text bytes full
 
 -- neither of two tests holds
-neither : (a b : Bool) → a || b ≡ false → (a ≡ false) × (b ≡ false)
+pub neither : (a b : Bool) → a || b ≡ false → (a ≡ false) × (b ≡ false)
 neither true b h = absurd (cc)
 neither false b h = (refl, h)
 
 -- a run of bytes that aren't blank belongs to the word
-words_run : (text run bytes : List ℕ) → list_any is_blank run ≡ false → words_of text (run ++ bytes) ≡ words_of (text ++ run) bytes
+pub words_run : (text run bytes : List ℕ) → list_any is_blank run ≡ false → words_of text (run ++ bytes) ≡ words_of (text ++ run) bytes
 words_run text [] bytes none = rw append-nil refl
 words_run text (b ∷ bs) bytes none =
     let h = neither (is_blank b) (list_any is_blank bs) none in

@@ -8,6 +8,8 @@ pub mod Judgement
 pub mod Reply
 -- what a reader has read, and what its answers tell
 pub mod Reading
+-- how replies may be written
+pub mod Spelling
 -- replies of streams that are cut, and that grow
 pub mod Cutting
 pub mod Growing

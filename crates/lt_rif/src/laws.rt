@@ -3,6 +3,7 @@
 ghost use Rattle.lt_rif.specs.Cutting.{CutsChangeNothing, NextReplyIsAtHand};
 ghost use Rattle.lt_rif.specs.Enough.{RoomIsEnough};
 ghost use Rattle.lt_rif.specs.Growing.{RepliesGrow};
+ghost use Rattle.lt_rif.specs.Spelling.{SpellingIsRead};
 
 /// Between two replies, what a reader finds in the bytes to come is the next reply of the stream.
 #[tactic(auto, using(crate::proofs::ReadingLemmas::next_reply))]
@@ -14,6 +15,13 @@ pub fn next_reply_is_at_hand()
 #[tactic(auto, using(crate::proofs::CuttingLemmas::cuts_change_nothing))]
 pub fn cuts_change_nothing()
     ensures { CutsChangeNothing }
+{}
+
+/// However a reply is written, it is read as its values: blanks, comments and the word `#outs` between them
+/// change nothing.
+#[tactic(auto, using(crate::proofs::SpellingLemmas::spelling_is_read))]
+pub fn spelling_is_read()
+    ensures { SpellingIsRead }
 {}
 
 /// What an open stream has for a reply stays so, however the stream goes on.

@@ -25,7 +25,9 @@ pub use draft::LONGEST;
 pub use end::{End, Who};
 pub use end_line::write_end;
 pub use fault::ValueFault;
-pub use laws::{cuts_change_nothing, next_reply_is_at_hand, replies_grow, room_is_enough};
+pub use laws::{
+    cuts_change_nothing, next_reply_is_at_hand, replies_grow, room_is_enough, spelling_is_read,
+};
 pub use reader::{Closing, Fed, Reader};
 pub use slot::Slot;
 pub use trace::{room_for, write_header, write_line, write_step};

@@ -1,0 +1,74 @@
+-- How replies may be written.
+use Rattle.std.specs.Prelude.{◌≡◌, ◌≤◌, ℕ, ◌+◌, Bool, true, false, ◌==◌, List, [], ◌∷◌, ◌++◌, length, codes, if◌then◌else◌, Ok}
+use Rattle.std.specs.List.{before_first, flat_map, list_any}
+use Rattle.lt_num.specs.declared.value.Value.{Value}
+use Rattle.lt_rif.specs.Judgement.{judged}
+use Rattle.lt_rif.specs.Reply.{Stream, Reply, whole, longest, reply_of}
+use Rattle.lt_rif.specs.Word.{is_blank, meaning_of}
+use Rattle.lt_rif.specs.declared.slot.Slot.{Slot}
+use Rattle.lt_rif.specs.declared.word.Meaning.TheVariants as meaning
+
+-- what may stand between values
+pub data Part : Type 0 where
+  blank : ℕ → Part
+  -- the word #outs, and the blank behind it
+  outs : ℕ → Part
+  -- a comment, up to the end of its line
+  comment : List ℕ → Part
+
+abbrev pub part_text : Part → List ℕ
+part_text (blank b) = b ∷ []
+part_text (outs b) = codes "#outs" ++ b ∷ []
+part_text (comment text) = text ++ 10 ∷ []
+
+-- A comment begins with a word that begins one, and its line ends behind it.
+abbrev pub IsPart : Part → Type 0
+IsPart (blank b) = is_blank b ≡ true
+IsPart (outs b) = is_blank b ≡ true
+IsPart (comment text) = (meaning_of (before_first is_blank text) ≡ meaning.Comment) × (list_any (λ b. b == 10) text ≡ false)
+
+-- any number of them
+abbrev pub AreParts : List Part → Type 0
+AreParts [] = Unit {0}
+AreParts (part ∷ gap) = IsPart part × AreParts gap
+
+abbrev pub gap_text : List Part → List ℕ
+gap_text gap = flat_map part_text gap
+
+-- a value as it stands in a reply: what stands before it, its word, and the blank behind that
+pub record Field : Type 0 where
+  pub gap : List Part
+  pub word : List ℕ
+  pub blank : ℕ
+
+abbrev pub field_text : Field → List ℕ
+field_text f = gap_text f.gap ++ f.word ++ f.blank ∷ []
+
+pub record IsField (f : Field) : Type 0 where
+  pub gap : AreParts f.gap
+  pub word : list_any is_blank f.word ≡ false
+  pub meaning : meaning_of f.word ≡ meaning.Value
+  pub blank : is_blank f.blank ≡ true
+
+-- fields that write these values of these slots, in turn
+abbrev pub Writes : ℕ → List Slot → List Field → List Value → Type 0
+Writes decimals [] [] [] = Unit {0}
+Writes decimals (slot ∷ slots) (f ∷ fields) (v ∷ values) = IsField f × (judged decimals slot f.word ≡ Ok v) × Writes decimals slots fields values
+Writes decimals slots fields values = ⊥
+
+abbrev pub fields_text : List Field → List ℕ
+fields_text fields = flat_map field_text fields
+
+-- the values that slots keep
+abbrev pub kept : List Slot → List Value → List Value
+kept [] values = []
+kept (slot ∷ slots) [] = []
+kept (slot ∷ slots) (v ∷ values) = if slot.keep then v ∷ kept slots values else kept slots values
+
+-- However a reply is written, it is read as its values: what stands between them changes nothing.
+abbrev pub SpellingIsRead : Type 0
+SpellingIsRead =
+    (decimals place : ℕ) (slots : List Slot) (fields : List Field) (values : List Value) (rest : List ℕ) (closed : Bool) →
+    Writes decimals slots fields values → length (fields_text fields) ≤ longest →
+    reply_of decimals slots (record { place = place; bytes = fields_text fields ++ rest; is_closed = closed })
+    ≡ whole (kept slots values) (record { place = place + length (fields_text fields); bytes = rest; is_closed = closed })
