@@ -59,7 +59,7 @@ header-fits seed outputs inputs locals small =
 
 -- ---- values
 
-length-last_digits : (k n : ℕ) → length (last_digits k n) ≡ k
+pub length-last_digits : (k n : ℕ) → length (last_digits k n) ≡ k
 length-last_digits zero n = refl
 length-last_digits (suc k) n = length-append (last_digits k (n / 10)) _ ∙ let e = length-last_digits k (n / 10) in omega arith
 

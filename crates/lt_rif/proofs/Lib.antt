@@ -3,7 +3,10 @@ pub mod DraftLemmas
 pub mod EnoughLemmas
 pub mod GrowingLemmas
 pub mod NumberLemmas
+pub mod ReadBackLemmas
 pub mod ReadingLemmas
 pub mod RealLemmas
 pub mod SpellingLemmas
 pub mod TraceLemmas
+pub mod ValueLemmas
+pub mod WordLemmas

@@ -25,7 +25,7 @@ word-on : (closed : Bool) (r : Begun) (text : List ℕ) (b : ℕ) (bytes : List 
 word-on closed r text b bytes is short = rw (is, le-ltb longest (r.taken + length text + 1) short) refl
 
 -- two cases of a test
-either : {P : Type 0} (b : Bool) → (b ≡ true → P) → (b ≡ false → P) → P
+pub either : {P : Type 0} (b : Bool) → (b ≡ true → P) → (b ≡ false → P) → P
 either true first second = first refl
 either false first second = second refl
 

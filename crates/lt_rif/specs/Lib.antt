@@ -10,6 +10,8 @@ pub mod Reply
 pub mod Reading
 -- how replies may be written
 pub mod Spelling
+-- steps that are read back
+pub mod ReadBack
 -- replies of streams that are cut, and that grow
 pub mod Cutting
 pub mod Growing

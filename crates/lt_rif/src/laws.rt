@@ -3,6 +3,7 @@
 ghost use Rattle.lt_rif.specs.Cutting.{CutsChangeNothing, NextReplyIsAtHand};
 ghost use Rattle.lt_rif.specs.Enough.{RoomIsEnough};
 ghost use Rattle.lt_rif.specs.Growing.{RepliesGrow};
+ghost use Rattle.lt_rif.specs.ReadBack.{StepReadsBack};
 ghost use Rattle.lt_rif.specs.Spelling.{SpellingIsRead};
 
 /// Between two replies, what a reader finds in the bytes to come is the next reply of the stream.
@@ -22,6 +23,12 @@ pub fn cuts_change_nothing()
 #[tactic(auto, using(crate::proofs::SpellingLemmas::spelling_is_read))]
 pub fn spelling_is_read()
     ensures { SpellingIsRead }
+{}
+
+/// What `write_step` writes is read back as the same values, by slots that may hold them.
+#[tactic(auto, using(crate::proofs::ReadBackLemmas::step_reads_back))]
+pub fn step_reads_back()
+    ensures { StepReadsBack }
 {}
 
 /// What an open stream has for a reply stays so, however the stream goes on.
