@@ -1,7 +1,7 @@
 -- What calls find in a stream.
 use Rattle.std.proofs.Common.{◌≡◌, ℕ, zero, suc, Bool, List, [], ◌∷◌, ◌++◌, length, drop, refl, ap, sym, ◌∙◌}
 use Rattle.lt_num.specs.declared.value.Value.{Value}
-use Rattle.lt_rif.specs.Cutting.{Call, Feeds, Finding, reply, refusal, findings_of, found_then, left_of, replies_of, reply_then, IsCall, CutsChangeNothing}
+use Rattle.lt_rif.specs.Cutting.{Call, Feeds, Finding, reply, findings_of, found_then, left_of, replies_of, reply_then, CutsChangeNothing}
 use Rattle.lt_rif.specs.Reading.{Reading, answer, between, FedTells}
 use Rattle.lt_rif.specs.Reply.{Reply, Stream, reply_of}
 use Rattle.lt_rif.specs.declared.reader.Fed.{Fed}

@@ -1,5 +1,5 @@
 -- How long texts are.
-use Rattle.std.proofs.Common.{◌≡◌, ℕ, zero, suc, ◌+◌, ◌*◌, ◌/◌, ◌^◌, ◌<◌, ◌≤◌, List, [], ◌∷◌, ◌++◌, length, drop, codes, decimal, pos, negsuc, ℤ, unsigned_abs, None, Some, Option, refl, ap, sym, ◌∙◌, true, false, arith, length-append}
+use Rattle.std.proofs.Common.{◌≡◌, ℕ, zero, suc, ◌+◌, ◌*◌, ◌/◌, ◌^◌, ◌<◌, ◌≤◌, List, [], ◌∷◌, ◌++◌, length, drop, codes, decimal, pos, negsuc, ℤ, unsigned_abs, None, Some, Option, refl, ap, ◌∙◌, true, false, arith, length-append}
 use Rattle.std.specs.Prelude.{sum_by, slice_index_or, unwrap_or}
 use Rattle.std.specs.List.{flat_map}
 use Rattle.std.proofs.lemmas.Fmt.{length-decimal-le, length-decimal-le_wide}
@@ -13,7 +13,7 @@ use Rattle.lt_num.specs.declared.kind.Kind.TheVariants as kind
 use Rattle.lt_num.specs.declared.value.Value.{Value}
 use Rattle.lt_num.specs.declared.value.Value.TheVariants as value
 use Rattle.lt_rif.specs.Enough.{IsSized, AreSized, AreLocalsSized, IsEndSized, names_length, HeaderFits, LineFits, StepFits, RoomIsEnough}
-use Rattle.lt_rif.specs.Trace.{Declaration, declared_text, kind_text, locals_header, decimals_of, value_text, local_text, value_words, local_words, locals_part, line, spaced, step_words, who_text, fault_text, refusal_text, end_words}
+use Rattle.lt_rif.specs.Trace.{Declaration, declared_text, kind_text, locals_header, decimals_of, value_text, value_words, local_words, locals_part, line, spaced, step_words, who_text, fault_text, refusal_text, end_words}
 use Rattle.lt_rif.specs.declared.end.End.{End}
 use Rattle.lt_rif.specs.declared.end.End.TheVariants as end
 use Rattle.lt_rif.specs.declared.end.Who.{Who}

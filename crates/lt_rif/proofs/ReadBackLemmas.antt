@@ -1,22 +1,29 @@
--- Steps that are written are read back.
-use Rattle.std.proofs.Common.{◌≡◌, ℕ, suc, ◌+◌, ◌^◌, ◌<◌, ◌≤◌, Bool, true, false, ◌==◌, List, [], ◌∷◌, ◌++◌, length, map, drop, codes, decimal, None, Some, Option, refl, ap, sym, subst, ◌∙◌, arith, append_assoc, append-nil, length-append, if◌then◌else◌}
+-- Traces that are written are read back.
+use Rattle.std.proofs.Common.{◌≡◌, ℕ, suc, ◌+◌, ◌^◌, ◌<◌, ◌≤◌, Bool, true, false, ◌||◌, ◌==◌, List, [], ◌∷◌, ◌++◌, length, map, drop, codes, decimal, unwrap_or, None, Some, Option, ℤ, pos, negsuc, unsigned_abs, refl, ap, sym, subst, ◌∙◌, arith, append_assoc, append-nil, length-append}
 use Rattle.std.specs.List.{before_first, flat_map, list_any}
-use Rattle.std.proofs.Math.Seq.{drop-append_seam}
+use Rattle.std.proofs.lemmas.Bool.Decides.{nat_tests}
 use Rattle.std.proofs.lemmas.Fmt.{digits_decimal}
+use Rattle.std.proofs.lemmas.List.Folds.{list_any-append}
+use Rattle.lt_num.specs.Text.{size_text, text_of}
 use Rattle.lt_num.specs.declared.kind.Kind.{Kind}
+use Rattle.lt_num.specs.declared.kind.Kind.TheVariants as kind
 use Rattle.lt_num.specs.declared.value.Value.{Value}
-use Rattle.lt_rif.specs.ReadBack.{HoldAll, kinds_of, StepReadsBack}
+use Rattle.lt_num.specs.declared.value.Value.TheVariants as value
+use Rattle.lt_rif.specs.Cutting.{reply_then, replies_of}
+use Rattle.lt_rif.specs.Enough.{IsSized, AreLocalsSized}
+use Rattle.lt_rif.specs.ReadBack.{HoldAll, kinds_of, Step, IsStep, text_of_step, values_of_step, AreOnLines, AreSteps, HaveValues, half_longest, StepReadsBack, TraceReadsBack}
 use Rattle.lt_rif.specs.Reply.{Reply, Stream, whole, longest, reply_of}
-use Rattle.lt_rif.specs.Spelling.{Part, outs, comment, part_text, IsPart, AreParts, gap_text, Field, field_text, fields_text, IsField, Writes, kept}
-use Rattle.lt_rif.specs.Trace.{line, local_words, locals_part, spaced, step_text, step_words, value_text, value_words}
+use Rattle.lt_rif.specs.Spelling.{Part, outs, comment, part_text, IsPart, AreParts, gap_text, Field, field_text, fields_text, Writes, kept}
+use Rattle.lt_rif.specs.Trace.{Declaration, declared_text, header_text, kind_text, line, local_words, locals_header, locals_part, value_text, value_words}
 use Rattle.lt_rif.specs.Word.{is_blank, meaning_of}
 use Rattle.lt_rif.specs.declared.slot.Slot.{Slot}
 use Rattle.lt_rif.specs.declared.word.Meaning.TheVariants as meaning
-use Rattle.lt_rif.specs.inner.Spaced.{before_space, behind_space, step_layout}
+use Rattle.lt_rif.specs.inner.Spaced.{before_space, behind_space}
+use Rattle.lt_rif.proofs.ReadingLemmas.{neither}
 use Rattle.lt_rif.proofs.SpellingLemmas.{either, spelling_is_read}
 use Rattle.lt_rif.proofs.TraceLemmas.{step_lays_out}
 use Rattle.lt_rif.proofs.ValueLemmas.{judged-back, value-word}
-use Rattle.lt_rif.proofs.WordLemmas.{own, no-digit, feed-digit, part-at}
+use Rattle.lt_rif.proofs.WordLemmas.{own, no-digit, feed-digit, part-at, part-none, size-is}
 
 -- ---- fields of words
 
@@ -147,33 +154,72 @@ step-comment step small = (
   no-digit (λ b. b == 10) feed-digit (decimal step) (digits_decimal own step small),
 )
 
--- what stands behind the values begins with a blank
+-- ---- lines without a line feed
+
+both-none : (a b : Bool) → a ≡ false → b ≡ false → a || b ≡ false
+both-none a b h k = rw (h, k) refl
+
+none-append : (xs ys : List ℕ) → list_any (λ b. b == 10) xs ≡ false → list_any (λ b. b == 10) ys ≡ false → list_any (λ b. b == 10) (xs ++ ys) ≡ false
+none-append xs ys h k = rw (list_any-append (λ (b : ℕ). b == 10) xs ys) (both-none _ _ h k)
+
+-- what isn't blank is no line feed
+blank-feed : (b : ℕ) → is_blank b ≡ false → b == 10 ≡ false
+blank-feed b e = grind (arith, nat_tests)
+
+none-blank : (xs : List ℕ) → list_any is_blank xs ≡ false → list_any (λ b. b == 10) xs ≡ false
+none-blank [] none = refl
+none-blank (x ∷ xs) none =
+    let h = neither (is_blank x) (list_any is_blank xs) none in
+    rw (blank-feed x h.0) (none-blank xs h.1)
+
+text-none : (k : ℕ) (raw : ℤ) → unsigned_abs raw ≤ 2 ^ 63 → list_any (λ b. b == 10) (text_of k raw) ≡ false
+text-none k (pos n) small = none-blank (text_of k (pos n)) (size-is k n (omega arith)).blank
+text-none k (negsuc n) small = none-blank (size_text k (suc n)) (size-is k (suc n) (omega arith)).blank
+
+value-none : (decimals : ℕ) (k : Kind) (v : Value) → IsSized v → list_any (λ b. b == 10) (value_text decimals k v) ≡ false
+value-none decimals k (value.Bool true) sized = refl
+value-none decimals k (value.Bool false) sized = refl
+value-none decimals k (value.Num raw) sized = text-none _ raw sized
+
+locals-none : (decimals : ℕ) (kinds : List Kind) (locals : List (Option Value)) → AreLocalsSized locals → list_any (λ b. b == 10) (behind_space (local_words decimals kinds locals)) ≡ false
+locals-none decimals [] locals sized = refl
+locals-none decimals (k ∷ kinds) [] sized = refl
+locals-none decimals (k ∷ kinds) (None ∷ locals) sized = locals-none decimals kinds locals sized
+locals-none decimals (k ∷ kinds) (Some v ∷ locals) sized =
+    none-append (codes " " ++ value_text decimals k v) (behind_space (local_words decimals kinds locals)) (value-none decimals k v sized.0) (locals-none decimals kinds locals sized.1)
+
+-- a first word, and what stands behind a space
+word-then : (w : List ℕ) (words : List (List ℕ)) → list_any is_blank w ≡ false → before_first is_blank (w ++ behind_space words) ≡ w
+word-then w [] none = ap (before_first is_blank) (append-nil w) ∙ (part-none is_blank w none).0
+word-then w (v ∷ words) none =
+    ap (λ (t : List ℕ). before_first is_blank (w ++ t)) (append_assoc (codes " ") v (behind_space words))
+    ∙ (part-at is_blank w 32 (v ++ behind_space words) none refl).0
+
+-- the part of the locals, as a comment
+locals-comment : (decimals : ℕ) (kinds : List Kind) (locals : List (Option Value)) → AreLocalsSized locals → IsPart (comment (codes "#locs" ++ behind_space (local_words decimals kinds locals)))
+unfolding meaning_of
+locals-comment decimals kinds locals sized =
+    (ap meaning_of (word-then (codes "#locs") (local_words decimals kinds locals) refl), locals-none decimals kinds locals sized)
+
+-- what stands behind the values: a blank, and what may stand between values
 pub record Tail (decimals : ℕ) (kinds : List Kind) (locals : Option (List (Option Value))) : Type 0 where
   pub blank : ℕ
-  pub rest : List ℕ
+  pub parts : List Part
   pub is_blank_byte : is_blank blank ≡ true
-  pub text : behind_space (locals_part decimals kinds locals) ++ 10 ∷ [] ≡ blank ∷ rest
+  pub are : AreParts parts
+  pub text : behind_space (locals_part decimals kinds locals) ++ 10 ∷ [] ≡ blank ∷ gap_text parts
 
-tail-of : (decimals : ℕ) (kinds : List Kind) (locals : Option (List (Option Value))) → Tail decimals kinds locals
-tail-of decimals kinds None = record { blank = 10; rest = []; is_blank_byte = refl; text = refl }
-tail-of decimals kinds (Some locals) = record { blank = 32; rest = (codes "#locs" ++ behind_space (local_words decimals kinds locals)) ++ 10 ∷ []; is_blank_byte = refl; text = refl }
-
--- a text that begins with fields
-read-from : (decimals place : ℕ) (slots : List Slot) (values : List Value) (fields : List Field) (text behind rest : List ℕ) (closed : Bool)
-    → Writes decimals slots fields values → text ≡ fields_text fields ++ behind → length text ≤ longest
-    → (n : ℕ) × (n ≤ length text) × (reply_of decimals slots (record { place = place; bytes = text ++ rest; is_closed = closed }) ≡ whole (kept slots values) (record { place = place + n; bytes = drop n (text ++ rest); is_closed = closed }))
-read-from decimals place slots values fields text behind rest closed writes is short =
-    let front = fields_text fields in
-    let n = length front in
-    let count : length text ≡ n + length behind = ap (λ (t : List ℕ). length t) is ∙ length-append front behind in
-    let bytes : text ++ rest ≡ front ++ (behind ++ rest) = ap (λ (t : List ℕ). t ++ rest) is ∙ append_assoc front behind rest in
-    let left : behind ++ rest ≡ drop n (text ++ rest) = sym (ap (drop n) bytes ∙ drop-append_seam front (behind ++ rest)) in (
-      n,
-      omega arith,
-      ap (λ (bs : List ℕ). reply_of decimals slots (record { place = place; bytes = bs; is_closed = closed })) bytes
-          ∙ spelling_is_read decimals place slots fields values (behind ++ rest) closed writes (omega arith)
-          ∙ ap (λ (bs : List ℕ). whole (kept slots values) (record { place = place + n; bytes = bs; is_closed = closed })) left,
-    )
+tail-of : (decimals : ℕ) (kinds : List Kind) (locals : Option (List (Option Value))) → AreLocalsSized (unwrap_or locals []) → Tail decimals kinds locals
+tail-of decimals kinds None sized = record { blank = 10; parts = []; is_blank_byte = refl; are = tt; text = refl }
+tail-of decimals kinds (Some locals) sized =
+    let text = codes "#locs" ++ behind_space (local_words decimals kinds locals) in
+    record {
+      blank = 32;
+      parts = comment text ∷ [];
+      is_blank_byte = refl;
+      are = (locals-comment decimals kinds locals sized, tt);
+      text = ap (λ (t : List ℕ). 32 ∷ t) (sym (append-nil (text ++ 10 ∷ [])));
+    }
 
 -- fields there are
 tail-some : (w : List ℕ) (words : List (List ℕ)) (last : ℕ) → 0 < length (tail_fields (w ∷ words) last)
@@ -235,61 +281,200 @@ step-outputs w words part begins gap begin =
     ∙ sym (ap (λ (t : List ℕ). t ++ (mark ++ (part ++ 10 ∷ []))) right ∙ append_assoc (gap_text gap) before (mark ++ (part ++ 10 ∷ [])))
 
 -- what is read of a step
-abbrev IsReadBack : ℕ → ℕ → List Slot → List Value → List ℕ → List ℕ → Bool → Type 0
-IsReadBack decimals place slots values text rest closed =
-    (n : ℕ) × (n ≤ length text) × (reply_of decimals slots (record { place = place; bytes = text ++ rest; is_closed = closed }) ≡ whole values (record { place = place + n; bytes = drop n (text ++ rest); is_closed = closed }))
+record StepRead (decimals place : ℕ) (slots : List Slot) (values : List Value) (front text rest : List ℕ) (closed : Bool) : Type 0 where
+  count : ℕ
+  behind : List Part
+  are : AreParts behind
+  short : length (gap_text behind) ≤ length text
+  is_read : reply_of decimals slots (record { place = place; bytes = (front ++ text) ++ rest; is_closed = closed }) ≡ whole values (record { place = place + count; bytes = gap_text behind ++ rest; is_closed = closed })
+
+-- a text that begins with fields, of which the first has more before it
+read-from : (decimals place : ℕ) (slots : List Slot) (values : List Value) (gap : List Part) (fields : List Field) (front text rest : List ℕ) (behind : List Part) (closed : Bool)
+    → Writes decimals slots (with_gap gap fields) values → 0 < length fields → front ++ text ≡ fields_text (with_gap gap fields) ++ gap_text behind → length front ≤ length (gap_text gap) → AreParts behind → length (front ++ text) ≤ longest
+    → StepRead decimals place slots (kept slots values) front text rest closed
+read-from decimals place slots values gap fields front text rest behind closed writes some is before are short =
+    let read = fields_text (with_gap gap fields) in
+    let left = gap_text behind in
+    let count : length (front ++ text) ≡ length read + length left = ap (λ (t : List ℕ). length t) is ∙ length-append read left in
+    let long : length read ≡ length (gap_text gap) + length (fields_text fields) = ap (λ (t : List ℕ). length t) (gap-fields gap fields some) ∙ length-append (gap_text gap) (fields_text fields) in
+    record {
+      count = length read;
+      behind = behind;
+      are = are;
+      short = omega (arith, length-append front text);
+      is_read =
+          ap (λ (bs : List ℕ). reply_of decimals slots (record { place = place; bytes = bs; is_closed = closed })) (ap (λ (t : List ℕ). t ++ rest) is ∙ append_assoc read left rest)
+          ∙ spelling_is_read decimals place slots (with_gap gap fields) values (left ++ rest) closed writes (omega arith);
+    }
 
 -- by its words
-words-back : (decimals step place : ℕ) (outputs_slots inputs_slots : List Slot) (outputs inputs : List Value) (kinds : List Kind) (locals : Option (List (Option Value))) (rest : List ℕ) (closed : Bool)
-    → decimals ≤ 6 → step < 2 ^ 64 → HoldAll outputs_slots outputs → HoldAll inputs_slots inputs → (text : List ℕ)
+words-read : (decimals step place : ℕ) (outputs_slots inputs_slots : List Slot) (outputs inputs : List Value) (kinds : List Kind) (locals : Option (List (Option Value))) (before : List Part) (rest : List ℕ) (closed : Bool)
+    → decimals ≤ 6 → step < 2 ^ 64 → HoldAll outputs_slots outputs → HoldAll inputs_slots inputs → AreLocalsSized (unwrap_or locals []) → AreParts before → 0 < length (outputs_slots ++ inputs_slots) → (text : List ℕ)
     → text ≡ line (codes "#step " ++ decimal step)
     ++ (before_space (value_words decimals (kinds_of outputs_slots) outputs) ++ codes "#outs" ++ behind_space (value_words decimals (kinds_of inputs_slots) inputs) ++ behind_space (locals_part decimals kinds locals) ++ 10 ∷ [])
-    → length text ≤ longest → IsReadBack decimals place (outputs_slots ++ inputs_slots) (kept (outputs_slots ++ inputs_slots) (outputs ++ inputs)) text rest closed
-words-back decimals step place outputs_slots (slot ∷ slots) outputs (v ∷ values) kinds locals rest closed few small outputs_hold inputs_hold text is short =
+    → length (gap_text before ++ text) ≤ longest → StepRead decimals place (outputs_slots ++ inputs_slots) (kept (outputs_slots ++ inputs_slots) (outputs ++ inputs)) (gap_text before) text rest closed
+words-read decimals step place outputs_slots (slot ∷ slots) outputs (v ∷ values) kinds locals before rest closed few small outputs_hold inputs_hold sized are some text is short =
     let first = value_words decimals (kinds_of outputs_slots) outputs in
     let words = value_words decimals (kinds_of slots) values in
     let w = value_text decimals slot.kind v in
-    let tail = tail-of decimals kinds locals in
-    let gap = comment (codes "#step " ++ decimal step) ∷ [] in
+    let tail = tail-of decimals kinds locals sized in
     let begins = line (codes "#step " ++ decimal step) in
+    let start = comment (codes "#step " ++ decimal step) ∷ [] in
+    let gap = before ++ start in
     let marked = with_gap (outs 32 ∷ []) (tail_fields (w ∷ words) tail.blank) in
-    read-from decimals place (outputs_slots ++ slot ∷ slots) (outputs ++ v ∷ values) (with_gap gap (head_fields first ++ marked)) text tail.rest rest closed
-    (writes-gap decimals (outputs_slots ++ slot ∷ slots) gap (head_fields first ++ marked) (outputs ++ v ∷ values) (step-comment step small, tt)
+    let fields = head_fields first ++ marked in
+    let behind = before_space first ++ codes "#outs" ++ behind_space (w ∷ words) ++ behind_space (locals_part decimals kinds locals) ++ 10 ∷ [] in
+    let front : gap_text before ++ begins ≡ gap_text gap = sym (gap-append before start ∙ ap (λ (t : List ℕ). gap_text before ++ t) (append-nil begins)) in
+    read-from decimals place (outputs_slots ++ slot ∷ slots) (outputs ++ v ∷ values) gap fields (gap_text before) text rest tail.parts closed
+    (writes-gap decimals (outputs_slots ++ slot ∷ slots) gap fields (outputs ++ v ∷ values) (parts-append before start are (step-comment step small, tt))
     (writes-append decimals outputs_slots (slot ∷ slots) (head_fields first) marked outputs (v ∷ values) (writes-head decimals outputs_slots outputs few outputs_hold)
     (writes-gap decimals (slot ∷ slots) (outs 32 ∷ []) (tail_fields (w ∷ words) tail.blank) (v ∷ values) (refl, tt) (writes-tail decimals tail.blank (slot ∷ slots) (v ∷ values) few tail.is_blank_byte inputs_hold))))
-    (is ∙ step-inputs first words w (behind_space (locals_part decimals kinds locals)) begins tail.blank tail.rest gap tail.text (sym (append-nil begins))) short
-words-back decimals step place (slot ∷ slots) [] (v ∷ values) [] kinds locals rest closed few small outputs_hold inputs_hold text is short =
+    (omega (arith, length-append (head_fields first) marked, gap-some (outs 32 ∷ []) (tail_fields (w ∷ words) tail.blank) (tail-some w words tail.blank)))
+    (ap (λ (t : List ℕ). gap_text before ++ t) is ∙ sym (append_assoc (gap_text before) begins behind) ∙ step-inputs first words w (behind_space (locals_part decimals kinds locals)) (gap_text before ++ begins) tail.blank (gap_text tail.parts) gap tail.text front)
+    (omega (arith, ap (λ (t : List ℕ). length t) front, length-append (gap_text before) begins)) tail.are short
+words-read decimals step place (slot ∷ slots) [] (v ∷ values) [] kinds locals before rest closed few small outputs_hold inputs_hold sized are some text is short =
     let words = value_words decimals (kinds_of slots) values in
     let w = value_text decimals slot.kind v in
-    let gap = comment (codes "#step " ++ decimal step) ∷ [] in
+    let tail = tail-of decimals kinds locals sized in
     let begins = line (codes "#step " ++ decimal step) in
+    let start = comment (codes "#step " ++ decimal step) ∷ [] in
+    let gap = before ++ start in
     let part = behind_space (locals_part decimals kinds locals) in
-    read-from decimals place ((slot ∷ slots) ++ []) ((v ∷ values) ++ []) (with_gap gap (head_fields (w ∷ words) ++ [])) text (codes "#outs" ++ (part ++ 10 ∷ [])) rest closed
-    (writes-gap decimals ((slot ∷ slots) ++ []) gap (head_fields (w ∷ words) ++ []) ((v ∷ values) ++ []) (step-comment step small, tt)
+    let fields = head_fields (w ∷ words) ++ [] in
+    let behind = before_space (w ∷ words) ++ codes "#outs" ++ [] ++ part ++ 10 ∷ [] in
+    let front : gap_text before ++ begins ≡ gap_text gap = sym (gap-append before start ∙ ap (λ (t : List ℕ). gap_text before ++ t) (append-nil begins)) in
+    let left : codes "#outs" ++ (part ++ 10 ∷ []) ≡ gap_text (outs tail.blank ∷ tail.parts) = ap (λ (t : List ℕ). codes "#outs" ++ t) tail.text in
+    read-from decimals place ((slot ∷ slots) ++ []) ((v ∷ values) ++ []) gap fields (gap_text before) text rest (outs tail.blank ∷ tail.parts) closed
+    (writes-gap decimals ((slot ∷ slots) ++ []) gap fields ((v ∷ values) ++ []) (parts-append before start are (step-comment step small, tt))
     (writes-append decimals (slot ∷ slots) [] (head_fields (w ∷ words)) [] (v ∷ values) [] (writes-head decimals (slot ∷ slots) (v ∷ values) few outputs_hold) tt))
-    (is ∙ step-outputs w words part begins gap (sym (append-nil begins))) short
-words-back decimals step place [] [] [] [] kinds locals rest closed few small outputs_hold inputs_hold text is short =
-    (0, omega arith, (λ i. whole [] (record { place = let e : place ≡ place + 0 = omega arith in e i; bytes = text ++ rest; is_closed = closed })))
-words-back decimals step place [] [] (v ∷ values) [] kinds locals rest closed few small outputs_hold inputs_hold text is short = absurd outputs_hold
-words-back decimals step place (slot ∷ slots) [] [] [] kinds locals rest closed few small outputs_hold inputs_hold text is short = absurd outputs_hold
-words-back decimals step place outputs_slots [] outputs (v ∷ values) kinds locals rest closed few small outputs_hold inputs_hold text is short = absurd inputs_hold
-words-back decimals step place outputs_slots (slot ∷ slots) outputs [] kinds locals rest closed few small outputs_hold inputs_hold text is short = absurd inputs_hold
+    (omega arith)
+    (ap (λ (t : List ℕ). gap_text before ++ t) is ∙ sym (append_assoc (gap_text before) begins behind) ∙ step-outputs w words part (gap_text before ++ begins) gap front
+    ∙ ap (λ (t : List ℕ). fields_text (with_gap gap fields) ++ t) left)
+    (omega (arith, ap (λ (t : List ℕ). length t) front, length-append (gap_text before) begins)) (tail.is_blank_byte, tail.are) short
+words-read decimals step place [] [] outputs [] kinds locals before rest closed few small outputs_hold inputs_hold sized are some text is short = absurd (omega arith)
+words-read decimals step place (slot ∷ slots) [] [] [] kinds locals before rest closed few small outputs_hold inputs_hold sized are some text is short = absurd outputs_hold
+words-read decimals step place outputs_slots [] outputs (v ∷ values) kinds locals before rest closed few small outputs_hold inputs_hold sized are some text is short = absurd inputs_hold
+words-read decimals step place outputs_slots (slot ∷ slots) outputs [] kinds locals before rest closed few small outputs_hold inputs_hold sized are some text is short = absurd inputs_hold
 
-pub step_reads_back : StepReadsBack
-step_reads_back decimals step place outputs_slots inputs_slots outputs inputs kinds locals rest closed few small outputs_hold inputs_hold short =
+-- by its text
+step-read : (decimals place : ℕ) (outputs_slots inputs_slots : List Slot) (step : Step) (kinds : List Kind) (before : List Part) (rest : List ℕ) (closed : Bool)
+    → decimals ≤ 6 → 0 < length (outputs_slots ++ inputs_slots) → IsStep outputs_slots inputs_slots step → AreParts before → length (gap_text before ++ text_of_step decimals outputs_slots inputs_slots kinds step) ≤ longest
+    → StepRead decimals place (outputs_slots ++ inputs_slots) (kept (outputs_slots ++ inputs_slots) (step.outputs ++ step.inputs)) (gap_text before) (text_of_step decimals outputs_slots inputs_slots kinds step) rest closed
+step-read decimals place outputs_slots inputs_slots step kinds before rest closed few some is are short =
+    let outputs = step.outputs in
+    let inputs = step.inputs in
     let all = kinds_of outputs_slots ++ kinds_of inputs_slots ++ kinds in
-    let text = step_text decimals step all outputs inputs locals in
-    let begins = line (codes "#step " ++ decimal step) in
+    let text = text_of_step decimals outputs_slots inputs_slots kinds step in
+    let begins = line (codes "#step " ++ decimal step.number) in
     let local_kinds = drop (length outputs + length inputs) all in
     let split : all ≡ kinds_of outputs_slots ++ (kinds_of inputs_slots ++ kinds) = append_assoc (kinds_of outputs_slots) (kinds_of inputs_slots) kinds in
     let first : value_words decimals all outputs ≡ value_words decimals (kinds_of outputs_slots) outputs =
-    ap (λ (ks : List Kind). value_words decimals ks outputs) split ∙ words-front decimals outputs_slots outputs (kinds_of inputs_slots ++ kinds) outputs_hold in
+    ap (λ (ks : List Kind). value_words decimals ks outputs) split ∙ words-front decimals outputs_slots outputs (kinds_of inputs_slots ++ kinds) is.outputs in
     let second : value_words decimals (drop (length outputs) all) inputs ≡ value_words decimals (kinds_of inputs_slots) inputs =
     ap (λ (ks : List Kind). value_words decimals (drop (length outputs) ks) inputs) split
-    ∙ ap (λ (ks : List Kind). value_words decimals ks inputs) (kinds-behind outputs_slots outputs (kinds_of inputs_slots ++ kinds) outputs_hold)
-    ∙ words-front decimals inputs_slots inputs kinds inputs_hold in
-    let is : text ≡ begins ++ (before_space (value_words decimals (kinds_of outputs_slots) outputs) ++ codes "#outs" ++ behind_space (value_words decimals (kinds_of inputs_slots) inputs) ++ behind_space (locals_part decimals local_kinds locals) ++ 10 ∷ []) =
-    ap (λ (t : List ℕ). begins ++ t) (step_lays_out decimals all outputs inputs locals)
-    ∙ (λ i. begins ++ (before_space (first i) ++ codes "#outs" ++ behind_space (second i) ++ behind_space (locals_part decimals local_kinds locals) ++ 10 ∷ [])) in
-    let read = words-back decimals step place outputs_slots inputs_slots outputs inputs local_kinds locals rest closed few small outputs_hold inputs_hold text is short in
-    (read.0, read.1, read.2 ∙ ap (λ (vs : List Value). whole vs (record { place = place + read.0; bytes = drop read.0 (text ++ rest); is_closed = closed })) (kept-append outputs_slots inputs_slots outputs inputs outputs_hold))
+    ∙ ap (λ (ks : List Kind). value_words decimals ks inputs) (kinds-behind outputs_slots outputs (kinds_of inputs_slots ++ kinds) is.outputs)
+    ∙ words-front decimals inputs_slots inputs kinds is.inputs in
+    let layout : text ≡ begins ++ (before_space (value_words decimals (kinds_of outputs_slots) outputs) ++ codes "#outs" ++ behind_space (value_words decimals (kinds_of inputs_slots) inputs) ++ behind_space (locals_part decimals local_kinds step.locals) ++ 10 ∷ []) =
+    ap (λ (t : List ℕ). begins ++ t) (step_lays_out decimals all outputs inputs step.locals)
+    ∙ (λ i. begins ++ (before_space (first i) ++ codes "#outs" ++ behind_space (second i) ++ behind_space (locals_part decimals local_kinds step.locals) ++ 10 ∷ [])) in
+    words-read decimals step.number place outputs_slots inputs_slots outputs inputs local_kinds step.locals before rest closed few is.number is.outputs is.inputs is.locals are some text layout short
+
+pub step_reads_back : StepReadsBack
+step_reads_back decimals place outputs_slots inputs_slots step kinds before rest closed few some is are short =
+    let read = step-read decimals place outputs_slots inputs_slots step kinds before rest closed few some is are short in
+    let left : Stream = record { place = place + read.count; bytes = gap_text read.behind ++ rest; is_closed = closed } in
+    (read.count, read.behind, read.are, read.short, read.is_read ∙ ap (λ (vs : List Value). whole vs left) (kept-append outputs_slots inputs_slots step.outputs step.inputs is.outputs))
+
+-- ---- steps, one behind another
+
+steps-read : (decimals : ℕ) (outputs_slots inputs_slots : List Slot) (kinds : List Kind) (steps : List Step) (place : ℕ) (before : List Part) (rest : List ℕ) (closed : Bool)
+    → decimals ≤ 6 → 0 < length (outputs_slots ++ inputs_slots) → AreSteps decimals outputs_slots inputs_slots kinds steps → AreParts before → length (gap_text before) ≤ half_longest
+    → HaveValues
+    (replies_of (length steps) decimals (outputs_slots ++ inputs_slots) (record { place = place; bytes = gap_text before ++ (flat_map (text_of_step decimals outputs_slots inputs_slots kinds) steps ++ rest); is_closed = closed }))
+    (map (values_of_step outputs_slots inputs_slots) steps)
+steps-read decimals outputs_slots inputs_slots kinds [] place before rest closed few some steps_are are short = tt
+steps-read decimals outputs_slots inputs_slots kinds (step ∷ steps) place before rest closed few some steps_are are short =
+    let slots = outputs_slots ++ inputs_slots in
+    let text = text_of_step decimals outputs_slots inputs_slots kinds step in
+    let more = flat_map (text_of_step decimals outputs_slots inputs_slots kinds) steps in
+    let tiny = steps_are.1 in
+    let read = step-read decimals place outputs_slots inputs_slots step kinds before (more ++ rest) closed few some steps_are.0 are (omega (arith, length-append (gap_text before) text)) in
+    let left : Stream = record { place = place + read.count; bytes = gap_text read.behind ++ (more ++ rest); is_closed = closed } in
+    let bytes : gap_text before ++ ((text ++ more) ++ rest) ≡ (gap_text before ++ text) ++ (more ++ rest) =
+    ap (λ (t : List ℕ). gap_text before ++ t) (append_assoc text more rest) ∙ sym (append_assoc (gap_text before) text (more ++ rest)) in
+    let is : reply_of decimals slots (record { place = place; bytes = gap_text before ++ ((text ++ more) ++ rest); is_closed = closed }) ≡ whole (kept slots (step.outputs ++ step.inputs)) left =
+    ap (λ (bs : List ℕ). reply_of decimals slots (record { place = place; bytes = bs; is_closed = closed })) bytes ∙ read.is_read in
+    let read_short = read.short in
+    subst (λ (r : Reply). HaveValues (reply_then r (replies_of (length steps) decimals slots)) (map (values_of_step outputs_slots inputs_slots) (step ∷ steps))) (sym is) (
+      kept-append outputs_slots inputs_slots step.outputs step.inputs (steps_are.0).outputs,
+      steps-read decimals outputs_slots inputs_slots kinds steps (place + read.count) read.behind rest closed few some steps_are.2 read.are (omega arith),
+    )
+
+-- ---- the header
+
+kind-none : (k : Kind) → list_any (λ b. b == 10) (kind_text k) ≡ false
+kind-none kind.Bool = refl
+kind-none kind.Int = refl
+kind-none kind.Real = refl
+
+declared-none : (ds : List Declaration) → AreOnLines ds → list_any (λ b. b == 10) (flat_map declared_text ds) ≡ false
+declared-none [] are = refl
+declared-none (d ∷ ds) are =
+    none-append (declared_text d) (flat_map declared_text ds)
+    (none-append (codes " \"" ++ d.name ++ codes "\":") (kind_text d.kind)
+    (none-append (codes " \"" ++ d.name) (codes "\":") (none-append (codes " \"") d.name refl are.0) refl)
+    (kind-none d.kind))
+    (declared-none ds are.1)
+
+-- a first word, and what is declared behind it
+declared-then : (w : List ℕ) (ds : List Declaration) → list_any is_blank w ≡ false → before_first is_blank (w ++ flat_map declared_text ds) ≡ w
+declared-then w [] none = ap (before_first is_blank) (append-nil w) ∙ (part-none is_blank w none).0
+declared-then w (d ∷ ds) none = (part-at is_blank w 32 _ none refl).0
+
+declared-comment : (w : List ℕ) (ds : List Declaration) → list_any is_blank w ≡ false → list_any (λ b. b == 10) w ≡ false → meaning_of w ≡ meaning.Comment → AreOnLines ds → IsPart (comment (w ++ flat_map declared_text ds))
+declared-comment w ds none no_feed means are = (ap meaning_of (declared-then w ds none) ∙ means, none-append w (flat_map declared_text ds) no_feed (declared-none ds are))
+
+seed-comment : (seed : ℕ) → seed < 2 ^ 64 → IsPart (comment (codes "#seed " ++ decimal seed))
+unfolding meaning_of
+seed-comment seed small = (
+  ap meaning_of (part-at is_blank (codes "#seed") 32 (decimal seed) refl refl).0,
+  no-digit (λ b. b == 10) feed-digit (decimal seed) (digits_decimal own seed small),
+)
+
+-- a header as parts that may stand between values
+record HeaderParts (text : List ℕ) : Type 0 where
+  parts : List Part
+  are : AreParts parts
+  is : text ≡ gap_text parts
+
+locals-parts : (locals : Option (List Declaration)) → AreOnLines (unwrap_or locals []) → HeaderParts (locals_header locals)
+unfolding meaning_of
+locals-parts None are = record { parts = []; are = tt; is = refl }
+locals-parts (Some ds) are =
+    let text = codes "#locals" ++ flat_map declared_text ds in
+    record { parts = comment text ∷ []; are = (declared-comment (codes "#locals") ds refl refl refl are, tt); is = sym (append-nil (line text)) }
+
+header-parts : (seed : ℕ) (outputs inputs : List Declaration) (locals : Option (List Declaration)) → seed < 2 ^ 64 → AreOnLines outputs → AreOnLines inputs → AreOnLines (unwrap_or locals []) → HeaderParts (header_text seed outputs inputs locals)
+unfolding meaning_of
+header-parts seed outputs inputs locals small outputs_are inputs_are locals_are =
+    let rest = locals-parts locals locals_are in
+    let first = codes "#seed " ++ decimal seed in
+    let second = codes "#inputs" ++ flat_map declared_text outputs in
+    let third = codes "#outputs" ++ flat_map declared_text inputs in
+    record {
+      parts = comment first ∷ comment second ∷ comment third ∷ rest.parts;
+      are = (seed-comment seed small, (declared-comment (codes "#inputs") outputs refl refl refl outputs_are, (declared-comment (codes "#outputs") inputs refl refl refl inputs_are, rest.are)));
+      is =
+          append_assoc (line first ++ line second) (line third) (locals_header locals)
+          ∙ append_assoc (line first) (line second) (line third ++ locals_header locals)
+          ∙ ap (λ (t : List ℕ). line first ++ (line second ++ (line third ++ t))) rest.is;
+    }
+
+pub trace_reads_back : TraceReadsBack
+trace_reads_back decimals seed place outputs_slots inputs_slots outputs inputs locals kinds steps rest closed few small some outputs_are inputs_are locals_are steps_are short =
+    let header = header_text seed outputs inputs locals in
+    let texts = flat_map (text_of_step decimals outputs_slots inputs_slots kinds) steps in
+    let begins = header-parts seed outputs inputs locals small outputs_are inputs_are locals_are in
+    let fits : length (gap_text begins.parts) ≤ half_longest = subst (λ (t : List ℕ). length t ≤ half_longest) begins.is short in
+    subst (λ (t : List ℕ). HaveValues (replies_of (length steps) decimals (outputs_slots ++ inputs_slots) (record { place = place; bytes = t ++ (texts ++ rest); is_closed = closed })) (map (values_of_step outputs_slots inputs_slots) steps)) (sym begins.is)
+    (steps-read decimals outputs_slots inputs_slots kinds steps place begins.parts rest closed few some steps_are begins.are fits)

@@ -1,6 +1,5 @@
 -- Reals, by the parts of their words.
-use Rattle.std.proofs.Common.{◌≡◌, ℕ, zero, suc, ◌+◌, ◌*◌, ◌/◌, ◌^◌, ◌<◌, ◌≤◌, nat_le, Bool, true, false, ◌||◌, ◌&&◌, List, [], length, position, is_none, ℤ, pos, neg_ℤ, unsigned_abs, None, Some, Ok, Err, Option, refl, ap, sym, subst, ◌∙◌, arith, if◌then◌else◌, add-zero}
-use Rattle.std.specs.List.{after_first, before_first}
+use Rattle.std.proofs.Common.{◌≡◌, ℕ, zero, suc, ◌+◌, ◌*◌, ◌^◌, ◌<◌, ◌≤◌, nat_le, Bool, true, false, ◌||◌, ◌&&◌, List, [], length, position, is_none, ℤ, pos, neg_ℤ, unsigned_abs, None, Some, Err, Option, refl, ap, sym, subst, ◌∙◌, arith, if◌then◌else◌}
 use Rattle.std.specs.Option.{option_map}
 use Rattle.std.specs.Str.{all_ascii_digits}
 use Rattle.std.specs.Str.Parse.{starts_with_minus, without_leading_sign}
@@ -11,7 +10,7 @@ use Rattle.std.proofs.Math.Nat.{div-eq_of_lt, mul-le-mul_right}
 use Rattle.lt_num.specs.Answer.{most}
 use Rattle.lt_num.specs.Rounding.{with_sign, nearest}
 use Rattle.lt_rif.specs.Judgement.{bounded_raw}
-use Rattle.lt_rif.specs.Number.{is_digits, is_exponent, is_mark, is_point, is_real, number_of, whole_part, decimal_part, exponent_part, exponent_size, places_right, places_left, real_numerator, real_denominator, real_written}
+use Rattle.lt_rif.specs.Number.{is_digits, is_exponent, is_mark, number_of, whole_part, decimal_part, exponent_part, places_right, places_left, real_numerator, real_written}
 use Rattle.lt_rif.specs.declared.fault.ValueFault.TheVariants as fault
 use Rattle.lt_rif.specs.declared.number.Scaled.{Scaled}
 use Rattle.lt_rif.specs.inner.Decimal.{behind_mark, digits_written, rounded_quotient, IsMove, IsScaled}

@@ -1,13 +1,13 @@
 -- How replies that are written are read.
-use Rattle.std.proofs.Common.{◌≡◌, ◌≤◌, ◌<◌, ℕ, ◌+◌, Bool, true, false, not, ◌==◌, ◌||◌, List, [], ◌∷◌, ◌++◌, length, codes, Ok, Result, refl, ap, sym, subst, ◌∙◌, arith, append_assoc, append-nil, length-append, if◌then◌else◌}
-use Rattle.std.specs.List.{before_first, flat_map, list_any}
-use Rattle.std.proofs.lemmas.Bool.{le-ltb, cond_both}
+use Rattle.std.proofs.Common.{◌≡◌, ◌≤◌, ℕ, ◌+◌, Bool, true, false, not, ◌==◌, List, [], ◌∷◌, ◌++◌, length, codes, Ok, Result, refl, ap, sym, ◌∙◌, arith, append_assoc, append-nil, length-append, if◌then◌else◌}
+use Rattle.std.specs.List.{before_first, list_any}
+use Rattle.std.proofs.lemmas.Bool.{le-ltb}
 use Rattle.std.proofs.lemmas.Grind.{common_steps}
 use Rattle.lt_num.specs.declared.value.Value.{Value}
 use Rattle.lt_rif.specs.Judgement.{judged}
-use Rattle.lt_rif.specs.Reply.{Stream, Reply, whole, longest, Begun, after_word, filled, go_on, reply_in, reply_of, with_meaning, with_value, with_judged}
+use Rattle.lt_rif.specs.Reply.{Stream, whole, longest, Begun, after_word, filled, go_on, reply_in, with_meaning, with_value, with_judged}
 use Rattle.lt_rif.specs.Spelling.{Part, blank, outs, comment, part_text, IsPart, AreParts, gap_text, Field, field_text, IsField, Writes, fields_text, kept, SpellingIsRead}
-use Rattle.lt_rif.specs.Word.{is_blank, meaning_of, word, words_of}
+use Rattle.lt_rif.specs.Word.{is_blank, meaning_of, words_of}
 use Rattle.lt_rif.specs.declared.fault.ValueFault.{ValueFault}
 use Rattle.lt_rif.specs.declared.slot.Slot.{Slot}
 use Rattle.lt_rif.specs.declared.word.Meaning.{Meaning}

@@ -1,5 +1,5 @@
 -- Words with spaces, and the lines that they make.
-use Rattle.std.proofs.Common.{◌≡◌, ℕ, List, [], ◌∷◌, ◌++◌, Option, length, drop, codes, refl, ap, sym, ◌∙◌, ◌+◌, append_assoc, length-append, vec_len, vec_capacity, arith, ◌≤◌, Vec, Global}
+use Rattle.std.proofs.Common.{◌≡◌, ℕ, List, [], ◌∷◌, ◌++◌, Option, length, drop, codes, refl, ap, sym, ◌∙◌, ◌+◌, append_assoc, length-append, arith, Vec, Global}
 use Rattle.lt_rif.specs.Room.{Appends, HasRoom}
 use Rattle.lt_num.specs.declared.kind.Kind.{Kind}
 use Rattle.lt_num.specs.declared.value.Value.{Value}

@@ -1,5 +1,5 @@
 -- The words of values are read as these values.
-use Rattle.std.proofs.Common.{◌≡◌, ◌≢◌, ℕ, zero, suc, ◌+◌, ◌-◌, ◌*◌, ◌/◌, ◌%◌, ◌^◌, ◌<◌, ◌≤◌, nat_le, nat_eq, Bool, true, false, ◌||◌, ◌&&◌, ◌==◌, List, [], ◌∷◌, ◌++◌, length, get_or, drop, position, is_none, None, Some, Ok, Option, decimal, ℤ, pos, negsuc, unsigned_abs, refl, ap, sym, subst, ◌∙◌, arith, append-nil, if◌then◌else◌}
+use Rattle.std.proofs.Common.{◌≡◌, ℕ, suc, ◌+◌, ◌-◌, ◌*◌, ◌/◌, ◌^◌, ◌<◌, ◌≤◌, Bool, true, false, ◌==◌, List, [], ◌∷◌, length, get_or, None, Some, Ok, decimal, ℤ, pos, negsuc, unsigned_abs, refl, ap, sym, ◌∙◌, arith, append-nil, if◌then◌else◌}
 use Rattle.std.specs.List.{after_first, before_first, list_any}
 use Rattle.std.specs.Option.{option_map}
 use Rattle.std.specs.Str.{all_ascii_digits}
@@ -18,7 +18,7 @@ use Rattle.lt_num.specs.declared.kind.Kind.{Kind}
 use Rattle.lt_num.specs.declared.kind.Kind.TheVariants as kind
 use Rattle.lt_num.specs.declared.value.Value.{Value}
 use Rattle.lt_num.specs.declared.value.Value.TheVariants as value
-use Rattle.lt_rif.specs.Judgement.{bounded_raw, in_slot, is_within, judged}
+use Rattle.lt_rif.specs.Judgement.{judged}
 use Rattle.lt_rif.specs.Number.{decimal_part, int_written, is_digits, is_mark, is_point, number_of, raw_written, real_written, whole_part}
 use Rattle.lt_rif.specs.ReadBack.{Holds}
 use Rattle.lt_rif.specs.Trace.{value_text}

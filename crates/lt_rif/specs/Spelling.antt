@@ -3,7 +3,7 @@ use Rattle.std.specs.Prelude.{◌≡◌, ◌≤◌, ℕ, ◌+◌, Bool, true, fa
 use Rattle.std.specs.List.{before_first, flat_map, list_any}
 use Rattle.lt_num.specs.declared.value.Value.{Value}
 use Rattle.lt_rif.specs.Judgement.{judged}
-use Rattle.lt_rif.specs.Reply.{Stream, Reply, whole, longest, reply_of}
+use Rattle.lt_rif.specs.Reply.{whole, longest, reply_of}
 use Rattle.lt_rif.specs.Word.{is_blank, meaning_of}
 use Rattle.lt_rif.specs.declared.slot.Slot.{Slot}
 use Rattle.lt_rif.specs.declared.word.Meaning.TheVariants as meaning

@@ -1,5 +1,5 @@
 -- The text of a trace, and the lines that go to a controller and to an oracle.
-use Rattle.std.specs.Prelude.{ℕ, ◌+◌, ◌<◌, Bool, true, false, List, [], ◌∷◌, ◌++◌, length, drop, map, codes, decimal, slice_index_or, None, Some}
+use Rattle.std.specs.Prelude.{ℕ, ◌+◌, ◌<◌, Bool, true, false, List, [], ◌∷◌, ◌++◌, length, drop, codes, decimal, slice_index_or, None, Some}
 use Rattle.std.specs.List.{flat_map, join_by}
 use Rattle.std.specs.String.{string_bytes}
 use Rattle.std.specs.declared.option.Option.{Option}

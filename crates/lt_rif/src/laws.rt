@@ -3,7 +3,7 @@
 ghost use Rattle.lt_rif.specs.Cutting.{CutsChangeNothing, NextReplyIsAtHand};
 ghost use Rattle.lt_rif.specs.Enough.{RoomIsEnough};
 ghost use Rattle.lt_rif.specs.Growing.{RepliesGrow};
-ghost use Rattle.lt_rif.specs.ReadBack.{StepReadsBack};
+ghost use Rattle.lt_rif.specs.ReadBack.{StepReadsBack, TraceReadsBack};
 ghost use Rattle.lt_rif.specs.Spelling.{SpellingIsRead};
 
 /// Between two replies, what a reader finds in the bytes to come is the next reply of the stream.
@@ -25,10 +25,17 @@ pub fn spelling_is_read()
     ensures { SpellingIsRead }
 {}
 
-/// What `write_step` writes is read back as the same values, by slots that may hold them.
+/// What `write_step` writes is read back as the same values, by slots that may hold them; what is left of its text
+/// may stand before the next step.
 #[tactic(auto, using(crate::proofs::ReadBackLemmas::step_reads_back))]
 pub fn step_reads_back()
     ensures { StepReadsBack }
+{}
+
+/// A trace, a header and steps behind it, is read back as the values of its steps, one reply a step.
+#[tactic(auto, using(crate::proofs::ReadBackLemmas::trace_reads_back))]
+pub fn trace_reads_back()
+    ensures { TraceReadsBack }
 {}
 
 /// What an open stream has for a reply stays so, however the stream goes on.

@@ -27,7 +27,7 @@ pub use end_line::write_end;
 pub use fault::ValueFault;
 pub use laws::{
     cuts_change_nothing, next_reply_is_at_hand, replies_grow, room_is_enough, spelling_is_read,
-    step_reads_back,
+    step_reads_back, trace_reads_back,
 };
 pub use reader::{Closing, Fed, Reader};
 pub use slot::Slot;

@@ -44,21 +44,11 @@ pub fn raw_of_word(kind: Kind, word: &[u8], decimals: u32) -> Result<i64, ValueF
 fn truth_of(word: &[u8]) -> Result<i64, ValueFault>
     ensures { result ≡ bounded_raw (truth_written word.now) }
 {
-    if word == b"t".as_slice()
-        || word == b"T".as_slice()
-        || word == b"true".as_slice()
-        || word == b"1".as_slice()
-    {
-        return Ok(1);
+    match word {
+        b"t" | b"T" | b"true" | b"1" => Ok(1),
+        b"f" | b"F" | b"false" | b"0" => Ok(0),
+        _ => Err(ValueFault::NotAValue),
     }
-    if word == b"f".as_slice()
-        || word == b"F".as_slice()
-        || word == b"false".as_slice()
-        || word == b"0".as_slice()
-    {
-        return Ok(0);
-    }
-    Err(ValueFault::NotAValue)
 }
 
 // The int that a word writes.

@@ -58,11 +58,10 @@ fn length_of_run(bytes: &[u8]) -> usize
 pub fn meaning_of(word: &[u8]) -> Meaning
     ensures { result ≡ meaning_of word.now }
 {
-    if word.is_empty() || word == b"#outs".as_slice() {
-        return Meaning::Passed;
+    match word {
+        [] => Meaning::Passed,
+        [b'#', ..] if word == b"#outs".as_slice() => Meaning::Passed,
+        [b'#', ..] | [b'-', b'-', ..] => Meaning::Comment,
+        _ => Meaning::Value,
     }
-    if word.starts_with(b"--") || word.starts_with(b"#") {
-        return Meaning::Comment;
-    }
-    Meaning::Value
 }

@@ -1,5 +1,5 @@
 -- What words make of a draft, the code's reply that has begun.
-use Rattle.std.specs.Prelude.{◌≡◌, ◌≤◌, ℕ, ◌+◌, Bool, List, [], ◌∷◌, ◌++◌, length, drop, if◌then◌else◌}
+use Rattle.std.specs.Prelude.{◌≡◌, ◌+◌, Bool, [], ◌∷◌, ◌++◌, length, drop, if◌then◌else◌}
 use Rattle.lt_num.specs.declared.value.Value.{Value}
 use Rattle.lt_rif.specs.Reply.{Begun, Progress, more, done, refused, past, filled}
 use Rattle.lt_rif.specs.declared.draft.Draft.{Draft}

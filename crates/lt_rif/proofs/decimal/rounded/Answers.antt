@@ -1,5 +1,4 @@
-use Rattle.std.proofs.Common.{◌≡◌, ℕ, ◌<◌, Option, subst, sym, arith, MatchOption}
-use Rattle.lt_num.specs.Answer.{most}
+use Rattle.std.proofs.Common.{arith}
 use Rattle.lt_rif.proofs.NumberLemmas.{quotient-whole, quotient-part}
 use Rattle.lt_rif.proofs.decimal.rounded.Goals as goal
 

@@ -1,5 +1,4 @@
-use Rattle.std.proofs.Common.{◌≡◌, ℕ, Bool, List, position, None, Some, ◌<◌, ◌≤◌, length, arith}
-use Rattle.std.specs.List.{position_or_len}
+use Rattle.std.proofs.Common.{arith}
 use Rattle.std.proofs.lemmas.Grind.{common_steps}
 use Rattle.lt_rif.specs.Number.{is_point}
 use Rattle.lt_rif.proofs.NumberLemmas.{position-some, position-none}

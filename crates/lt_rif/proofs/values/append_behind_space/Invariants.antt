@@ -1,4 +1,4 @@
-use Rattle.std.proofs.Common.{◌≡◌, ◌≤◌, ◌++◌, length, vec_len, vec_capacity}
+use Rattle.std.proofs.Common.{◌≡◌, ◌≤◌, ◌++◌, length, vec_capacity}
 use Rattle.lt_rif.specs.Room.{HasRoom}
 use Rattle.lt_rif.specs.Trace.{value_words}
 use Rattle.lt_rif.specs.inner.Spaced.{behind_space}

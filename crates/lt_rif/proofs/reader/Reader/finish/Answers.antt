@@ -1,10 +1,8 @@
-use Rattle.std.proofs.Common.{◌≡◌, None, Vec, Global, ap, ◌∙◌, sym, refl, arith}
+use Rattle.std.proofs.Common.{◌≡◌, None, ap, ◌∙◌, sym, refl, arith}
 use Rattle.std.proofs.lemmas.Bool.{eqb-true, eqb-false}
 use Rattle.lt_rif.specs.Reading.{reading}
 use Rattle.lt_rif.specs.inner.Draft.{looked}
-use Rattle.lt_rif.specs.declared.slot.Slot.{Slot}
-use Rattle.lt_num.specs.declared.value.Value.{Value}
-use Rattle.lt_rif.proofs.ReadingLemmas.{begun_again, no_refusal, no_values, refused_closing, none_closing, pass_closing, refused_at_end}
+use Rattle.lt_rif.proofs.ReadingLemmas.{no_refusal, refused_closing, none_closing, pass_closing, refused_at_end}
 use Rattle.lt_rif.proofs.reader.Reader.finish.Goals as goal
 
 pub returns-in-Some-clause-tells : goal.returns-in-Some-clause-tells

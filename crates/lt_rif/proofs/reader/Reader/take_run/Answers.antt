@@ -1,4 +1,4 @@
-use Rattle.std.proofs.Common.{◌≡◌, ◌++◌, ap, refl, rules, arith}
+use Rattle.std.proofs.Common.{◌≡◌, ◌++◌, refl, rules, arith}
 use Rattle.lt_rif.proofs.ReadingLemmas.{run_more, run_full}
 use Rattle.lt_rif.proofs.reader.Reader.take_run.Goals as goal
 
