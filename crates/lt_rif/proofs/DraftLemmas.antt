@@ -1,9 +1,9 @@
 -- What words make of drafts.
 use Rattle.std.proofs.Common.{◌≡◌, ◌<◌, ◌+◌, false, List, [], ◌∷◌, length, drop, length-drop, arith}
 use Rattle.lt_rif.specs.Reply.{filled}
-use Rattle.lt_rif.specs.inner.Draft.{begun, StepsBy}
+use Rattle.lt_rif.specs.inner.Draft.{begun, HasEffect}
 use Rattle.lt_rif.specs.declared.draft.Draft.{Draft}
-use Rattle.lt_rif.specs.declared.draft.Step.TheVariants as step
+use Rattle.lt_rif.specs.declared.draft.Effect.TheVariants as effect
 use Rattle.lt_rif.specs.declared.slot.Slot.{Slot}
 use Rattle.lt_num.specs.declared.value.Value.{Value}
 
@@ -11,7 +11,7 @@ use Rattle.lt_num.specs.declared.value.Value.{Value}
 goes_on : (old new : Draft) (values : List Value) (left : List Slot) → 0 < length left
     → begun new ≡ record { decimals = old.decimals; slots = left; values = values; is_comment = false; taken = old.taken + length old.word.items + 1; place = old.place }
     → new.word.items ≡ [] → new.slots ≡ old.slots
-    → StepsBy (filled (begun old) old.word.items left values) old step.More new
+    → HasEffect (filled (begun old) old.word.items left values) old effect.More new
 goes_on old new values [] some e word slots = absurd (omega arith)
 goes_on old new values (s ∷ ss) some e word slots = (e, word, slots)
 
@@ -19,6 +19,6 @@ goes_on old new values (s ∷ ss) some e word slots = (e, word, slots)
 pub fills_more : (old new : Draft) (values : List Value) → old.filled + 1 < length old.slots.items
     → new.decimals ≡ old.decimals → new.filled ≡ old.filled + 1 → new.slots ≡ old.slots → new.values.items ≡ values → new.is_comment ≡ false
     → new.taken ≡ old.taken + length old.word.items + 1 → new.place ≡ old.place → new.word.items ≡ []
-    → StepsBy (filled (begun old) old.word.items (drop (old.filled + 1) old.slots.items) values) old step.More new
+    → HasEffect (filled (begun old) old.word.items (drop (old.filled + 1) old.slots.items) values) old effect.More new
 fills_more old new values few decimals filled slots kept comment taken place word =
     goes_on old new values (drop (old.filled + 1) old.slots.items) (omega (arith, length-drop (old.filled + 1) old.slots.items)) (cc) word slots

@@ -13,7 +13,7 @@ use Rattle.lt_num.specs.declared.kind.Kind.TheVariants as kind
 use Rattle.lt_num.specs.declared.value.Value.{Value}
 use Rattle.lt_num.specs.declared.value.Value.TheVariants as value
 use Rattle.lt_rif.specs.Enough.{IsSized, AreSized, AreLocalsSized, IsEndSized, names_length, HeaderFits, LineFits, StepFits, RoomIsEnough}
-use Rattle.lt_rif.specs.Trace.{Declaration, declared_text, kind_text, locals_header, decimals_of, value_text, value_words, local_words, locals_part, line, spaced, step_words, who_text, fault_text, refusal_text, end_words}
+use Rattle.lt_rif.specs.Trace.{DeclaredVariable, declared_text, kind_text, locals_header, decimals_of, value_text, value_words, local_words, locals_part, line, spaced, step_words, who_text, fault_text, refusal_text, end_words}
 use Rattle.lt_rif.specs.declared.end.End.{End}
 use Rattle.lt_rif.specs.declared.end.End.TheVariants as end
 use Rattle.lt_rif.specs.declared.end.Who.{Who}
@@ -30,17 +30,17 @@ kind-short kind.Bool = omega arith
 kind-short kind.Int = omega arith
 kind-short kind.Real = omega arith
 
-declared-length : (d : Declaration) → length (declared_text d) ≤ 8 + length d.name
+declared-length : (d : DeclaredVariable) → length (declared_text d) ≤ 8 + length d.name
 declared-length d =
     omega (arith, kind-short d.kind, length-append (codes " \"" ++ d.name ++ codes "\":") (kind_text d.kind), length-append (codes " \"" ++ d.name) (codes "\":"), length-append (codes " \"") d.name)
 
-declared-all : (ds : List Declaration) → length (flat_map declared_text ds) ≤ 8 * length ds + names_length ds
+declared-all : (ds : List DeclaredVariable) → length (flat_map declared_text ds) ≤ 8 * length ds + names_length ds
 declared-all [] = omega arith
 declared-all (d ∷ ds) =
     let rest = declared-all ds in
-    omega (arith, declared-length d, length-append (declared_text d) (flat_map declared_text ds), sum_by-cons (λ (v : Declaration). length v.name) d ds)
+    omega (arith, declared-length d, length-append (declared_text d) (flat_map declared_text ds), sum_by-cons (λ (v : DeclaredVariable). length v.name) d ds)
 
-locals-length : (locals : Option (List Declaration)) → length (locals_header locals) ≤ 8 + 8 * length (unwrap_or locals []) + names_length (unwrap_or locals [])
+locals-length : (locals : Option (List DeclaredVariable)) → length (locals_header locals) ≤ 8 + 8 * length (unwrap_or locals []) + names_length (unwrap_or locals [])
 locals-length None = omega arith
 locals-length (Some ds) = omega (arith, declared-all ds, length-append (codes "#locals" ++ flat_map declared_text ds) (10 ∷ []), length-append (codes "#locals") (flat_map declared_text ds))
 

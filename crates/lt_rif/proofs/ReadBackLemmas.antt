@@ -11,10 +11,10 @@ use Rattle.lt_num.specs.declared.value.Value.{Value}
 use Rattle.lt_num.specs.declared.value.Value.TheVariants as value
 use Rattle.lt_rif.specs.Cutting.{reply_then, replies_of}
 use Rattle.lt_rif.specs.Enough.{IsSized, AreLocalsSized}
-use Rattle.lt_rif.specs.ReadBack.{HoldAll, kinds_of, Step, IsStep, text_of_step, values_of_step, AreOnLines, AreSteps, HaveValues, half_longest, StepReadsBack, TraceReadsBack}
+use Rattle.lt_rif.specs.ReadBack.{HoldAll, kinds_of, WrittenStep, IsStep, text_of_step, values_of_step, AreOnLines, AreSteps, HaveValues, half_longest, StepReadsBack, TraceReadsBack}
 use Rattle.lt_rif.specs.Reply.{Reply, Stream, whole, longest, reply_of}
-use Rattle.lt_rif.specs.Spelling.{Part, outs, comment, part_text, IsPart, AreParts, gap_text, Field, field_text, fields_text, Writes, kept}
-use Rattle.lt_rif.specs.Trace.{Declaration, declared_text, header_text, kind_text, line, local_words, locals_header, locals_part, value_text, value_words}
+use Rattle.lt_rif.specs.Spelling.{Filler, outs, comment, filler_text, IsFiller, AreFillers, gap_text, Field, field_text, fields_text, Writes, kept}
+use Rattle.lt_rif.specs.Trace.{DeclaredVariable, declared_text, header_text, kind_text, line, local_words, locals_header, locals_part, value_text, value_words}
 use Rattle.lt_rif.specs.Word.{is_blank, meaning_of}
 use Rattle.lt_rif.specs.declared.slot.Slot.{Slot}
 use Rattle.lt_rif.specs.declared.word.Meaning.TheVariants as meaning
@@ -39,7 +39,7 @@ tail_fields (w ∷ []) last = record { gap = []; word = w; blank = last } ∷ []
 tail_fields (w ∷ v ∷ words) last = record { gap = []; word = w; blank = 32 } ∷ tail_fields (v ∷ words) last
 
 -- with more before the first
-abbrev with_gap : List Part → List Field → List Field
+abbrev with_gap : List Filler → List Field → List Field
 with_gap gap [] = []
 with_gap gap (f ∷ fields) = record { gap = gap ++ f.gap; word = f.word; blank = f.blank } ∷ fields
 
@@ -63,11 +63,11 @@ tail-text w (v ∷ words) last rest =
     ∙ sym (append_assoc w (32 ∷ []) (fields ++ rest))
     ∙ sym (append_assoc (w ++ 32 ∷ []) fields rest))
 
-gap-append : (xs ys : List Part) → gap_text (xs ++ ys) ≡ gap_text xs ++ gap_text ys
+gap-append : (xs ys : List Filler) → gap_text (xs ++ ys) ≡ gap_text xs ++ gap_text ys
 gap-append [] ys = refl
-gap-append (x ∷ xs) ys = ap (λ (t : List ℕ). part_text x ++ t) (gap-append xs ys) ∙ sym (append_assoc (part_text x) (gap_text xs) (gap_text ys))
+gap-append (x ∷ xs) ys = ap (λ (t : List ℕ). filler_text x ++ t) (gap-append xs ys) ∙ sym (append_assoc (filler_text x) (gap_text xs) (gap_text ys))
 
-gap-fields : (gap : List Part) (fields : List Field) → 0 < length fields → fields_text (with_gap gap fields) ≡ gap_text gap ++ fields_text fields
+gap-fields : (gap : List Filler) (fields : List Field) → 0 < length fields → fields_text (with_gap gap fields) ≡ gap_text gap ++ fields_text fields
 gap-fields gap [] some = absurd (omega arith)
 gap-fields gap (f ∷ fields) some =
     let behind = f.blank ∷ [] in
@@ -82,15 +82,15 @@ fields-append (x ∷ xs) ys = ap (λ (t : List ℕ). field_text x ++ t) (fields-
 
 -- ---- what they write
 
-parts-append : (xs ys : List Part) → AreParts xs → AreParts ys → AreParts (xs ++ ys)
-parts-append [] ys h k = k
-parts-append (x ∷ xs) ys h k = (h.0, parts-append xs ys h.1 k)
+fillers-append : (xs ys : List Filler) → AreFillers xs → AreFillers ys → AreFillers (xs ++ ys)
+fillers-append [] ys h k = k
+fillers-append (x ∷ xs) ys h k = (h.0, fillers-append xs ys h.1 k)
 
-writes-gap : (decimals : ℕ) (slots : List Slot) (gap : List Part) (fields : List Field) (values : List Value) → AreParts gap → Writes decimals slots fields values → Writes decimals slots (with_gap gap fields) values
+writes-gap : (decimals : ℕ) (slots : List Slot) (gap : List Filler) (fields : List Field) (values : List Value) → AreFillers gap → Writes decimals slots fields values → Writes decimals slots (with_gap gap fields) values
 writes-gap decimals [] gap [] [] are writes = tt
 writes-gap decimals (slot ∷ slots) gap (f ∷ fields) (v ∷ values) are writes =
     let is = writes.0 in
-    (record { gap = parts-append gap f.gap are is.gap; word = is.word; meaning = is.meaning; blank = is.blank }, writes.1, writes.2)
+    (record { gap = fillers-append gap f.gap are is.gap; word = is.word; meaning = is.meaning; blank = is.blank }, writes.1, writes.2)
 writes-gap decimals slots gap fields values are writes = absurd writes
 
 writes-append : (decimals : ℕ) (first : List Slot) (slots : List Slot) (front fields : List Field) (start values : List Value) → Writes decimals first front start → Writes decimals slots fields values
@@ -147,7 +147,7 @@ kept-append (s ∷ first) slots [] values holds = absurd holds
 -- ---- the step
 
 -- its first line is a comment
-step-comment : (step : ℕ) → step < 2 ^ 64 → IsPart (comment (codes "#step " ++ decimal step))
+step-comment : (step : ℕ) → step < 2 ^ 64 → IsFiller (comment (codes "#step " ++ decimal step))
 unfolding meaning_of
 step-comment step small = (
   ap meaning_of (part-at is_blank (codes "#step") 32 (decimal step) refl refl).0,
@@ -196,7 +196,7 @@ word-then w (v ∷ words) none =
     ∙ (part-at is_blank w 32 (v ++ behind_space words) none refl).0
 
 -- the part of the locals, as a comment
-locals-comment : (decimals : ℕ) (kinds : List Kind) (locals : List (Option Value)) → AreLocalsSized locals → IsPart (comment (codes "#locs" ++ behind_space (local_words decimals kinds locals)))
+locals-comment : (decimals : ℕ) (kinds : List Kind) (locals : List (Option Value)) → AreLocalsSized locals → IsFiller (comment (codes "#locs" ++ behind_space (local_words decimals kinds locals)))
 unfolding meaning_of
 locals-comment decimals kinds locals sized =
     (ap meaning_of (word-then (codes "#locs") (local_words decimals kinds locals) refl), locals-none decimals kinds locals sized)
@@ -204,9 +204,9 @@ locals-comment decimals kinds locals sized =
 -- what stands behind the values: a blank, and what may stand between values
 pub record Tail (decimals : ℕ) (kinds : List Kind) (locals : Option (List (Option Value))) : Type 0 where
   pub blank : ℕ
-  pub parts : List Part
+  pub parts : List Filler
   pub is_blank_byte : is_blank blank ≡ true
-  pub are : AreParts parts
+  pub are : AreFillers parts
   pub text : behind_space (locals_part decimals kinds locals) ++ 10 ∷ [] ≡ blank ∷ gap_text parts
 
 tail-of : (decimals : ℕ) (kinds : List Kind) (locals : Option (List (Option Value))) → AreLocalsSized (unwrap_or locals []) → Tail decimals kinds locals
@@ -226,12 +226,12 @@ tail-some : (w : List ℕ) (words : List (List ℕ)) (last : ℕ) → 0 < length
 tail-some w [] last = omega arith
 tail-some w (v ∷ words) last = omega arith
 
-gap-some : (gap : List Part) (fields : List Field) → 0 < length fields → 0 < length (with_gap gap fields)
+gap-some : (gap : List Filler) (fields : List Field) → 0 < length fields → 0 < length (with_gap gap fields)
 gap-some gap [] some = some
 gap-some gap (f ∷ fields) some = omega arith
 
 -- the text of a step, with inputs ..
-step-inputs : (first words : List (List ℕ)) (w part begins : List ℕ) (blank : ℕ) (rest : List ℕ) (gap : List Part) → part ++ 10 ∷ [] ≡ blank ∷ rest → begins ≡ gap_text gap
+step-inputs : (first words : List (List ℕ)) (w part begins : List ℕ) (blank : ℕ) (rest : List ℕ) (gap : List Filler) → part ++ 10 ∷ [] ≡ blank ∷ rest → begins ≡ gap_text gap
     → begins ++ (before_space first ++ codes "#outs" ++ behind_space (w ∷ words) ++ part ++ 10 ∷ [])
     ≡ fields_text (with_gap gap (head_fields first ++ with_gap (outs 32 ∷ []) (tail_fields (w ∷ words) blank))) ++ rest
 step-inputs first words w part begins blank rest gap ends begin =
@@ -263,7 +263,7 @@ step-inputs first words w part begins blank rest gap ends begin =
     ∙ ap (λ (t : List ℕ). gap_text gap ++ t) (append_assoc before (mark_space ++ text) rest ∙ ap (λ (t : List ℕ). before ++ t) (append_assoc mark_space text rest)))
 
 -- .. and without
-step-outputs : (w : List ℕ) (words : List (List ℕ)) (part begins : List ℕ) (gap : List Part) → begins ≡ gap_text gap
+step-outputs : (w : List ℕ) (words : List (List ℕ)) (part begins : List ℕ) (gap : List Filler) → begins ≡ gap_text gap
     → begins ++ (before_space (w ∷ words) ++ codes "#outs" ++ [] ++ part ++ 10 ∷ [])
     ≡ fields_text (with_gap gap (head_fields (w ∷ words) ++ [])) ++ (codes "#outs" ++ (part ++ 10 ∷ []))
 step-outputs w words part begins gap begin =
@@ -283,14 +283,14 @@ step-outputs w words part begins gap begin =
 -- what is read of a step
 record StepRead (decimals place : ℕ) (slots : List Slot) (values : List Value) (front text rest : List ℕ) (closed : Bool) : Type 0 where
   count : ℕ
-  behind : List Part
-  are : AreParts behind
+  behind : List Filler
+  are : AreFillers behind
   short : length (gap_text behind) ≤ length text
   is_read : reply_of decimals slots (record { place = place; bytes = (front ++ text) ++ rest; is_closed = closed }) ≡ whole values (record { place = place + count; bytes = gap_text behind ++ rest; is_closed = closed })
 
 -- a text that begins with fields, of which the first has more before it
-read-from : (decimals place : ℕ) (slots : List Slot) (values : List Value) (gap : List Part) (fields : List Field) (front text rest : List ℕ) (behind : List Part) (closed : Bool)
-    → Writes decimals slots (with_gap gap fields) values → 0 < length fields → front ++ text ≡ fields_text (with_gap gap fields) ++ gap_text behind → length front ≤ length (gap_text gap) → AreParts behind → length (front ++ text) ≤ longest
+read-from : (decimals place : ℕ) (slots : List Slot) (values : List Value) (gap : List Filler) (fields : List Field) (front text rest : List ℕ) (behind : List Filler) (closed : Bool)
+    → Writes decimals slots (with_gap gap fields) values → 0 < length fields → front ++ text ≡ fields_text (with_gap gap fields) ++ gap_text behind → length front ≤ length (gap_text gap) → AreFillers behind → length (front ++ text) ≤ longest
     → StepRead decimals place slots (kept slots values) front text rest closed
 read-from decimals place slots values gap fields front text rest behind closed writes some is before are short =
     let read = fields_text (with_gap gap fields) in
@@ -308,8 +308,8 @@ read-from decimals place slots values gap fields front text rest behind closed w
     }
 
 -- by its words
-words-read : (decimals step place : ℕ) (outputs_slots inputs_slots : List Slot) (outputs inputs : List Value) (kinds : List Kind) (locals : Option (List (Option Value))) (before : List Part) (rest : List ℕ) (closed : Bool)
-    → decimals ≤ 6 → step < 2 ^ 64 → HoldAll outputs_slots outputs → HoldAll inputs_slots inputs → AreLocalsSized (unwrap_or locals []) → AreParts before → 0 < length (outputs_slots ++ inputs_slots) → (text : List ℕ)
+words-read : (decimals step place : ℕ) (outputs_slots inputs_slots : List Slot) (outputs inputs : List Value) (kinds : List Kind) (locals : Option (List (Option Value))) (before : List Filler) (rest : List ℕ) (closed : Bool)
+    → decimals ≤ 6 → step < 2 ^ 64 → HoldAll outputs_slots outputs → HoldAll inputs_slots inputs → AreLocalsSized (unwrap_or locals []) → AreFillers before → 0 < length (outputs_slots ++ inputs_slots) → (text : List ℕ)
     → text ≡ line (codes "#step " ++ decimal step)
     ++ (before_space (value_words decimals (kinds_of outputs_slots) outputs) ++ codes "#outs" ++ behind_space (value_words decimals (kinds_of inputs_slots) inputs) ++ behind_space (locals_part decimals kinds locals) ++ 10 ∷ [])
     → length (gap_text before ++ text) ≤ longest → StepRead decimals place (outputs_slots ++ inputs_slots) (kept (outputs_slots ++ inputs_slots) (outputs ++ inputs)) (gap_text before) text rest closed
@@ -326,7 +326,7 @@ words-read decimals step place outputs_slots (slot ∷ slots) outputs (v ∷ val
     let behind = before_space first ++ codes "#outs" ++ behind_space (w ∷ words) ++ behind_space (locals_part decimals kinds locals) ++ 10 ∷ [] in
     let front : gap_text before ++ begins ≡ gap_text gap = sym (gap-append before start ∙ ap (λ (t : List ℕ). gap_text before ++ t) (append-nil begins)) in
     read-from decimals place (outputs_slots ++ slot ∷ slots) (outputs ++ v ∷ values) gap fields (gap_text before) text rest tail.parts closed
-    (writes-gap decimals (outputs_slots ++ slot ∷ slots) gap fields (outputs ++ v ∷ values) (parts-append before start are (step-comment step small, tt))
+    (writes-gap decimals (outputs_slots ++ slot ∷ slots) gap fields (outputs ++ v ∷ values) (fillers-append before start are (step-comment step small, tt))
     (writes-append decimals outputs_slots (slot ∷ slots) (head_fields first) marked outputs (v ∷ values) (writes-head decimals outputs_slots outputs few outputs_hold)
     (writes-gap decimals (slot ∷ slots) (outs 32 ∷ []) (tail_fields (w ∷ words) tail.blank) (v ∷ values) (refl, tt) (writes-tail decimals tail.blank (slot ∷ slots) (v ∷ values) few tail.is_blank_byte inputs_hold))))
     (omega (arith, length-append (head_fields first) marked, gap-some (outs 32 ∷ []) (tail_fields (w ∷ words) tail.blank) (tail-some w words tail.blank)))
@@ -345,7 +345,7 @@ words-read decimals step place (slot ∷ slots) [] (v ∷ values) [] kinds local
     let front : gap_text before ++ begins ≡ gap_text gap = sym (gap-append before start ∙ ap (λ (t : List ℕ). gap_text before ++ t) (append-nil begins)) in
     let left : codes "#outs" ++ (part ++ 10 ∷ []) ≡ gap_text (outs tail.blank ∷ tail.parts) = ap (λ (t : List ℕ). codes "#outs" ++ t) tail.text in
     read-from decimals place ((slot ∷ slots) ++ []) ((v ∷ values) ++ []) gap fields (gap_text before) text rest (outs tail.blank ∷ tail.parts) closed
-    (writes-gap decimals ((slot ∷ slots) ++ []) gap fields ((v ∷ values) ++ []) (parts-append before start are (step-comment step small, tt))
+    (writes-gap decimals ((slot ∷ slots) ++ []) gap fields ((v ∷ values) ++ []) (fillers-append before start are (step-comment step small, tt))
     (writes-append decimals (slot ∷ slots) [] (head_fields (w ∷ words)) [] (v ∷ values) [] (writes-head decimals (slot ∷ slots) (v ∷ values) few outputs_hold) tt))
     (omega arith)
     (ap (λ (t : List ℕ). gap_text before ++ t) is ∙ sym (append_assoc (gap_text before) begins behind) ∙ step-outputs w words part (gap_text before ++ begins) gap front
@@ -357,8 +357,8 @@ words-read decimals step place outputs_slots [] outputs (v ∷ values) kinds loc
 words-read decimals step place outputs_slots (slot ∷ slots) outputs [] kinds locals before rest closed few small outputs_hold inputs_hold sized are some text is short = absurd inputs_hold
 
 -- by its text
-step-read : (decimals place : ℕ) (outputs_slots inputs_slots : List Slot) (step : Step) (kinds : List Kind) (before : List Part) (rest : List ℕ) (closed : Bool)
-    → decimals ≤ 6 → 0 < length (outputs_slots ++ inputs_slots) → IsStep outputs_slots inputs_slots step → AreParts before → length (gap_text before ++ text_of_step decimals outputs_slots inputs_slots kinds step) ≤ longest
+step-read : (decimals place : ℕ) (outputs_slots inputs_slots : List Slot) (step : WrittenStep) (kinds : List Kind) (before : List Filler) (rest : List ℕ) (closed : Bool)
+    → decimals ≤ 6 → 0 < length (outputs_slots ++ inputs_slots) → IsStep outputs_slots inputs_slots step → AreFillers before → length (gap_text before ++ text_of_step decimals outputs_slots inputs_slots kinds step) ≤ longest
     → StepRead decimals place (outputs_slots ++ inputs_slots) (kept (outputs_slots ++ inputs_slots) (step.outputs ++ step.inputs)) (gap_text before) (text_of_step decimals outputs_slots inputs_slots kinds step) rest closed
 step-read decimals place outputs_slots inputs_slots step kinds before rest closed few some is are short =
     let outputs = step.outputs in
@@ -387,8 +387,8 @@ step_reads_back decimals place outputs_slots inputs_slots step kinds before rest
 
 -- ---- steps, one behind another
 
-steps-read : (decimals : ℕ) (outputs_slots inputs_slots : List Slot) (kinds : List Kind) (steps : List Step) (place : ℕ) (before : List Part) (rest : List ℕ) (closed : Bool)
-    → decimals ≤ 6 → 0 < length (outputs_slots ++ inputs_slots) → AreSteps decimals outputs_slots inputs_slots kinds steps → AreParts before → length (gap_text before) ≤ half_longest
+steps-read : (decimals : ℕ) (outputs_slots inputs_slots : List Slot) (kinds : List Kind) (steps : List WrittenStep) (place : ℕ) (before : List Filler) (rest : List ℕ) (closed : Bool)
+    → decimals ≤ 6 → 0 < length (outputs_slots ++ inputs_slots) → AreSteps decimals outputs_slots inputs_slots kinds steps → AreFillers before → length (gap_text before) ≤ half_longest
     → HaveValues
     (replies_of (length steps) decimals (outputs_slots ++ inputs_slots) (record { place = place; bytes = gap_text before ++ (flat_map (text_of_step decimals outputs_slots inputs_slots kinds) steps ++ rest); is_closed = closed }))
     (map (values_of_step outputs_slots inputs_slots) steps)
@@ -417,7 +417,7 @@ kind-none kind.Bool = refl
 kind-none kind.Int = refl
 kind-none kind.Real = refl
 
-declared-none : (ds : List Declaration) → AreOnLines ds → list_any (λ b. b == 10) (flat_map declared_text ds) ≡ false
+declared-none : (ds : List DeclaredVariable) → AreOnLines ds → list_any (λ b. b == 10) (flat_map declared_text ds) ≡ false
 declared-none [] are = refl
 declared-none (d ∷ ds) are =
     none-append (declared_text d) (flat_map declared_text ds)
@@ -427,14 +427,14 @@ declared-none (d ∷ ds) are =
     (declared-none ds are.1)
 
 -- a first word, and what is declared behind it
-declared-then : (w : List ℕ) (ds : List Declaration) → list_any is_blank w ≡ false → before_first is_blank (w ++ flat_map declared_text ds) ≡ w
+declared-then : (w : List ℕ) (ds : List DeclaredVariable) → list_any is_blank w ≡ false → before_first is_blank (w ++ flat_map declared_text ds) ≡ w
 declared-then w [] none = ap (before_first is_blank) (append-nil w) ∙ (part-none is_blank w none).0
 declared-then w (d ∷ ds) none = (part-at is_blank w 32 _ none refl).0
 
-declared-comment : (w : List ℕ) (ds : List Declaration) → list_any is_blank w ≡ false → list_any (λ b. b == 10) w ≡ false → meaning_of w ≡ meaning.Comment → AreOnLines ds → IsPart (comment (w ++ flat_map declared_text ds))
+declared-comment : (w : List ℕ) (ds : List DeclaredVariable) → list_any is_blank w ≡ false → list_any (λ b. b == 10) w ≡ false → meaning_of w ≡ meaning.Comment → AreOnLines ds → IsFiller (comment (w ++ flat_map declared_text ds))
 declared-comment w ds none no_feed means are = (ap meaning_of (declared-then w ds none) ∙ means, none-append w (flat_map declared_text ds) no_feed (declared-none ds are))
 
-seed-comment : (seed : ℕ) → seed < 2 ^ 64 → IsPart (comment (codes "#seed " ++ decimal seed))
+seed-comment : (seed : ℕ) → seed < 2 ^ 64 → IsFiller (comment (codes "#seed " ++ decimal seed))
 unfolding meaning_of
 seed-comment seed small = (
   ap meaning_of (part-at is_blank (codes "#seed") 32 (decimal seed) refl refl).0,
@@ -443,18 +443,18 @@ seed-comment seed small = (
 
 -- a header as parts that may stand between values
 record HeaderParts (text : List ℕ) : Type 0 where
-  parts : List Part
-  are : AreParts parts
+  parts : List Filler
+  are : AreFillers parts
   is : text ≡ gap_text parts
 
-locals-parts : (locals : Option (List Declaration)) → AreOnLines (unwrap_or locals []) → HeaderParts (locals_header locals)
+locals-parts : (locals : Option (List DeclaredVariable)) → AreOnLines (unwrap_or locals []) → HeaderParts (locals_header locals)
 unfolding meaning_of
 locals-parts None are = record { parts = []; are = tt; is = refl }
 locals-parts (Some ds) are =
     let text = codes "#locals" ++ flat_map declared_text ds in
     record { parts = comment text ∷ []; are = (declared-comment (codes "#locals") ds refl refl refl are, tt); is = sym (append-nil (line text)) }
 
-header-parts : (seed : ℕ) (outputs inputs : List Declaration) (locals : Option (List Declaration)) → seed < 2 ^ 64 → AreOnLines outputs → AreOnLines inputs → AreOnLines (unwrap_or locals []) → HeaderParts (header_text seed outputs inputs locals)
+header-parts : (seed : ℕ) (outputs inputs : List DeclaredVariable) (locals : Option (List DeclaredVariable)) → seed < 2 ^ 64 → AreOnLines outputs → AreOnLines inputs → AreOnLines (unwrap_or locals []) → HeaderParts (header_text seed outputs inputs locals)
 unfolding meaning_of
 header-parts seed outputs inputs locals small outputs_are inputs_are locals_are =
     let rest = locals-parts locals locals_are in

@@ -7,10 +7,10 @@ use Rattle.lt_num.specs.declared.value.Value.{Value}
 use Rattle.lt_rif.specs.Word.{is_blank, word, words_of}
 use Rattle.lt_rif.specs.Reply.{longest, Stream, Reply, whole, needs, short, malformed, Begun, Progress, more, done, refused, filled, after_word, go_on, stop, reply_in, reply_of, beginning}
 use Rattle.lt_rif.specs.Reading.{Reading, between, found, answer, FedTells, ClosingTells}
-use Rattle.lt_rif.specs.inner.Draft.{StepsBy, begun, looked, filled_with}
+use Rattle.lt_rif.specs.inner.Draft.{HasEffect, begun, looked, filled_with}
 use Rattle.lt_rif.specs.inner.Open.{open_at}
 use Rattle.lt_rif.specs.declared.draft.Draft.{Draft}
-use Rattle.lt_rif.specs.declared.draft.Step.TheVariants as step
+use Rattle.lt_rif.specs.declared.draft.Effect.TheVariants as effect
 use Rattle.lt_rif.specs.declared.draft.Look.TheVariants as look
 use Rattle.lt_rif.specs.declared.reader.Fed.TheVariants as fed
 use Rattle.lt_rif.specs.declared.reader.Closing.TheVariants as closing
@@ -92,41 +92,41 @@ run_full d run new values some none full e = (
   λ bytes closed. refused_answer new (record { fault = fault.TooLong; place = d.place }) bytes closed e,
 )
 
--- what a step leaves
-steps_text : (p : Progress) (d new : Draft) → StepsBy p d step.More new → new.word.items ≡ []
-steps_text (more r) d new e = e.1
-steps_text (done values) d new e = absurd e
-steps_text (refused f place) d new e = absurd e
+-- what is left where a reply goes on
+effect_text : (p : Progress) (d new : Draft) → HasEffect p d effect.More new → new.word.items ≡ []
+effect_text (more r) d new e = e.1
+effect_text (done values) d new e = absurd e
+effect_text (refused f place) d new e = absurd e
 
-steps_slots : (p : Progress) (d new : Draft) → StepsBy p d step.More new → new.slots ≡ d.slots
-steps_slots (more r) d new e = e.2
-steps_slots (done values) d new e = absurd e
-steps_slots (refused f place) d new e = absurd e
+effect_slots : (p : Progress) (d new : Draft) → HasEffect p d effect.More new → new.slots ≡ d.slots
+effect_slots (more r) d new e = e.2
+effect_slots (done values) d new e = absurd e
+effect_slots (refused f place) d new e = absurd e
 
--- what a last step leaves
-done_ends : (p : Progress) (d new : Draft) → StepsBy p d step.Done new
+-- what is left where a reply is whole
+done_ends : (p : Progress) (d new : Draft) → HasEffect p d effect.Done new
     → (new.slots ≡ d.slots) × (new.place ≡ d.place) × (new.taken ≡ d.taken + length d.word.items + 1) × (new.decimals ≡ d.decimals)
 done_ends (more r) d new e = absurd e
 done_ends (done values) d new e = (e.1, e.2, e.3, e.4)
 done_ends (refused f place) d new e = absurd e
 
 -- a word that leaves a reply that goes on
-step_more : (p : Progress) (d new : Draft) (left : Stream) (go : Begun → Reply) → StepsBy p d step.More new → go_on p left go ≡ go (begun new)
-step_more (more r) d new left go e = ap go (sym e.0)
-step_more (done values) d new left go e = absurd e
-step_more (refused f place) d new left go e = absurd e
+effect_more : (p : Progress) (d new : Draft) (left : Stream) (go : Begun → Reply) → HasEffect p d effect.More new → go_on p left go ≡ go (begun new)
+effect_more (more r) d new left go e = ap go (sym e.0)
+effect_more (done values) d new left go e = absurd e
+effect_more (refused f place) d new left go e = absurd e
 
 -- a word that makes a reply whole
-step_done : (p : Progress) (d new : Draft) (left : Stream) (go : Begun → Reply) → StepsBy p d step.Done new → go_on p left go ≡ whole new.values.items left
-step_done (more r) d new left go e = absurd e
-step_done (done values) d new left go e = ap (λ (vs : List Value). whole vs left) (sym e.0)
-step_done (refused f place) d new left go e = absurd e
+effect_done : (p : Progress) (d new : Draft) (left : Stream) (go : Begun → Reply) → HasEffect p d effect.Done new → go_on p left go ≡ whole new.values.items left
+effect_done (more r) d new left go e = absurd e
+effect_done (done values) d new left go e = ap (λ (vs : List Value). whole vs left) (sym e.0)
+effect_done (refused f place) d new left go e = absurd e
 
 -- a word that is refused
-step_refused : (p : Progress) (d new : Draft) (f : ValueFault) (left : Stream) (go : Begun → Reply) → StepsBy p d (step.Refused f) new → go_on p left go ≡ malformed f (new.place + new.taken)
-step_refused (more r) d new f left go e = absurd e
-step_refused (done values) d new f left go e = absurd e
-step_refused (refused g place) d new f left go e = cc
+effect_refused : (p : Progress) (d new : Draft) (f : ValueFault) (left : Stream) (go : Begun → Reply) → HasEffect p d (effect.Refused f) new → go_on p left go ≡ malformed f (new.place + new.taken)
+effect_refused (more r) d new f left go e = absurd e
+effect_refused (done values) d new f left go e = absurd e
+effect_refused (refused g place) d new f left go e = cc
 
 -- what a reader finds, where its state is another one's
 same_found : (a b : Reading) (bytes : List ℕ) (closed : Bool) → a ≡ b → found a.slots a.refusal a.begun a.text bytes closed ≡ found b.slots b.refusal b.begun b.text bytes closed
@@ -134,37 +134,37 @@ same_found a b bytes closed e = ap (λ (r : Reading). found r.slots r.refusal r.
 
 -- a blank behind which the reply goes on
 pub blank_more : (d new : Draft) (b : ℕ) (r : Reading) (values : List Value) → 0 < length d.slots.items → is_blank b ≡ true → d.taken + length d.word.items < longest
-    → StepsBy (after_word (begun d) d.word.items (b == 10)) d step.More new → new.taken + length new.word.items < longest → r ≡ open_at new
+    → HasEffect (after_word (begun d) d.word.items (b == 10)) d effect.More new → new.taken + length new.word.items < longest → r ≡ open_at new
     → FedTells (open_at d) (b ∷ []) fed.More r values
 unfolding answer
 blank_more d new b r values some blank small e room is =
-    let text : new.word.items ≡ [] = steps_text (after_word (begun d) d.word.items (b == 10)) d new e in
-    let slots : new.slots ≡ d.slots = steps_slots (after_word (begun d) d.word.items (b == 10)) d new e in
+    let text : new.word.items ≡ [] = effect_text (after_word (begun d) d.word.items (b == 10)) d new e in
+    let slots : new.slots ≡ d.slots = effect_slots (after_word (begun d) d.word.items (b == 10)) d new e in
     let behind : (bytes : List ℕ) (closed : Bool) → found d.slots.items None (begun new) [] bytes closed ≡ found r.slots r.refusal r.begun r.text bytes closed =
     λ bytes closed. sym (same_found r (record { slots = d.slots.items; begun = begun new; text = []; refusal = None }) bytes closed (is ∙ (cc))) in (
       λ bytes closed. blank_found d.slots.items (begun d) d.word.items bytes b closed some small blank
-          ∙ step_more (after_word (begun d) d.word.items (b == 10)) d new _ _ e
+          ∙ effect_more (after_word (begun d) d.word.items (b == 10)) d new _ _ e
           ∙ behind bytes closed,
       sym (behind [] false) ∙ needs_found d.slots.items (begun new) [] some (omega arith),
     )
 
 -- a blank behind which the reply is too long
 pub blank_full : (d new : Draft) (b : ℕ) (r : Reading) (values : List Value) → 0 < length d.slots.items → is_blank b ≡ true → d.taken + length d.word.items < longest
-    → StepsBy (after_word (begun d) d.word.items (b == 10)) d step.More new → longest ≤ new.taken + length new.word.items → new.place ≡ d.place
+    → HasEffect (after_word (begun d) d.word.items (b == 10)) d effect.More new → longest ≤ new.taken + length new.word.items → new.place ≡ d.place
     → r.refusal ≡ Some (record { fault = fault.TooLong; place = new.place })
     → FedTells (open_at d) (b ∷ []) (fed.Malformed fault.TooLong new.place) r values
 unfolding answer
 blank_full d new b r values some blank small e full place is =
-    let text : new.word.items ≡ [] = steps_text (after_word (begun d) d.word.items (b == 10)) d new e in (
+    let text : new.word.items ≡ [] = effect_text (after_word (begun d) d.word.items (b == 10)) d new e in (
       λ bytes closed. blank_found d.slots.items (begun d) d.word.items bytes b closed some small blank
-          ∙ step_more (after_word (begun d) d.word.items (b == 10)) d new _ _ e
+          ∙ effect_more (after_word (begun d) d.word.items (b == 10)) d new _ _ e
           ∙ full_found d.slots.items (begun new) [] bytes closed some (omega (arith, ap (λ (xs : List ℕ). length xs) text)),
       λ bytes closed. refused_answer r (record { fault = fault.TooLong; place = new.place }) bytes closed is,
     )
 
 -- a blank that makes the reply whole
 pub blank_done : (d new : Draft) (b : ℕ) (r : Reading) (values : List Value) → 0 < length d.slots.items → is_blank b ≡ true → d.taken + length d.word.items < longest
-    → StepsBy (after_word (begun d) d.word.items (b == 10)) d step.Done new → values ≡ new.values.items → r ≡ between new.decimals new.slots.items (new.place + new.taken)
+    → HasEffect (after_word (begun d) d.word.items (b == 10)) d effect.Done new → values ≡ new.values.items → r ≡ between new.decimals new.slots.items (new.place + new.taken)
     → FedTells (open_at d) (b ∷ []) (fed.Whole 1) r values
 unfolding answer
 blank_done d new b r values some blank small e kept is =
@@ -175,20 +175,20 @@ blank_done d new b r values some blank small e kept is =
     let at_word : d.place + d.taken + length d.word.items + 1 ≡ r.begun.place = omega (arith, ends.1, ends.2, at) in (
       omega arith,
       λ bytes closed. blank_found d.slots.items (begun d) d.word.items bytes b closed some small blank
-          ∙ step_done (after_word (begun d) d.word.items (b == 10)) d new _ _ e
+          ∙ effect_done (after_word (begun d) d.word.items (b == 10)) d new _ _ e
           ∙ cc,
       is ∙ cc,
     )
 
 -- a blank behind a word that is refused
 pub blank_refused : (d new : Draft) (b : ℕ) (f : ValueFault) (r : Reading) (values : List Value) → 0 < length d.slots.items → is_blank b ≡ true → d.taken + length d.word.items < longest
-    → StepsBy (after_word (begun d) d.word.items (b == 10)) d (step.Refused f) new
+    → HasEffect (after_word (begun d) d.word.items (b == 10)) d (effect.Refused f) new
     → r.refusal ≡ Some (record { fault = f; place = new.place + new.taken })
     → FedTells (open_at d) (b ∷ []) (fed.Malformed f (new.place + new.taken)) r values
 unfolding answer
 blank_refused d new b f r values some blank small e is = (
   λ bytes closed. blank_found d.slots.items (begun d) d.word.items bytes b closed some small blank
-      ∙ step_refused (after_word (begun d) d.word.items (b == 10)) d new f _ _ e,
+      ∙ effect_refused (after_word (begun d) d.word.items (b == 10)) d new f _ _ e,
   λ bytes closed. refused_answer r (record { fault = f; place = new.place + new.taken }) bytes closed is,
 )
 

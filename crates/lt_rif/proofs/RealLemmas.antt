@@ -7,7 +7,7 @@ use Rattle.std.proofs.lemmas.Bool.{le-leb, lt-leb, leb-true}
 use Rattle.std.proofs.lemmas.List.{drop_all}
 use Rattle.std.proofs.lemmas.Nat.{pow-add}
 use Rattle.std.proofs.Math.Nat.{div-eq_of_lt, mul-le-mul_right}
-use Rattle.lt_num.specs.Answer.{most}
+use Rattle.lt_num.specs.Bounds.{most_raw}
 use Rattle.lt_num.specs.Rounding.{with_sign, nearest}
 use Rattle.lt_rif.specs.Judgement.{bounded_raw}
 use Rattle.lt_rif.specs.Number.{is_digits, is_exponent, is_mark, number_of, whole_part, decimal_part, exponent_part, places_right, places_left, real_numerator, real_written}
@@ -129,5 +129,5 @@ size-signed true zero = refl
 size-signed true (suc n) = refl
 
 -- a raw number past the bound is out of range
-pub past-bound : (negative : Bool) (n : ℕ) → most < n → Err fault.OutOfRange ≡ bounded_raw (Some (with_sign negative n))
-past-bound negative n large = rw (size-signed negative n, lt-leb n most large) refl
+pub past-bound : (negative : Bool) (n : ℕ) → most_raw < n → Err fault.OutOfRange ≡ bounded_raw (Some (with_sign negative n))
+past-bound negative n large = rw (size-signed negative n, lt-leb n most_raw large) refl

@@ -6,7 +6,7 @@ use Rattle.std.proofs.lemmas.Grind.{common_steps}
 use Rattle.lt_num.specs.declared.value.Value.{Value}
 use Rattle.lt_rif.specs.Judgement.{judged}
 use Rattle.lt_rif.specs.Reply.{Stream, whole, longest, Begun, after_word, filled, go_on, reply_in, with_meaning, with_value, with_judged}
-use Rattle.lt_rif.specs.Spelling.{Part, blank, outs, comment, part_text, IsPart, AreParts, gap_text, Field, field_text, IsField, Writes, fields_text, kept, SpellingIsRead}
+use Rattle.lt_rif.specs.Spelling.{Filler, blank, outs, comment, filler_text, IsFiller, AreFillers, gap_text, Field, field_text, IsField, Writes, fields_text, kept, SpellingIsRead}
 use Rattle.lt_rif.specs.Word.{is_blank, meaning_of, words_of}
 use Rattle.lt_rif.specs.declared.fault.ValueFault.{ValueFault}
 use Rattle.lt_rif.specs.declared.slot.Slot.{Slot}
@@ -88,33 +88,33 @@ comment-first closed decimals slots values place (b ∷ text) taken front bytes 
 
 -- ---- what stands between values
 
-part-passed : (closed : Bool) (decimals : ℕ) (slots : List Slot) (values : List Value) (place taken : ℕ) (part : Part) (bytes : List ℕ) → IsPart part → taken + length (part_text part) ≤ longest
-    → reply_in closed (at decimals slots values place false taken) (words_of [] (part_text part ++ bytes))
-    ≡ reply_in closed (at decimals slots values place false (taken + length (part_text part))) (words_of [] bytes)
+filler-passed : (closed : Bool) (decimals : ℕ) (slots : List Slot) (values : List Value) (place taken : ℕ) (part : Filler) (bytes : List ℕ) → IsFiller part → taken + length (filler_text part) ≤ longest
+    → reply_in closed (at decimals slots values place false taken) (words_of [] (filler_text part ++ bytes))
+    ≡ reply_in closed (at decimals slots values place false (taken + length (filler_text part))) (words_of [] bytes)
 unfolding meaning_of
-part-passed closed decimals slots values place taken (blank b) bytes is short =
+filler-passed closed decimals slots values place taken (blank b) bytes is short =
     word-on closed (at decimals slots values place false taken) [] b bytes is (omega arith)
     ∙ ap (λ (n : ℕ). reply_in closed (at decimals slots values place false n) (words_of [] bytes)) {x = taken + 0 + 1} {y = taken + 1} (omega arith)
-part-passed closed decimals slots values place taken (outs b) bytes is short =
+filler-passed closed decimals slots values place taken (outs b) bytes is short =
     word-on closed (at decimals slots values place false taken) (codes "#outs") b bytes is (omega arith)
     ∙ ap (λ (n : ℕ). reply_in closed (at decimals slots values place false n) (words_of [] bytes)) {x = taken + 5 + 1} {y = taken + 6} (omega arith)
-part-passed closed decimals slots values place taken (comment text) bytes is short =
+filler-passed closed decimals slots values place taken (comment text) bytes is short =
     let longer = length-append text (10 ∷ []) in
     ap (λ (t : List ℕ). reply_in closed (at decimals slots values place false taken) (words_of [] t)) (append_assoc text (10 ∷ []) bytes)
     ∙ comment-first closed decimals slots values place text taken [] bytes is.0 is.1 (omega arith)
     ∙ ap (λ (n : ℕ). reply_in closed (at decimals slots values place false n) (words_of [] bytes)) {x = taken + 0 + length text + 1} {y = taken + length (text ++ 10 ∷ [])} (omega arith)
 
-gap-passed : (closed : Bool) (decimals : ℕ) (slots : List Slot) (values : List Value) (place : ℕ) (gap : List Part) (taken : ℕ) (bytes : List ℕ) → AreParts gap → taken + length (gap_text gap) ≤ longest
+gap-passed : (closed : Bool) (decimals : ℕ) (slots : List Slot) (values : List Value) (place : ℕ) (gap : List Filler) (taken : ℕ) (bytes : List ℕ) → AreFillers gap → taken + length (gap_text gap) ≤ longest
     → reply_in closed (at decimals slots values place false taken) (words_of [] (gap_text gap ++ bytes))
     ≡ reply_in closed (at decimals slots values place false (taken + length (gap_text gap))) (words_of [] bytes)
 gap-passed closed decimals slots values place [] taken bytes are short =
     ap (λ (n : ℕ). reply_in closed (at decimals slots values place false n) (words_of [] bytes)) {x = taken} {y = taken + 0} (omega arith)
 gap-passed closed decimals slots values place (part ∷ gap) taken bytes are short =
-    let longer = length-append (part_text part) (gap_text gap) in
-    ap (λ (t : List ℕ). reply_in closed (at decimals slots values place false taken) (words_of [] t)) (append_assoc (part_text part) (gap_text gap) bytes)
-    ∙ part-passed closed decimals slots values place taken part (gap_text gap ++ bytes) are.0 (omega arith)
-    ∙ gap-passed closed decimals slots values place gap (taken + length (part_text part)) bytes are.1 (omega arith)
-    ∙ ap (λ (n : ℕ). reply_in closed (at decimals slots values place false n) (words_of [] bytes)) {x = taken + length (part_text part) + length (gap_text gap)} {y = taken + length (part_text part ++ gap_text gap)} (omega arith)
+    let longer = length-append (filler_text part) (gap_text gap) in
+    ap (λ (t : List ℕ). reply_in closed (at decimals slots values place false taken) (words_of [] t)) (append_assoc (filler_text part) (gap_text gap) bytes)
+    ∙ filler-passed closed decimals slots values place taken part (gap_text gap ++ bytes) are.0 (omega arith)
+    ∙ gap-passed closed decimals slots values place gap (taken + length (filler_text part)) bytes are.1 (omega arith)
+    ∙ ap (λ (n : ℕ). reply_in closed (at decimals slots values place false n) (words_of [] bytes)) {x = taken + length (filler_text part) + length (gap_text gap)} {y = taken + length (filler_text part ++ gap_text gap)} (omega arith)
 
 -- ---- values
 

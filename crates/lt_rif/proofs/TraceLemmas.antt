@@ -1,6 +1,6 @@
 -- Words with spaces, and the lines that they make.
 use Rattle.std.proofs.Common.{◌≡◌, ℕ, List, [], ◌∷◌, ◌++◌, Option, length, drop, codes, refl, ap, sym, ◌∙◌, ◌+◌, append_assoc, length-append, arith, Vec, Global}
-use Rattle.lt_rif.specs.Room.{Appends, HasRoom}
+use Rattle.lt_rif.specs.Room.{AddsText, HasRoom}
 use Rattle.lt_num.specs.declared.kind.Kind.{Kind}
 use Rattle.lt_num.specs.declared.value.Value.{Value}
 use Rattle.lt_rif.specs.Trace.{line, locals_part, spaced, step_words, value_words}
@@ -43,7 +43,7 @@ step_lays_out decimals kinds outputs inputs locals =
 
 -- ---- one text behind another
 
-pub appends-both : (a b c : Vec ℕ Global) (s t : List ℕ) → Appends a b s → Appends b c t → Appends a c (s ++ t)
+pub appends-both : (a b c : Vec ℕ Global) (s t : List ℕ) → AddsText a b s → AddsText b c t → AddsText a c (s ++ t)
 appends-both a b c s t first second =
     let one = first.capacity in
     let two = second.capacity in
@@ -52,7 +52,7 @@ appends-both a b c s t first second =
       capacity = omega arith;
     }
 
-pub room-behind : (a b : Vec ℕ Global) (s t : List ℕ) → Appends a b s → HasRoom a (s ++ t) → HasRoom b t
+pub room-behind : (a b : Vec ℕ Global) (s t : List ℕ) → AddsText a b s → HasRoom a (s ++ t) → HasRoom b t
 room-behind a b s t first room =
     let capacity = first.capacity in
     let count : length b.items ≡ length a.items + length s = ap (λ (bytes : List ℕ). length bytes) first.items ∙ length-append a.items s in

@@ -10,7 +10,7 @@ use Rattle.std.proofs.lemmas.Fmt.{digits_decimal, digits_value-decimal, decimal_
 use Rattle.std.proofs.lemmas.Nat.{div-add-mod'}
 use Rattle.std.proofs.lemmas.Str.Parse.{digits_value_short}
 use Rattle.std.proofs.Math.Nat.{div-le_self, div-one}
-use Rattle.lt_num.specs.Answer.{most}
+use Rattle.lt_num.specs.Bounds.{most_raw}
 use Rattle.lt_num.specs.Rounding.{with_sign}
 use Rattle.lt_num.specs.Text.{last_digits, size_text, text_of}
 use Rattle.lt_num.specs.Value.{raw_of, value_of}
@@ -48,7 +48,7 @@ digits-are : (least most_of : ℕ) (ds : List ℕ) → all_ascii_digits ds ≡ t
 digits-are least most_of ds all few many = rw (all, le-leb least (length ds) few, le-leb (length ds) most_of many) refl
 
 -- an int
-int-back : (size : ℕ) (word : List ℕ) (negative : Bool) → size ≤ most → starts_with_minus word ≡ negative → without_leading_sign word ≡ size_text 0 size → int_written word ≡ Some (with_sign negative size)
+int-back : (size : ℕ) (word : List ℕ) (negative : Bool) → size ≤ most_raw → starts_with_minus word ≡ negative → without_leading_sign word ≡ size_text 0 size → int_written word ≡ Some (with_sign negative size)
 int-back size word negative small minus behind =
     let one : size / 10 ^ 0 ≡ size = div-one size in
     let digits_is : without_leading_sign word ≡ decimal size = behind ∙ append-nil (decimal (size / 10 ^ 0)) ∙ ap decimal one in
@@ -58,7 +58,7 @@ int-back size word negative small minus behind =
     rw (digits_is, minus, digits-are 1 18 (decimal size) digits (omega arith) (omega arith), digits_value-decimal own size (omega arith)) refl
 
 -- a real
-real-back : (k size : ℕ) (word : List ℕ) (negative : Bool) → k ≤ 6 → size ≤ most → starts_with_minus word ≡ negative → without_leading_sign word ≡ size_text k size → real_written k word ≡ Some (with_sign negative size)
+real-back : (k size : ℕ) (word : List ℕ) (negative : Bool) → k ≤ 6 → size ≤ most_raw → starts_with_minus word ≡ negative → without_leading_sign word ≡ size_text k size → real_written k word ≡ Some (with_sign negative size)
 real-back k size word negative few small minus behind =
     let number = size_text k size in
     let whole = size / 10 ^ k in
@@ -94,7 +94,7 @@ real-back k size word negative few small minus behind =
 -- ---- values
 
 -- the word of a value writes its raw number
-raw-back : (decimals : ℕ) (k : Kind) (v : Value) → decimals ≤ 6 → value_of k (raw_of v) ≡ v → unsigned_abs (raw_of v) ≤ most → raw_written decimals k (value_text decimals k v) ≡ Some (raw_of v)
+raw-back : (decimals : ℕ) (k : Kind) (v : Value) → decimals ≤ 6 → value_of k (raw_of v) ≡ v → unsigned_abs (raw_of v) ≤ most_raw → raw_written decimals k (value_text decimals k v) ≡ Some (raw_of v)
 unfolding raw_written
 raw-back decimals kind.Bool (value.Bool true) few is small = refl
 raw-back decimals kind.Bool (value.Bool false) few is small = refl
@@ -113,7 +113,7 @@ raw-back decimals kind.Real (value.Num (negsuc n)) few is small = real-back deci
 pub judged-back : (decimals : ℕ) (slot : Slot) (v : Value) → decimals ≤ 6 → Holds slot v → judged decimals slot (value_text decimals slot.kind v) ≡ Ok v
 unfolding judged
 judged-back decimals slot v few holds =
-    rw (raw-back decimals slot.kind v few holds.kind holds.bound, le-leb (unsigned_abs (raw_of v)) most holds.bound, holds.range) (ap (λ (w : Value). Ok w) holds.kind)
+    rw (raw-back decimals slot.kind v few holds.kind holds.bound, le-leb (unsigned_abs (raw_of v)) most_raw holds.bound, holds.range) (ap (λ (w : Value). Ok w) holds.kind)
 
 -- ---- words
 
@@ -140,11 +140,11 @@ pub record IsWord (text : List ℕ) : Type 0 where
   pub blank : list_any is_blank text ≡ false
   pub meaning : meaning_of text ≡ meaning.Value
 
-number-word : (k : ℕ) (raw : ℤ) → unsigned_abs raw ≤ most → IsWord (text_of k raw)
+number-word : (k : ℕ) (raw : ℤ) → unsigned_abs raw ≤ most_raw → IsWord (text_of k raw)
 number-word k (pos n) small = let text = size-is k n (omega arith) in record { blank = text.blank; meaning = meaning-digit (size_text k n) text.some text.begins }
 number-word k (negsuc n) small = let text = size-is k (suc n) (omega arith) in record { blank = text.blank; meaning = meaning-minus (size_text k (suc n)) text.some text.begins }
 
-pub value-word : (decimals : ℕ) (k : Kind) (v : Value) → unsigned_abs (raw_of v) ≤ most → IsWord (value_text decimals k v)
+pub value-word : (decimals : ℕ) (k : Kind) (v : Value) → unsigned_abs (raw_of v) ≤ most_raw → IsWord (value_text decimals k v)
 unfolding meaning_of
 value-word decimals k (value.Bool true) small = record { blank = refl; meaning = refl }
 value-word decimals k (value.Bool false) small = record { blank = refl; meaning = refl }

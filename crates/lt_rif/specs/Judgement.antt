@@ -2,7 +2,7 @@
 use Rattle.std.specs.Prelude.{ℕ, Bool, true, ◌&&◌, nat_le, List, ℤ, int_le, unsigned_abs, if◌then◌else◌, None, Some, Ok, Err}
 use Rattle.std.specs.declared.option.Option.{Option}
 use Rattle.std.specs.declared.result.Result.{Result}
-use Rattle.lt_num.specs.Answer.{most}
+use Rattle.lt_num.specs.Bounds.{most_raw}
 use Rattle.lt_num.specs.Value.{value_of}
 use Rattle.lt_num.specs.declared.range.Range.{Range}
 use Rattle.lt_num.specs.declared.value.Value.{Value}
@@ -19,7 +19,7 @@ is_within (Some range) raw = int_le range.low raw && int_le raw range.high
 -- a raw number that is not past the bound of all numbers
 abbrev pub bounded_raw : Option ℤ → Result ℤ ValueFault
 bounded_raw None = Err fault.NotAValue
-bounded_raw (Some raw) = if nat_le (unsigned_abs raw) most then Ok raw else Err fault.OutOfRange
+bounded_raw (Some raw) = if nat_le (unsigned_abs raw) most_raw then Ok raw else Err fault.OutOfRange
 
 -- the value that a raw number is in a slot
 abbrev pub in_slot : Slot → Result ℤ ValueFault → Result Value ValueFault

@@ -28,9 +28,9 @@ is_digits least most text = all_ascii_digits text && nat_le least (length text) 
 abbrev pub number_of : List ℕ → ℕ
 number_of digits = digits_value 10 digits
 
--- the most digits before a point, and behind it
-abbrev pub most_digits : ℕ
-most_digits = 18
+-- the most digits of an int, and of a real before its point and behind it
+abbrev pub most_digits_in_a_row : ℕ
+most_digits_in_a_row = 18
 
 -- the most digits of an exponent
 abbrev pub most_exponent_digits : ℕ
@@ -40,7 +40,7 @@ most_exponent_digits = 3
 abbrev pub int_written : List ℕ → Option ℤ
 int_written word =
     let digits = without_leading_sign word in
-    if is_digits 1 most_digits digits then Some (with_sign (starts_with_minus word) (number_of digits)) else None
+    if is_digits 1 most_digits_in_a_row digits then Some (with_sign (starts_with_minus word) (number_of digits)) else None
 
 -- whether a byte is a point
 abbrev pub is_point : ℕ → Bool
@@ -69,8 +69,8 @@ is_exponent number = is_none (position is_mark number) || is_digits 1 most_expon
 -- a real behind its sign: at least one digit before the point or behind it
 abbrev pub is_real : List ℕ → Bool
 is_real number =
-    is_digits 0 most_digits (whole_part number)
-    && is_digits 0 most_digits (decimal_part number)
+    is_digits 0 most_digits_in_a_row (whole_part number)
+    && is_digits 0 most_digits_in_a_row (decimal_part number)
     && nat_le 1 (length (whole_part number) + length (decimal_part number))
     && is_exponent number
 

@@ -8,7 +8,7 @@ abbrev pub HasRoom : Vec ℕ Global → List ℕ → Type 0
 HasRoom into text = vec_len into + length text ≤ vec_capacity into
 
 -- a text was appended
-pub record Appends (old new : Vec ℕ Global) (text : List ℕ) : Type 0 where
+pub record AddsText (old new : Vec ℕ Global) (text : List ℕ) : Type 0 where
   pub items : new.items ≡ old.items ++ text
   pub capacity : vec_capacity old ≤ vec_capacity new
 

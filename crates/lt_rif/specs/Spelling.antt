@@ -9,35 +9,35 @@ use Rattle.lt_rif.specs.declared.slot.Slot.{Slot}
 use Rattle.lt_rif.specs.declared.word.Meaning.TheVariants as meaning
 
 -- what may stand between values
-pub data Part : Type 0 where
-  blank : ℕ → Part
+pub data Filler : Type 0 where
+  blank : ℕ → Filler
   -- the word #outs, and the blank behind it
-  outs : ℕ → Part
+  outs : ℕ → Filler
   -- a comment, up to the end of its line
-  comment : List ℕ → Part
+  comment : List ℕ → Filler
 
-abbrev pub part_text : Part → List ℕ
-part_text (blank b) = b ∷ []
-part_text (outs b) = codes "#outs" ++ b ∷ []
-part_text (comment text) = text ++ 10 ∷ []
+abbrev pub filler_text : Filler → List ℕ
+filler_text (blank b) = b ∷ []
+filler_text (outs b) = codes "#outs" ++ b ∷ []
+filler_text (comment text) = text ++ 10 ∷ []
 
 -- A comment begins with a word that begins one, and its line ends behind it.
-abbrev pub IsPart : Part → Type 0
-IsPart (blank b) = is_blank b ≡ true
-IsPart (outs b) = is_blank b ≡ true
-IsPart (comment text) = (meaning_of (before_first is_blank text) ≡ meaning.Comment) × (list_any (λ b. b == 10) text ≡ false)
+abbrev pub IsFiller : Filler → Type 0
+IsFiller (blank b) = is_blank b ≡ true
+IsFiller (outs b) = is_blank b ≡ true
+IsFiller (comment text) = (meaning_of (before_first is_blank text) ≡ meaning.Comment) × (list_any (λ b. b == 10) text ≡ false)
 
 -- any number of them
-abbrev pub AreParts : List Part → Type 0
-AreParts [] = Unit {0}
-AreParts (part ∷ gap) = IsPart part × AreParts gap
+abbrev pub AreFillers : List Filler → Type 0
+AreFillers [] = Unit {0}
+AreFillers (part ∷ gap) = IsFiller part × AreFillers gap
 
-abbrev pub gap_text : List Part → List ℕ
-gap_text gap = flat_map part_text gap
+abbrev pub gap_text : List Filler → List ℕ
+gap_text gap = flat_map filler_text gap
 
 -- a value as it stands in a reply: what stands before it, its word, and the blank behind that
 pub record Field : Type 0 where
-  pub gap : List Part
+  pub gap : List Filler
   pub word : List ℕ
   pub blank : ℕ
 
@@ -45,7 +45,7 @@ abbrev pub field_text : Field → List ℕ
 field_text f = gap_text f.gap ++ f.word ++ f.blank ∷ []
 
 pub record IsField (f : Field) : Type 0 where
-  pub gap : AreParts f.gap
+  pub gap : AreFillers f.gap
   pub word : list_any is_blank f.word ≡ false
   pub meaning : meaning_of f.word ≡ meaning.Value
   pub blank : is_blank f.blank ≡ true

@@ -29,12 +29,12 @@ spaced words = join_by (λ word. word) (codes " ") words
 -- ---- the header
 
 -- a variable as a header declares it
-pub record Declaration : Type 0 where
+pub record DeclaredVariable : Type 0 where
   pub name : List ℕ
   pub kind : Kind
 
-abbrev pub declaration : Declared → Declaration
-declaration d = record { name = string_bytes d.name; kind = d.kind }
+abbrev pub declared_variable : Declared → DeclaredVariable
+declared_variable d = record { name = string_bytes d.name; kind = d.kind }
 
 -- the word of a kind
 abbrev pub kind_text : Kind → List ℕ
@@ -43,16 +43,16 @@ kind_text kind.Int = codes "int"
 kind_text kind.Real = codes "real"
 
 -- a space, and "NAME":KIND
-abbrev pub declared_text : Declaration → List ℕ
+abbrev pub declared_text : DeclaredVariable → List ℕ
 declared_text d = codes " \"" ++ d.name ++ codes "\":" ++ kind_text d.kind
 
 -- the line of the locals, where they are written
-abbrev pub locals_header : Option (List Declaration) → List ℕ
+abbrev pub locals_header : Option (List DeclaredVariable) → List ℕ
 locals_header None = []
 locals_header (Some locals) = line (codes "#locals" ++ flat_map declared_text locals)
 
 -- The seed, what the controller takes in, and what it gives out: the scenario's outputs and inputs. Then its locals.
-abbrev pub header_text : ℕ → List Declaration → List Declaration → Option (List Declaration) → List ℕ
+abbrev pub header_text : ℕ → List DeclaredVariable → List DeclaredVariable → Option (List DeclaredVariable) → List ℕ
 header_text seed outputs inputs locals =
     line (codes "#seed " ++ decimal seed)
     ++ line (codes "#inputs" ++ flat_map declared_text outputs)

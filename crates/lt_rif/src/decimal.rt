@@ -1,7 +1,7 @@
 //! Digits, and rounding.
 
 ghost use Rattle.std.specs.Prelude.{◌≡◌, ◌*◌, ◌^◌, ◌<◌, ◌≤◌, length, IfSome, MatchOption};
-ghost use Rattle.lt_num.specs.Answer.{most};
+ghost use Rattle.lt_num.specs.Bounds.{most_raw};
 ghost use Rattle.lt_rif.specs.inner.Decimal.{digits_written, rounded_quotient};
 
 // The most that a raw number may be in size.
@@ -32,7 +32,7 @@ pub fn rounded(size: u128, right: u32, left: u32) -> Option<u128>
     requires size { size < 10 ^ 36 }
     requires right { right ≤ 2000 }
     requires left { left ≤ 2000 }
-    ensures { MatchOption result (most < rounded_quotient (size * 10 ^ right) (10 ^ left)) (λ r. r ≡ rounded_quotient (size * 10 ^ right) (10 ^ left)) }
+    ensures { MatchOption result (most_raw < rounded_quotient (size * 10 ^ right) (10 ^ left)) (λ r. r ≡ rounded_quotient (size * 10 ^ right) (10 ^ left)) }
 {
     if right >= left {
         enlarged(size, right - left)
@@ -43,7 +43,7 @@ pub fn rounded(size: u128, right: u32, left: u32) -> Option<u128>
 
 // A number with so many zeros behind it, or none where that is past the bound.
 fn enlarged(size: u128, zeros: u32) -> Option<u128>
-    ensures { MatchOption result (most < size * 10 ^ zeros) (λ r. r ≡ size * 10 ^ zeros) }
+    ensures { MatchOption result (most_raw < size * 10 ^ zeros) (λ r. r ≡ size * 10 ^ zeros) }
 {
     if size == 0 {
         return Some(0);

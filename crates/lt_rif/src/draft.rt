@@ -1,6 +1,7 @@
 //! A reply that has begun.
 
 ghost use Rattle.std.specs.Prelude.{◌≡◌, nat_le, ◌<◌, ◌≤◌, ◌+◌, ◌++◌, ◌∷◌, [], if◌then◌else◌, length, vec_len, vec_capacity};
+ghost use Rattle.lt_num.specs.Bounds.{most_decimals};
 ghost use Rattle.lt_rif.specs.Reply.{after_word, beginning, longest, with_word};
 
 use crate::fault::ValueFault;
@@ -28,7 +29,7 @@ pub enum Look {
 
 /// What a word makes of a reply.
 #[derive(Clone, Copy, Debug, PartialEq, Eq)]
-pub enum Step {
+pub enum Effect {
     /// It goes on.
     More,
 
@@ -66,7 +67,7 @@ pub struct Draft {
     /// What stands behind the last blank.
     pub word: Vec<u8>,
 
-    ghost few_decimals: { decimals ≤ 6 },
+    ghost few_decimals: { decimals ≤ most_decimals },
     ghost fills: { filled ≤ vec_len slots },
     ghost keeps: { vec_len values ≤ filled },
     ghost has_room: { vec_len slots ≤ vec_capacity values },
@@ -75,7 +76,7 @@ pub struct Draft {
 }
 
 impl Draft {
-    ghost use Rattle.lt_rif.specs.inner.Draft.{begun, filled_with, looked, StepsBy};
+    ghost use Rattle.lt_rif.specs.inner.Draft.{begun, filled_with, looked, HasEffect};
 
     // Passes the word, with the byte behind it. A comment goes on behind it or not.
     fn pass(&mut self, is_comment: bool)
@@ -114,11 +115,11 @@ impl Draft {
 
     /// Takes the word as the value of the next slot. The reply goes on, or is whole.
     #[tactic(auto, using(crate::proofs::DraftLemmas::fills_more))]
-    pub fn fill(&mut self, value: Value, keep: bool) -> Step
+    pub fn fill(&mut self, value: Value, keep: bool) -> Effect
         requires room { self.old.taken + vec_len self.old.word < longest }
         requires open { self.old.filled < vec_len self.old.slots }
-        ensures steps { StepsBy (filled_with self.old value keep) self.old result self.new }
-        ensures left { result ≡ Step.More → self.new.filled < vec_len self.new.slots }
+        ensures effect { HasEffect (filled_with self.old value keep) self.old result self.new }
+        ensures left { result ≡ Effect.More → self.new.filled < vec_len self.new.slots }
         ensures slots { self.new.slots ≡ self.old.slots }
         ensures decimals { self.new.decimals ≡ self.old.decimals }
         ensures place { self.new.place ≡ self.old.place }
@@ -126,9 +127,9 @@ impl Draft {
         self.add(value, keep);
         self.pass(false);
         if self.filled == self.slots.len() {
-            Step::Done
+            Effect::Done
         } else {
-            Step::More
+            Effect::More
         }
     }
 
@@ -167,11 +168,11 @@ impl Draft {
     }
 
     /// Ends the word by a blank.
-    pub fn end_word(&mut self, ends_line: bool) -> Step
+    pub fn end_word(&mut self, ends_line: bool) -> Effect
         requires room { self.old.taken + vec_len self.old.word < longest }
         requires open { self.old.filled < vec_len self.old.slots }
-        ensures steps { StepsBy (after_word (begun self.old) self.old.word.items ends_line) self.old result self.new }
-        ensures left { result ≡ Step.More → self.new.filled < vec_len self.new.slots }
+        ensures effect { HasEffect (after_word (begun self.old) self.old.word.items ends_line) self.old result self.new }
+        ensures left { result ≡ Effect.More → self.new.filled < vec_len self.new.slots }
         ensures slots { self.new.slots ≡ self.old.slots }
         ensures decimals { self.new.decimals ≡ self.old.decimals }
         ensures place { self.new.place ≡ self.old.place }
@@ -179,10 +180,10 @@ impl Draft {
         match self.look(ends_line) {
             Look::Pass { is_comment } => {
                 self.pass(is_comment);
-                Step::More
+                Effect::More
             }
             Look::Value { value, keep } => self.fill(value, keep),
-            Look::Refused(fault) => Step::Refused(fault),
+            Look::Refused(fault) => Effect::Refused(fault),
         }
     }
 

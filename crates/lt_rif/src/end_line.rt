@@ -2,7 +2,7 @@
 
 ghost use Rattle.std.specs.Prelude.{◌≡◌, ◌<◌, map, length};
 ghost use Rattle.std.specs.String.{string_bytes};
-ghost use Rattle.lt_rif.specs.Room.{Appends, HasRoom};
+ghost use Rattle.lt_rif.specs.Room.{AddsText, HasRoom};
 ghost use Rattle.lt_rif.specs.Trace.{end_text, end_words, fault_text, refusal_text, who_text, IsNamed};
 ghost use Rattle.lt_rif.specs.inner.Spaced.{behind_space};
 
@@ -11,12 +11,12 @@ use crate::fault::ValueFault;
 use crate::writing::{append, append_number};
 use lt_num::Arith;
 
-/// Appends the end line of a trace, with its number: that of the instant at which the run ended, or of the steps
+/// AddsText the end line of a trace, with its number: that of the instant at which the run ended, or of the steps
 /// written where it is over or at its limit. Exceptions have these names.
 pub fn write_end(into: &mut Vec<u8>, end: End, names: &[String], number: u64)
     requires named { IsNamed end (length names.now) }
     requires room { HasRoom into.old (end_text end (map string_bytes names.now) number) }
-    ensures { Appends into.old into.new (end_text end (map string_bytes names.now) number) }
+    ensures { AddsText into.old into.new (end_text end (map string_bytes names.now) number) }
 {
     append(into, b"#end");
     append_end(into, end, names);
@@ -25,11 +25,11 @@ pub fn write_end(into: &mut Vec<u8>, end: End, names: &[String], number: u64)
     append(into, b"\n");
 }
 
-// Appends the words of an end, with a space before each.
+// AddsText the words of an end, with a space before each.
 fn append_end(into: &mut Vec<u8>, end: End, names: &[String])
     requires named { IsNamed end (length names.now) }
     requires room { HasRoom into.old (behind_space (end_words end (map string_bytes names.now))) }
-    ensures { Appends into.old into.new (behind_space (end_words end (map string_bytes names.now))) }
+    ensures { AddsText into.old into.new (behind_space (end_words end (map string_bytes names.now))) }
 {
     match end {
         End::Normal => append(into, b" normal"),

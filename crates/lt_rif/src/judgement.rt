@@ -1,6 +1,7 @@
 //! What a word is in a slot.
 
 ghost use Rattle.std.specs.Prelude.{◌≡◌, ◌≤◌};
+ghost use Rattle.lt_num.specs.Bounds.{most_decimals};
 ghost use Rattle.lt_rif.specs.Judgement.{is_within, judged};
 
 use crate::fault::ValueFault;
@@ -16,7 +17,7 @@ use lt_num::{Range, Value};
 /// [`ValueFault::OutOfRange`] where its raw number is past 10^12 in size or outside the slot's range.
 #[tactic(auto, unfolding(crate::specs::Judgement::judged))]
 pub fn judge(slot: Slot, word: &[u8], decimals: u32) -> Result<Value, ValueFault>
-    requires { decimals ≤ 6 }
+    requires { decimals ≤ most_decimals }
     ensures { result ≡ judged decimals slot word.now }
 {
     match raw_of_word(slot.kind, word, decimals) {

@@ -5,6 +5,7 @@ ghost use Rattle.std.specs.List.{before_first, after_first};
 ghost use Rattle.std.specs.Option.{option_copied};
 ghost use Rattle.std.specs.Str.Parse.{starts_with_minus, without_leading_sign};
 ghost use Rattle.lt_num.specs.Rounding.{with_sign};
+ghost use Rattle.lt_num.specs.Bounds.{most_decimals};
 ghost use Rattle.lt_rif.specs.Judgement.{bounded_raw};
 ghost use Rattle.lt_rif.specs.inner.Decimal.{behind_mark, IsMove, IsScaled};
 ghost use Rattle.lt_rif.specs.Number.{is_mark, is_point, raw_written, truth_written, int_written, real_written};
@@ -30,7 +31,7 @@ const MOST_EXPONENT_DIGITS: usize = 3;
 /// [`ValueFault::OutOfRange`] where the raw number is past 10^12 in size.
 #[tactic(auto, unfolding(crate::specs::Number::raw_written))]
 pub fn raw_of_word(kind: Kind, word: &[u8], decimals: u32) -> Result<i64, ValueFault>
-    requires { decimals ≤ 6 }
+    requires { decimals ≤ most_decimals }
     ensures { result ≡ bounded_raw (raw_written decimals kind word.now) }
 {
     match kind {
@@ -64,7 +65,7 @@ fn int_of(word: &[u8]) -> Result<i64, ValueFault>
 
 // The real that a word writes, rounded to so many decimals.
 fn real_of(word: &[u8], decimals: u32) -> Result<i64, ValueFault>
-    requires { decimals ≤ 6 }
+    requires { decimals ≤ most_decimals }
     ensures { result ≡ bounded_raw (real_written decimals word.now) }
 {
     let (negative, number) = split_sign(word);

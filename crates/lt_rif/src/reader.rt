@@ -2,10 +2,11 @@
 
 ghost use Rattle.std.specs.Prelude.{◌≡◌, ◌↔◌, IsTrue, ◌<◌, ◌≤◌, ◌+◌, ◌^◌, [], ℕ, ◌∷◌, None, Some, IfOk, true, false, length, vec_len, vec_capacity};
 ghost use Rattle.std.specs.List.{list_any};
+ghost use Rattle.lt_num.specs.Bounds.{most_decimals};
 ghost use Rattle.lt_rif.specs.Reply.{after_word, longest, needs};
 ghost use Rattle.lt_rif.specs.Word.{is_blank};
 
-use crate::draft::{Draft, LONGEST, Look, Step};
+use crate::draft::{Draft, Effect, LONGEST, Look};
 use crate::fault::ValueFault;
 use crate::slot::Slot;
 use crate::word::{is_blank, length_of_chunk};
@@ -70,7 +71,7 @@ impl Reader {
     /// A reader of replies with these slots, whose reals have so many decimals, 0 to 6, from the beginning of a
     /// stream. Only this call takes memory.
     pub fn make(alloc: Global, slots: Vec<Slot>, decimals: u32) -> Result<Reader, AllocError>
-        requires { decimals ≤ 6 }
+        requires { decimals ≤ most_decimals }
         ensures { IfOk result (λ r. reading r ≡ between decimals slots.items 0) }
     {
         let count = slots.len();
@@ -254,18 +255,18 @@ impl Reader {
         ensures goes_on { result ≡ Fed.More → self.new.refusal ≡ None }
     {
         match self.draft.end_word(byte == b'\n') {
-            Step::More => {
+            Effect::More => {
                 if self.draft.is_full() {
                     return refuse(&mut self.refusal, ValueFault::TooLong, self.draft.place);
                 }
                 Fed::More
             }
-            Step::Done => {
+            Effect::Done => {
                 let place = self.draft.place + self.draft.taken;
                 self.draft.restart(&mut self.values, place);
                 Fed::Whole(1)
             }
-            Step::Refused(fault) => {
+            Effect::Refused(fault) => {
                 let place = self.draft.place + self.draft.taken;
                 refuse(&mut self.refusal, fault, place)
             }

@@ -3,8 +3,9 @@
 ghost use Rattle.std.specs.Prelude.{◌≡◌, ◌≤◌, ◌<◌, ◌+◌, ◌^◌, map, length, drop};
 ghost use Rattle.std.specs.List.{flat_map};
 ghost use Rattle.std.specs.Option.{option_copied, option_map};
-ghost use Rattle.lt_rif.specs.Room.{Appends, HasRoom, room_for};
-ghost use Rattle.lt_rif.specs.Trace.{declaration, declared_text, header_text, kind_text, line_text, locals_header, locals_part, step_text};
+ghost use Rattle.lt_num.specs.Bounds.{most_decimals};
+ghost use Rattle.lt_rif.specs.Room.{AddsText, HasRoom, room_for};
+ghost use Rattle.lt_rif.specs.Trace.{declared_variable, declared_text, header_text, kind_text, line_text, locals_header, locals_part, step_text};
 ghost use Rattle.lt_rif.specs.inner.Spaced.{behind_space, step_layout};
 
 use crate::declared::Declared;
@@ -22,7 +23,7 @@ pub fn room_for(variables: usize, names: usize) -> usize
     256 + 32 * variables + names
 }
 
-/// Appends the header of a trace: the seed, what the controller takes in, what it gives out, and the scenario's
+/// AddsText the header of a trace: the seed, what the controller takes in, what it gives out, and the scenario's
 /// locals, where they are written.
 pub fn write_header(
     into: &mut Vec<u8>,
@@ -31,8 +32,8 @@ pub fn write_header(
     inputs: &[Declared],
     locals: Option<&[Declared]>,
 )
-    requires { HasRoom into.old (header_text seed (map declaration outputs.now) (map declaration inputs.now) (option_map (map declaration) (option_copied locals))) }
-    ensures { Appends into.old into.new (header_text seed (map declaration outputs.now) (map declaration inputs.now) (option_map (map declaration) (option_copied locals.entry))) }
+    requires { HasRoom into.old (header_text seed (map declared_variable outputs.now) (map declared_variable inputs.now) (option_map (map declared_variable) (option_copied locals))) }
+    ensures { AddsText into.old into.new (header_text seed (map declared_variable outputs.now) (map declared_variable inputs.now) (option_map (map declared_variable) (option_copied locals.entry))) }
 {
     append(into, b"#seed ");
     append_number(into, seed);
@@ -44,10 +45,10 @@ pub fn write_header(
     append_locals_header(into, locals);
 }
 
-// Appends the line of the locals, where they are written.
+// AddsText the line of the locals, where they are written.
 fn append_locals_header(into: &mut Vec<u8>, locals: Option<&[Declared]>)
-    requires { HasRoom into.old (locals_header (option_map (map declaration) (option_copied locals))) }
-    ensures { Appends into.old into.new (locals_header (option_map (map declaration) (option_copied locals.entry))) }
+    requires { HasRoom into.old (locals_header (option_map (map declared_variable) (option_copied locals))) }
+    ensures { AddsText into.old into.new (locals_header (option_map (map declared_variable) (option_copied locals.entry))) }
 {
     if let Some(locals) = locals {
         append(into, b"#locals");
@@ -56,10 +57,10 @@ fn append_locals_header(into: &mut Vec<u8>, locals: Option<&[Declared]>)
     }
 }
 
-// Appends a space, a quoted name and a kind for each variable.
+// AddsText a space, a quoted name and a kind for each variable.
 fn append_declared(into: &mut Vec<u8>, variables: &[Declared])
-    requires { HasRoom into.old (flat_map declared_text (map declaration variables.now)) }
-    ensures { Appends into.old into.new (flat_map declared_text (map declaration variables.now)) }
+    requires { HasRoom into.old (flat_map declared_text (map declared_variable variables.now)) }
+    ensures { AddsText into.old into.new (flat_map declared_text (map declared_variable variables.now)) }
 {
     let mut variables = variables;
     while let [variable, more @ ..] = variables {
@@ -82,7 +83,7 @@ fn kind_word(kind: Kind) -> &'static [u8]
     }
 }
 
-/// Appends the two lines of a step: its number, from 1, and the values of the scenario's outputs `x` and inputs
+/// AddsText the two lines of a step: its number, from 1, and the values of the scenario's outputs `x` and inputs
 /// `y`, and of its locals, where they are written; a local out of scope has none. `kinds` has their kinds in this
 /// order. A real has so many decimals, 0 to 6.
 pub fn write_step(
@@ -94,10 +95,10 @@ pub fn write_step(
     kinds: &[Kind],
     decimals: u32,
 )
-    requires decimals { decimals ≤ 6 }
+    requires decimals { decimals ≤ most_decimals }
     requires kinds { length x.now + length y.now ≤ length kinds.now }
     requires room { HasRoom into.old (step_text decimals step kinds.now x.now y.now (option_copied locals)) }
-    ensures { Appends into.old into.new (step_text decimals step kinds.now x.now y.now (option_copied locals.entry)) }
+    ensures { AddsText into.old into.new (step_text decimals step kinds.now x.now y.now (option_copied locals.entry)) }
 {
     append(into, b"#step ");
     append_number(into, step);
@@ -105,7 +106,7 @@ pub fn write_step(
     append_step_values(into, x, y, locals, kinds, decimals);
 }
 
-// Appends the line of a step's values.
+// AddsText the line of a step's values.
 fn append_step_values(
     into: &mut Vec<u8>,
     x: &[Value],
@@ -114,10 +115,10 @@ fn append_step_values(
     kinds: &[Kind],
     decimals: u32,
 )
-    requires decimals { decimals ≤ 6 }
+    requires decimals { decimals ≤ most_decimals }
     requires kinds { length x.now + length y.now ≤ length kinds.now }
     requires room { HasRoom into.old (step_layout decimals kinds.now x.now y.now (option_copied locals)) }
-    ensures { Appends into.old into.new (step_layout decimals kinds.now x.now y.now (option_copied locals.entry)) }
+    ensures { AddsText into.old into.new (step_layout decimals kinds.now x.now y.now (option_copied locals.entry)) }
 {
     append_before_space(into, x, kinds, decimals);
     append(into, b"#outs");
@@ -139,16 +140,16 @@ fn kinds_behind(kinds: &[Kind], count: usize) -> &[Kind]
     &kinds[count..]
 }
 
-// Appends the mark of the locals and their words, where they are written, with a space before each.
+// AddsText the mark of the locals and their words, where they are written, with a space before each.
 fn append_locals_part(
     into: &mut Vec<u8>,
     locals: Option<&[Option<Value>]>,
     kinds: &[Kind],
     decimals: u32,
 )
-    requires decimals { decimals ≤ 6 }
+    requires decimals { decimals ≤ most_decimals }
     requires room { HasRoom into.old (behind_space (locals_part decimals kinds.now (option_copied locals))) }
-    ensures { Appends into.old into.new (behind_space (locals_part decimals kinds.now (option_copied locals.entry))) }
+    ensures { AddsText into.old into.new (behind_space (locals_part decimals kinds.now (option_copied locals.entry))) }
 {
     if let Some(locals) = locals {
         append(into, b" #locs");
@@ -156,13 +157,13 @@ fn append_locals_part(
     }
 }
 
-/// Appends a line of values of these kinds, as it goes to a controller or to an oracle. A real has so many
+/// AddsText a line of values of these kinds, as it goes to a controller or to an oracle. A real has so many
 /// decimals, 0 to 6.
 pub fn write_line(into: &mut Vec<u8>, values: &[Value], kinds: &[Kind], decimals: u32)
-    requires decimals { decimals ≤ 6 }
+    requires decimals { decimals ≤ most_decimals }
     requires kinds { length kinds.now ≡ length values.now }
     requires room { HasRoom into.old (line_text decimals kinds.now values.now) }
-    ensures { Appends into.old into.new (line_text decimals kinds.now values.now) }
+    ensures { AddsText into.old into.new (line_text decimals kinds.now values.now) }
 {
     append_spaced(into, values, kinds, decimals);
     append(into, b"\n");

@@ -1,18 +1,19 @@
 //! The words of values.
 
 ghost use Rattle.std.specs.Prelude.{◌≡◌, ◌≤◌};
-ghost use Rattle.lt_rif.specs.Room.{Appends, HasRoom};
+ghost use Rattle.lt_num.specs.Bounds.{most_decimals};
+ghost use Rattle.lt_rif.specs.Room.{AddsText, HasRoom};
 ghost use Rattle.lt_rif.specs.Trace.{decimals_of, local_text, local_words, spaced, value_text, value_words};
 ghost use Rattle.lt_rif.specs.inner.Spaced.{before_space, behind_space};
 
 use crate::writing::append;
 use lt_num::{Fixed, Kind, Value, print};
 
-/// Appends the words of values of these kinds, with a space behind each.
+/// AddsText the words of values of these kinds, with a space behind each.
 pub fn append_before_space(into: &mut Vec<u8>, values: &[Value], kinds: &[Kind], decimals: u32)
-    requires decimals { decimals ≤ 6 }
+    requires decimals { decimals ≤ most_decimals }
     requires room { HasRoom into.old (before_space (value_words decimals kinds.now values.now)) }
-    ensures { Appends into.old into.new (before_space (value_words decimals kinds.now values.now)) }
+    ensures { AddsText into.old into.new (before_space (value_words decimals kinds.now values.now)) }
 {
     let mut kinds = kinds;
     let mut values = values;
@@ -27,11 +28,11 @@ pub fn append_before_space(into: &mut Vec<u8>, values: &[Value], kinds: &[Kind],
     }
 }
 
-/// Appends the words of values of these kinds, with a space before each.
+/// AddsText the words of values of these kinds, with a space before each.
 pub fn append_behind_space(into: &mut Vec<u8>, values: &[Value], kinds: &[Kind], decimals: u32)
-    requires decimals { decimals ≤ 6 }
+    requires decimals { decimals ≤ most_decimals }
     requires room { HasRoom into.old (behind_space (value_words decimals kinds.now values.now)) }
-    ensures { Appends into.old into.new (behind_space (value_words decimals kinds.now values.now)) }
+    ensures { AddsText into.old into.new (behind_space (value_words decimals kinds.now values.now)) }
 {
     let mut kinds = kinds;
     let mut values = values;
@@ -46,11 +47,11 @@ pub fn append_behind_space(into: &mut Vec<u8>, values: &[Value], kinds: &[Kind],
     }
 }
 
-/// Appends the words of values of these kinds, with a space between two.
+/// AddsText the words of values of these kinds, with a space between two.
 pub fn append_spaced(into: &mut Vec<u8>, values: &[Value], kinds: &[Kind], decimals: u32)
-    requires decimals { decimals ≤ 6 }
+    requires decimals { decimals ≤ most_decimals }
     requires room { HasRoom into.old (spaced (value_words decimals kinds.now values.now)) }
-    ensures { Appends into.old into.new (spaced (value_words decimals kinds.now values.now)) }
+    ensures { AddsText into.old into.new (spaced (value_words decimals kinds.now values.now)) }
 {
     let [kind, more_kinds @ ..] = kinds else {
         return;
@@ -62,11 +63,11 @@ pub fn append_spaced(into: &mut Vec<u8>, values: &[Value], kinds: &[Kind], decim
     append_behind_space(into, more_values, more_kinds, decimals);
 }
 
-/// Appends the words of locals of these kinds, with a space before each.
+/// AddsText the words of locals of these kinds, with a space before each.
 pub fn append_locals(into: &mut Vec<u8>, locals: &[Option<Value>], kinds: &[Kind], decimals: u32)
-    requires decimals { decimals ≤ 6 }
+    requires decimals { decimals ≤ most_decimals }
     requires room { HasRoom into.old (behind_space (local_words decimals kinds.now locals.now)) }
-    ensures { Appends into.old into.new (behind_space (local_words decimals kinds.now locals.now)) }
+    ensures { AddsText into.old into.new (behind_space (local_words decimals kinds.now locals.now)) }
 {
     let mut kinds = kinds;
     let mut locals = locals;
@@ -81,11 +82,11 @@ pub fn append_locals(into: &mut Vec<u8>, locals: &[Option<Value>], kinds: &[Kind
     }
 }
 
-// Appends a local of a kind.
+// AddsText a local of a kind.
 fn append_local(into: &mut Vec<u8>, local: Option<Value>, kind: Kind, decimals: u32)
-    requires decimals { decimals ≤ 6 }
+    requires decimals { decimals ≤ most_decimals }
     requires room { HasRoom into.old (local_text decimals kind local) }
-    ensures { Appends into.old into.new (local_text decimals kind local) }
+    ensures { AddsText into.old into.new (local_text decimals kind local) }
 {
     match local {
         Some(value) => append_value(into, value, kind, decimals),
@@ -93,11 +94,11 @@ fn append_local(into: &mut Vec<u8>, local: Option<Value>, kind: Kind, decimals: 
     }
 }
 
-// Appends a value of a kind, where a real has so many decimals.
+// AddsText a value of a kind, where a real has so many decimals.
 fn append_value(into: &mut Vec<u8>, value: Value, kind: Kind, decimals: u32)
-    requires decimals { decimals ≤ 6 }
+    requires decimals { decimals ≤ most_decimals }
     requires room { HasRoom into.old (value_text decimals kind value) }
-    ensures { Appends into.old into.new (value_text decimals kind value) }
+    ensures { AddsText into.old into.new (value_text decimals kind value) }
 {
     match value {
         Value::Bool(true) => append(into, b"t"),

@@ -5,8 +5,8 @@ use Rattle.lt_rif.specs.Reply.{Begun, Progress, more, done, refused, past, fille
 use Rattle.lt_rif.specs.declared.draft.Draft.{Draft}
 use Rattle.lt_rif.specs.declared.draft.Look.{Look}
 use Rattle.lt_rif.specs.declared.draft.Look.TheVariants as look
-use Rattle.lt_rif.specs.declared.draft.Step.{Step}
-use Rattle.lt_rif.specs.declared.draft.Step.TheVariants as step
+use Rattle.lt_rif.specs.declared.draft.Effect.{Effect}
+use Rattle.lt_rif.specs.declared.draft.Effect.TheVariants as effect
 
 -- what has come of a reply, up to the last blank
 abbrev pub begun : Draft → Begun
@@ -23,12 +23,12 @@ looked d (look.Value v keep) = filled_with d v keep
 looked d (look.Refused f) = refused f (d.place + d.taken)
 
 -- What a word makes of a draft.
-abbrev pub StepsBy : Progress → Draft → Step → Draft → Type 0
+abbrev pub HasEffect : Progress → Draft → Effect → Draft → Type 0
 -- the reply goes on
-StepsBy (more r) old step.More new = (begun new ≡ r) × (new.word.items ≡ []) × (new.slots ≡ old.slots)
+HasEffect (more r) old effect.More new = (begun new ≡ r) × (new.word.items ≡ []) × (new.slots ≡ old.slots)
 -- it is whole, with these values
-StepsBy (done values) old step.Done new = (new.values.items ≡ values) × (new.slots ≡ old.slots) × (new.place ≡ old.place) × (new.taken ≡ old.taken + length old.word.items + 1) × (new.decimals ≡ old.decimals)
+HasEffect (done values) old effect.Done new = (new.values.items ≡ values) × (new.slots ≡ old.slots) × (new.place ≡ old.place) × (new.taken ≡ old.taken + length old.word.items + 1) × (new.decimals ≡ old.decimals)
 -- it is refused where the word begins
-StepsBy (refused f place) old (step.Refused fault) new = (f ≡ fault) × (place ≡ old.place + old.taken) × (new ≡ old)
--- no other step is made
-StepsBy _ old _ new = ⊥
+HasEffect (refused f place) old (effect.Refused fault) new = (f ≡ fault) × (place ≡ old.place + old.taken) × (new ≡ old)
+-- it has no other effect
+HasEffect _ old _ new = ⊥

@@ -1,6 +1,6 @@
 use Rattle.std.proofs.Common.{◌++◌, ℕ, List, subst, sym, codes, decimal}
 use Rattle.std.specs.Option.{option_copied}
-use Rattle.lt_rif.specs.Room.{Appends, HasRoom}
+use Rattle.lt_rif.specs.Room.{AddsText, HasRoom}
 use Rattle.lt_rif.specs.Trace.{line}
 use Rattle.lt_rif.proofs.TraceLemmas.{step_lays_out, appends-both, room-behind}
 use Rattle.lt_rif.proofs.trace.write_step.Goals as goal
@@ -17,4 +17,4 @@ returns c =
     let layout = step_lays_out c.args.decimals c.args.kinds.now c.args.x.now c.args.y.now (option_copied c.args.locals) in
     let number = appends-both _ _ _ _ _ c.append.ensures c.append_number.ensures in
     let all = appends-both _ _ _ _ _ (appends-both _ _ _ _ _ number c.append-2.ensures) c.append_step_values.ensures in
-    subst (λ (text : List ℕ). Appends c.args.into.now c.append_step_values.new.into (line (codes "#step " ++ decimal c.args.step) ++ text)) (sym layout) all
+    subst (λ (text : List ℕ). AddsText c.args.into.now c.append_step_values.new.into (line (codes "#step " ++ decimal c.args.step) ++ text)) (sym layout) all
