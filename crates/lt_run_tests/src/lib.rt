@@ -1,7 +1,8 @@
-//! Tests of what a run is made of: files and sinks, numbers, drawing, and the machine of instants.
+//! Tests of what a run is made of: files and sinks, numbers, replies and traces, drawing, and the machine of
+//! instants.
 //!
 //! They stand in a crate of their own, so that the crates below are proved without them. What a test
-//! expects follows from the rules of `docs/LANGUAGE.md`.
+//! expects follows from the rules of `docs/LANGUAGE.md`, and of `docs/TRACE.md`.
 #![tactic(auto)]
 
 #[cfg(test)]
@@ -12,3 +13,7 @@ mod files_and_sinks;
 mod machine;
 #[cfg(test)]
 mod numbers;
+#[cfg(test)]
+mod replies;
+#[cfg(test)]
+mod traces;
