@@ -15,9 +15,9 @@ use Rattle.lt_rif.specs.ReadBack.{HoldAll, kinds_of, WrittenStep, IsStep, text_o
 use Rattle.lt_rif.specs.Reply.{Reply, Stream, whole, longest, reply_of}
 use Rattle.lt_rif.specs.Spelling.{Filler, outs, comment, filler_text, IsFiller, AreFillers, gap_text, Field, field_text, fields_text, Writes, kept}
 use Rattle.lt_rif.specs.Trace.{DeclaredVariable, declared_text, header_text, kind_text, line, local_words, locals_header, locals_part, value_text, value_words}
-use Rattle.lt_rif.specs.Word.{is_blank, meaning_of}
+use Rattle.lt_rif.specs.Word.{is_blank, class_of}
 use Rattle.lt_rif.specs.declared.slot.Slot.{Slot}
-use Rattle.lt_rif.specs.declared.word.Meaning.TheVariants as meaning
+use Rattle.lt_rif.specs.declared.word.WordClass.TheVariants as class
 use Rattle.lt_rif.specs.inner.Spaced.{before_space, behind_space}
 use Rattle.lt_rif.proofs.ReadingLemmas.{neither}
 use Rattle.lt_rif.proofs.SpellingLemmas.{either, spelling_is_read}
@@ -90,7 +90,7 @@ writes-gap : (decimals : ℕ) (slots : List Slot) (gap : List Filler) (fields : 
 writes-gap decimals [] gap [] [] are writes = tt
 writes-gap decimals (slot ∷ slots) gap (f ∷ fields) (v ∷ values) are writes =
     let is = writes.0 in
-    (record { gap = fillers-append gap f.gap are is.gap; word = is.word; meaning = is.meaning; blank = is.blank }, writes.1, writes.2)
+    (record { gap = fillers-append gap f.gap are is.gap; word = is.word; class = is.class; blank = is.blank }, writes.1, writes.2)
 writes-gap decimals slots gap fields values are writes = absurd writes
 
 writes-append : (decimals : ℕ) (first : List Slot) (slots : List Slot) (front fields : List Field) (start values : List Value) → Writes decimals first front start → Writes decimals slots fields values
@@ -103,17 +103,17 @@ writes-head : (decimals : ℕ) (slots : List Slot) (values : List Value) → dec
 writes-head decimals [] [] few holds = tt
 writes-head decimals (slot ∷ slots) (v ∷ values) few holds =
     let is = value-word decimals slot.kind v (holds.0).bound in
-    (record { gap = tt; word = is.blank; meaning = is.meaning; blank = refl }, judged-back decimals slot v few holds.0, writes-head decimals slots values few holds.1)
+    (record { gap = tt; word = is.blank; class = is.class; blank = refl }, judged-back decimals slot v few holds.0, writes-head decimals slots values few holds.1)
 writes-head decimals slots values few holds = absurd holds
 
 writes-tail : (decimals last : ℕ) (slots : List Slot) (values : List Value) → decimals ≤ 6 → is_blank last ≡ true → HoldAll slots values → Writes decimals slots (tail_fields (value_words decimals (kinds_of slots) values) last) values
 writes-tail decimals last [] [] few is holds = tt
 writes-tail decimals last (slot ∷ []) (v ∷ []) few is holds =
     let w = value-word decimals slot.kind v (holds.0).bound in
-    (record { gap = tt; word = w.blank; meaning = w.meaning; blank = is }, judged-back decimals slot v few holds.0, tt)
+    (record { gap = tt; word = w.blank; class = w.class; blank = is }, judged-back decimals slot v few holds.0, tt)
 writes-tail decimals last (slot ∷ next ∷ slots) (v ∷ u ∷ values) few is holds =
     let w = value-word decimals slot.kind v (holds.0).bound in
-    (record { gap = tt; word = w.blank; meaning = w.meaning; blank = refl }, judged-back decimals slot v few holds.0, writes-tail decimals last (next ∷ slots) (u ∷ values) few is holds.1)
+    (record { gap = tt; word = w.blank; class = w.class; blank = refl }, judged-back decimals slot v few holds.0, writes-tail decimals last (next ∷ slots) (u ∷ values) few is holds.1)
 writes-tail decimals last [] (v ∷ values) few is holds = absurd holds
 writes-tail decimals last (slot ∷ slots) [] few is holds = absurd holds
 writes-tail decimals last (slot ∷ []) (v ∷ u ∷ values) few is holds = absurd holds.1
@@ -148,9 +148,9 @@ kept-append (s ∷ first) slots [] values holds = absurd holds
 
 -- its first line is a comment
 step-comment : (step : ℕ) → step < 2 ^ 64 → IsFiller (comment (codes "#step " ++ decimal step))
-unfolding meaning_of
+unfolding class_of
 step-comment step small = (
-  ap meaning_of (part-at is_blank (codes "#step") 32 (decimal step) refl refl).0,
+  ap class_of (part-at is_blank (codes "#step") 32 (decimal step) refl refl).0,
   no-digit (λ b. b == 10) feed-digit (decimal step) (digits_decimal own step small),
 )
 
@@ -197,9 +197,9 @@ word-then w (v ∷ words) none =
 
 -- the part of the locals, as a comment
 locals-comment : (decimals : ℕ) (kinds : List Kind) (locals : List (Option Value)) → AreLocalsSized locals → IsFiller (comment (codes "#locs" ++ behind_space (local_words decimals kinds locals)))
-unfolding meaning_of
+unfolding class_of
 locals-comment decimals kinds locals sized =
-    (ap meaning_of (word-then (codes "#locs") (local_words decimals kinds locals) refl), locals-none decimals kinds locals sized)
+    (ap class_of (word-then (codes "#locs") (local_words decimals kinds locals) refl), locals-none decimals kinds locals sized)
 
 -- what stands behind the values: a blank, and what may stand between values
 pub record Tail (decimals : ℕ) (kinds : List Kind) (locals : Option (List (Option Value))) : Type 0 where
@@ -431,13 +431,13 @@ declared-then : (w : List ℕ) (ds : List DeclaredVariable) → list_any is_blan
 declared-then w [] none = ap (before_first is_blank) (append-nil w) ∙ (part-none is_blank w none).0
 declared-then w (d ∷ ds) none = (part-at is_blank w 32 _ none refl).0
 
-declared-comment : (w : List ℕ) (ds : List DeclaredVariable) → list_any is_blank w ≡ false → list_any (λ b. b == 10) w ≡ false → meaning_of w ≡ meaning.Comment → AreOnLines ds → IsFiller (comment (w ++ flat_map declared_text ds))
-declared-comment w ds none no_feed means are = (ap meaning_of (declared-then w ds none) ∙ means, none-append w (flat_map declared_text ds) no_feed (declared-none ds are))
+declared-comment : (w : List ℕ) (ds : List DeclaredVariable) → list_any is_blank w ≡ false → list_any (λ b. b == 10) w ≡ false → class_of w ≡ class.Comment → AreOnLines ds → IsFiller (comment (w ++ flat_map declared_text ds))
+declared-comment w ds none no_feed means are = (ap class_of (declared-then w ds none) ∙ means, none-append w (flat_map declared_text ds) no_feed (declared-none ds are))
 
 seed-comment : (seed : ℕ) → seed < 2 ^ 64 → IsFiller (comment (codes "#seed " ++ decimal seed))
-unfolding meaning_of
+unfolding class_of
 seed-comment seed small = (
-  ap meaning_of (part-at is_blank (codes "#seed") 32 (decimal seed) refl refl).0,
+  ap class_of (part-at is_blank (codes "#seed") 32 (decimal seed) refl refl).0,
   no-digit (λ b. b == 10) feed-digit (decimal seed) (digits_decimal own seed small),
 )
 
@@ -448,14 +448,14 @@ record HeaderParts (text : List ℕ) : Type 0 where
   is : text ≡ gap_text parts
 
 locals-parts : (locals : Option (List DeclaredVariable)) → AreOnLines (unwrap_or locals []) → HeaderParts (locals_header locals)
-unfolding meaning_of
+unfolding class_of
 locals-parts None are = record { parts = []; are = tt; is = refl }
 locals-parts (Some ds) are =
     let text = codes "#locals" ++ flat_map declared_text ds in
     record { parts = comment text ∷ []; are = (declared-comment (codes "#locals") ds refl refl refl are, tt); is = sym (append-nil (line text)) }
 
 header-parts : (seed : ℕ) (outputs inputs : List DeclaredVariable) (locals : Option (List DeclaredVariable)) → seed < 2 ^ 64 → AreOnLines outputs → AreOnLines inputs → AreOnLines (unwrap_or locals []) → HeaderParts (header_text seed outputs inputs locals)
-unfolding meaning_of
+unfolding class_of
 header-parts seed outputs inputs locals small outputs_are inputs_are locals_are =
     let rest = locals-parts locals locals_are in
     let first = codes "#seed " ++ decimal seed in

@@ -5,13 +5,13 @@ use Rattle.std.proofs.lemmas.Bool.{le-ltb}
 use Rattle.std.proofs.lemmas.Grind.{common_steps}
 use Rattle.lt_num.specs.declared.value.Value.{Value}
 use Rattle.lt_rif.specs.Judgement.{judged}
-use Rattle.lt_rif.specs.Reply.{Stream, whole, longest, Begun, after_word, filled, go_on, reply_in, with_meaning, with_value, with_judged}
+use Rattle.lt_rif.specs.Reply.{Stream, whole, longest, Begun, after_word, filled, go_on, reply_in, with_class, with_value, with_judged}
 use Rattle.lt_rif.specs.Spelling.{Filler, blank, outs, comment, filler_text, IsFiller, AreFillers, gap_text, Field, field_text, IsField, Writes, fields_text, kept, SpellingIsRead}
-use Rattle.lt_rif.specs.Word.{is_blank, meaning_of, words_of}
+use Rattle.lt_rif.specs.Word.{is_blank, class_of, words_of}
 use Rattle.lt_rif.specs.declared.fault.ValueFault.{ValueFault}
 use Rattle.lt_rif.specs.declared.slot.Slot.{Slot}
-use Rattle.lt_rif.specs.declared.word.Meaning.{Meaning}
-use Rattle.lt_rif.specs.declared.word.Meaning.TheVariants as meaning
+use Rattle.lt_rif.specs.declared.word.WordClass.{WordClass}
+use Rattle.lt_rif.specs.declared.word.WordClass.TheVariants as class
 use Rattle.lt_rif.proofs.ReadingLemmas.{neither, words_run}
 
 -- a reply that has begun
@@ -61,28 +61,28 @@ comment-rest closed decimals slots values place (b ∷ text) taken front bytes n
 
 -- its first word, and what stands behind that
 comment-first : (closed : Bool) (decimals : ℕ) (slots : List Slot) (values : List Value) (place : ℕ) (text : List ℕ) (taken : ℕ) (front bytes : List ℕ)
-    → meaning_of (front ++ before_first is_blank text) ≡ meaning.Comment → list_any (λ b. b == 10) text ≡ false → taken + length front + length text + 1 ≤ longest
+    → class_of (front ++ before_first is_blank text) ≡ class.Comment → list_any (λ b. b == 10) text ≡ false → taken + length front + length text + 1 ≤ longest
     → reply_in closed (at decimals slots values place false taken) (words_of front (text ++ 10 ∷ bytes))
     ≡ reply_in closed (at decimals slots values place false (taken + length front + length text + 1)) (words_of [] bytes)
 comment-first closed decimals slots values place [] taken front bytes means none short =
-    let whole_word : meaning_of front ≡ meaning.Comment = ap meaning_of (sym (append-nil front)) ∙ means in
+    let whole_word : class_of front ≡ class.Comment = ap class_of (sym (append-nil front)) ∙ means in
     word-on closed (at decimals slots values place false taken) front 10 bytes refl (omega arith)
-    ∙ ap (λ (m : Meaning). go_on (with_meaning (at decimals slots values place false taken) front true m) (record { place = place + taken + length front + 1; bytes = bytes; is_closed = closed }) (λ q. reply_in closed q (words_of [] bytes))) whole_word
+    ∙ ap (λ (m : WordClass). go_on (with_class (at decimals slots values place false taken) front true m) (record { place = place + taken + length front + 1; bytes = bytes; is_closed = closed }) (λ q. reply_in closed q (words_of [] bytes))) whole_word
     ∙ ap (λ (n : ℕ). reply_in closed (at decimals slots values place false n) (words_of [] bytes)) {x = taken + length front + 1} {y = taken + length front + 0 + 1} (omega arith)
 comment-first closed decimals slots values place (b ∷ text) taken front bytes means none short =
     let split = neither (b == 10) (list_any (λ c. c == 10) text) none in
     either (is_blank b)
     (λ e.
-    let whole_word : meaning_of front ≡ meaning.Comment = ap meaning_of (sym (append-nil front) ∙ ap (λ (t : List ℕ). front ++ t) (sym (front-blank b text e))) ∙ means in
+    let whole_word : class_of front ≡ class.Comment = ap class_of (sym (append-nil front) ∙ ap (λ (t : List ℕ). front ++ t) (sym (front-blank b text e))) ∙ means in
     word-on closed (at decimals slots values place false taken) front b (text ++ 10 ∷ bytes) e (omega arith)
-    ∙ ap (λ (m : Meaning). go_on (with_meaning (at decimals slots values place false taken) front (b == 10) m) (record { place = place + taken + length front + 1; bytes = text ++ 10 ∷ bytes; is_closed = closed }) (λ q. reply_in closed q (words_of [] (text ++ 10 ∷ bytes)))) whole_word
+    ∙ ap (λ (m : WordClass). go_on (with_class (at decimals slots values place false taken) front (b == 10) m) (record { place = place + taken + length front + 1; bytes = text ++ 10 ∷ bytes; is_closed = closed }) (λ q. reply_in closed q (words_of [] (text ++ 10 ∷ bytes)))) whole_word
     ∙ ap (λ (x : Bool). reply_in closed (at decimals slots values place (not x) (taken + length front + 1)) (words_of [] (text ++ 10 ∷ bytes))) split.0
     ∙ comment-rest closed decimals slots values place text (taken + length front + 1) [] bytes split.1 (omega arith)
     ∙ ap (λ (n : ℕ). reply_in closed (at decimals slots values place false n) (words_of [] bytes)) {x = taken + length front + 1 + 0 + length text + 1} {y = taken + length front + length (b ∷ text) + 1} (omega arith))
     (λ e.
     let longer = length-append front (b ∷ []) in
-    let means_still : meaning_of ((front ++ b ∷ []) ++ before_first is_blank text) ≡ meaning.Comment =
-    ap meaning_of (append_assoc front (b ∷ []) (before_first is_blank text) ∙ ap (λ (t : List ℕ). front ++ t) (sym (front-other b text e))) ∙ means in
+    let means_still : class_of ((front ++ b ∷ []) ++ before_first is_blank text) ≡ class.Comment =
+    ap class_of (append_assoc front (b ∷ []) (before_first is_blank text) ∙ ap (λ (t : List ℕ). front ++ t) (sym (front-other b text e))) ∙ means in
     rw e (comment-first closed decimals slots values place text taken (front ++ b ∷ []) bytes means_still split.1 (omega arith))
     ∙ ap (λ (n : ℕ). reply_in closed (at decimals slots values place false n) (words_of [] bytes)) {x = taken + length (front ++ b ∷ []) + length text + 1} {y = taken + length front + length (b ∷ text) + 1} (omega arith))
 
@@ -91,7 +91,7 @@ comment-first closed decimals slots values place (b ∷ text) taken front bytes 
 filler-passed : (closed : Bool) (decimals : ℕ) (slots : List Slot) (values : List Value) (place taken : ℕ) (part : Filler) (bytes : List ℕ) → IsFiller part → taken + length (filler_text part) ≤ longest
     → reply_in closed (at decimals slots values place false taken) (words_of [] (filler_text part ++ bytes))
     ≡ reply_in closed (at decimals slots values place false (taken + length (filler_text part))) (words_of [] bytes)
-unfolding meaning_of
+unfolding class_of
 filler-passed closed decimals slots values place taken (blank b) bytes is short =
     word-on closed (at decimals slots values place false taken) [] b bytes is (omega arith)
     ∙ ap (λ (n : ℕ). reply_in closed (at decimals slots values place false n) (words_of [] bytes)) {x = taken + 0 + 1} {y = taken + 1} (omega arith)
@@ -135,7 +135,7 @@ field-read closed decimals slot slots values place taken f v bytes is judges sho
     ∙ gap-passed closed decimals (slot ∷ slots) values place f.gap taken (f.word ++ f.blank ∷ bytes) is.gap (omega arith)
     ∙ ap (reply_in closed start) (words_run [] f.word (f.blank ∷ bytes) is.word)
     ∙ word-on closed start f.word f.blank bytes is.blank (omega arith)
-    ∙ ap (λ (m : Meaning). go_on (with_meaning start f.word (f.blank == 10) m) behind (λ q. reply_in closed q (words_of [] bytes))) is.meaning
+    ∙ ap (λ (m : WordClass). go_on (with_class start f.word (f.blank == 10) m) behind (λ q. reply_in closed q (words_of [] bytes))) is.class
     ∙ ap (λ (j : Result Value ValueFault). go_on (with_judged start f.word slot slots j) behind (λ q. reply_in closed q (words_of [] bytes))) judges
 
 -- the values that are kept so far, and those that come

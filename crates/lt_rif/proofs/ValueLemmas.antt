@@ -22,10 +22,10 @@ use Rattle.lt_rif.specs.Judgement.{judged}
 use Rattle.lt_rif.specs.Number.{decimal_part, int_written, is_digits, is_mark, is_point, number_of, raw_written, real_written, whole_part}
 use Rattle.lt_rif.specs.ReadBack.{Holds}
 use Rattle.lt_rif.specs.Trace.{value_text}
-use Rattle.lt_rif.specs.Word.{is_blank, meaning_of}
+use Rattle.lt_rif.specs.Word.{is_blank, class_of}
 use Rattle.lt_rif.specs.declared.number.Scaled.{Scaled}
 use Rattle.lt_rif.specs.declared.slot.Slot.{Slot}
-use Rattle.lt_rif.specs.declared.word.Meaning.TheVariants as meaning
+use Rattle.lt_rif.specs.declared.word.WordClass.TheVariants as class
 use Rattle.lt_rif.specs.inner.Decimal.{behind_mark, rounded_quotient, IsScaled}
 use Rattle.lt_rif.proofs.EnoughLemmas.{length-last_digits}
 use Rattle.lt_rif.proofs.NumberLemmas.{quotient-whole}
@@ -118,34 +118,34 @@ judged-back decimals slot v few holds =
 -- ---- words
 
 -- a word that begins with a digit, or with a minus and a digit, is a value's
-meaning-digit : (text : List ℕ) → 0 < length text → (48 ≤ get_or text 0 0) × (get_or text 0 0 ≤ 57) → meaning_of text ≡ meaning.Value
-unfolding meaning_of
-meaning-digit [] some begins = absurd (omega arith)
-meaning-digit (x ∷ xs) some begins =
+class-digit : (text : List ℕ) → 0 < length text → (48 ≤ get_or text 0 0) × (get_or text 0 0 ≤ 57) → class_of text ≡ class.Value
+unfolding class_of
+class-digit [] some begins = absurd (omega arith)
+class-digit (x ∷ xs) some begins =
     let low = begins.0 in
     let first : x == 35 ≡ false = grind (arith, nat_tests) in
     let second : 45 == x ≡ false = grind (arith, nat_tests) in
     let third : 35 == x ≡ false = grind (arith, nat_tests) in
     rw (first, second, third) refl
 
-meaning-minus : (text : List ℕ) → 0 < length text → (48 ≤ get_or text 0 0) × (get_or text 0 0 ≤ 57) → meaning_of (45 ∷ text) ≡ meaning.Value
-unfolding meaning_of
-meaning-minus [] some begins = absurd (omega arith)
-meaning-minus (x ∷ xs) some begins =
+class-minus : (text : List ℕ) → 0 < length text → (48 ≤ get_or text 0 0) × (get_or text 0 0 ≤ 57) → class_of (45 ∷ text) ≡ class.Value
+unfolding class_of
+class-minus [] some begins = absurd (omega arith)
+class-minus (x ∷ xs) some begins =
     let low = begins.0 in
     let second : 45 == x ≡ false = grind (arith, nat_tests) in
     rw second refl
 
 pub record IsWord (text : List ℕ) : Type 0 where
   pub blank : list_any is_blank text ≡ false
-  pub meaning : meaning_of text ≡ meaning.Value
+  pub class : class_of text ≡ class.Value
 
 number-word : (k : ℕ) (raw : ℤ) → unsigned_abs raw ≤ most_raw → IsWord (text_of k raw)
-number-word k (pos n) small = let text = size-is k n (omega arith) in record { blank = text.blank; meaning = meaning-digit (size_text k n) text.some text.begins }
-number-word k (negsuc n) small = let text = size-is k (suc n) (omega arith) in record { blank = text.blank; meaning = meaning-minus (size_text k (suc n)) text.some text.begins }
+number-word k (pos n) small = let text = size-is k n (omega arith) in record { blank = text.blank; class = class-digit (size_text k n) text.some text.begins }
+number-word k (negsuc n) small = let text = size-is k (suc n) (omega arith) in record { blank = text.blank; class = class-minus (size_text k (suc n)) text.some text.begins }
 
 pub value-word : (decimals : ℕ) (k : Kind) (v : Value) → unsigned_abs (raw_of v) ≤ most_raw → IsWord (value_text decimals k v)
-unfolding meaning_of
-value-word decimals k (value.Bool true) small = record { blank = refl; meaning = refl }
-value-word decimals k (value.Bool false) small = record { blank = refl; meaning = refl }
+unfolding class_of
+value-word decimals k (value.Bool true) small = record { blank = refl; class = refl }
+value-word decimals k (value.Bool false) small = record { blank = refl; class = refl }
 value-word decimals k (value.Num raw) small = number-word _ raw small

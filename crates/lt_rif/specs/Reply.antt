@@ -3,12 +3,12 @@ use Rattle.std.specs.Prelude.{ℕ, ◌+◌, Bool, true, false, not, ◌==◌, na
 use Rattle.std.specs.declared.result.Result.{Result}
 use Rattle.lt_num.specs.declared.value.Value.{Value}
 use Rattle.lt_rif.specs.Judgement.{judged}
-use Rattle.lt_rif.specs.Word.{Words, last, word, words_of, meaning_of}
+use Rattle.lt_rif.specs.Word.{Words, last, word, words_of, class_of}
 use Rattle.lt_rif.specs.declared.fault.ValueFault.{ValueFault}
 use Rattle.lt_rif.specs.declared.fault.ValueFault.TheVariants as fault
 use Rattle.lt_rif.specs.declared.slot.Slot.{Slot}
-use Rattle.lt_rif.specs.declared.word.Meaning.{Meaning}
-use Rattle.lt_rif.specs.declared.word.Meaning.TheVariants as meaning
+use Rattle.lt_rif.specs.declared.word.WordClass.{WordClass}
+use Rattle.lt_rif.specs.declared.word.WordClass.TheVariants as class
 
 -- how many bytes a reply may take
 abbrev pub longest : ℕ
@@ -81,14 +81,14 @@ with_word r text [] = done r.values
 with_word r text (slot ∷ slots) = with_judged r text slot slots (judged r.decimals slot text)
 
 -- a word outside comments, and whether its line ends behind it
-abbrev pub with_meaning : Begun → List ℕ → Bool → Meaning → Progress
-with_meaning r text ends_line meaning.Passed = more (past r text false)
-with_meaning r text ends_line meaning.Comment = more (past r text (not ends_line))
-with_meaning r text ends_line meaning.Value = with_word r text r.slots
+abbrev pub with_class : Begun → List ℕ → Bool → WordClass → Progress
+with_class r text ends_line class.Passed = more (past r text false)
+with_class r text ends_line class.Comment = more (past r text (not ends_line))
+with_class r text ends_line class.Value = with_word r text r.slots
 
 -- a word, and whether its line ends behind it
 abbrev pub after_word : Begun → List ℕ → Bool → Progress
-after_word r text ends_line = if r.is_comment then more (past r text (not ends_line)) else with_meaning r text ends_line (meaning_of text)
+after_word r text ends_line = if r.is_comment then more (past r text (not ends_line)) else with_class r text ends_line (class_of text)
 
 -- a word with the blank behind it, what is left of the stream, and what to do where the reply goes on
 abbrev pub go_on : Progress → Stream → (Begun → Reply) → Reply

@@ -4,9 +4,9 @@ use Rattle.std.specs.List.{before_first, flat_map, list_any}
 use Rattle.lt_num.specs.declared.value.Value.{Value}
 use Rattle.lt_rif.specs.Judgement.{judged}
 use Rattle.lt_rif.specs.Reply.{whole, longest, reply_of}
-use Rattle.lt_rif.specs.Word.{is_blank, meaning_of}
+use Rattle.lt_rif.specs.Word.{is_blank, class_of}
 use Rattle.lt_rif.specs.declared.slot.Slot.{Slot}
-use Rattle.lt_rif.specs.declared.word.Meaning.TheVariants as meaning
+use Rattle.lt_rif.specs.declared.word.WordClass.TheVariants as class
 
 -- what may stand between values
 pub data Filler : Type 0 where
@@ -25,7 +25,7 @@ filler_text (comment text) = text ++ 10 ∷ []
 abbrev pub IsFiller : Filler → Type 0
 IsFiller (blank b) = is_blank b ≡ true
 IsFiller (outs b) = is_blank b ≡ true
-IsFiller (comment text) = (meaning_of (before_first is_blank text) ≡ meaning.Comment) × (list_any (λ b. b == 10) text ≡ false)
+IsFiller (comment text) = (class_of (before_first is_blank text) ≡ class.Comment) × (list_any (λ b. b == 10) text ≡ false)
 
 -- any number of them
 abbrev pub AreFillers : List Filler → Type 0
@@ -47,7 +47,7 @@ field_text f = gap_text f.gap ++ f.word ++ f.blank ∷ []
 pub record IsField (f : Field) : Type 0 where
   pub gap : AreFillers f.gap
   pub word : list_any is_blank f.word ≡ false
-  pub meaning : meaning_of f.word ≡ meaning.Value
+  pub class : class_of f.word ≡ class.Value
   pub blank : is_blank f.blank ≡ true
 
 -- fields that write these values of these slots, in turn

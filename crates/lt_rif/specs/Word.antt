@@ -2,8 +2,8 @@
 use Rattle.std.specs.Prelude.{ℕ, Bool, ◌||◌, ◌==◌, nat_eq, List, [], ◌∷◌, ◌++◌, codes, if◌then◌else◌}
 use Rattle.std.specs.List.{starts_with}
 use Rattle.std.specs.Str.{bytes_eq}
-use Rattle.lt_rif.specs.declared.word.Meaning.{Meaning}
-use Rattle.lt_rif.specs.declared.word.Meaning.TheVariants as meaning
+use Rattle.lt_rif.specs.declared.word.WordClass.{WordClass}
+use Rattle.lt_rif.specs.declared.word.WordClass.TheVariants as class
 
 -- a tab, a line feed, a carriage return or a space
 abbrev pub is_blank : ℕ → Bool
@@ -22,7 +22,7 @@ words_of text [] = last text
 words_of text (b ∷ bs) = if is_blank b then word text b bs (words_of [] bs) else words_of (text ++ b ∷ []) bs
 
 -- what a word is that stands outside comments
-unfoldable pub meaning_of : List ℕ → Meaning
-meaning_of text =
-    if bytes_eq text [] || bytes_eq text (codes "#outs") then meaning.Passed
-    else (if starts_with nat_eq text (codes "--") || starts_with nat_eq text (codes "#") then meaning.Comment else meaning.Value)
+unfoldable pub class_of : List ℕ → WordClass
+class_of text =
+    if bytes_eq text [] || bytes_eq text (codes "#outs") then class.Passed
+    else (if starts_with nat_eq text (codes "--") || starts_with nat_eq text (codes "#") then class.Comment else class.Value)

@@ -7,7 +7,7 @@ ghost use Rattle.lt_rif.specs.Reply.{after_word, beginning, longest, with_word};
 use crate::fault::ValueFault;
 use crate::judgement::judge;
 use crate::slot::Slot;
-use crate::word::{Meaning, meaning_of};
+use crate::word::{WordClass, class_of};
 use lt_num::Value;
 use std::mem;
 
@@ -143,12 +143,12 @@ impl Draft {
                 is_comment: !ends_line,
             };
         }
-        match meaning_of(&self.word) {
-            Meaning::Passed => Look::Pass { is_comment: false },
-            Meaning::Comment => Look::Pass {
+        match class_of(&self.word) {
+            WordClass::Passed => Look::Pass { is_comment: false },
+            WordClass::Comment => Look::Pass {
                 is_comment: !ends_line,
             },
-            Meaning::Value => self.look_at_value(),
+            WordClass::Value => self.look_at_value(),
         }
     }
 

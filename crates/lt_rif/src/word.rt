@@ -2,12 +2,12 @@
 
 ghost use Rattle.std.specs.Prelude.{◌≡◌, ◌<◌, ◌≤◌, length, take, slice_index, false, true};
 ghost use Rattle.std.specs.List.{list_any};
-ghost use Rattle.lt_rif.specs.Word.{is_blank, meaning_of};
+ghost use Rattle.lt_rif.specs.Word.{is_blank, class_of};
 ghost use Rattle.lt_rif.specs.inner.Chunk.{IsChunk};
 
 /// What a word is that stands outside comments.
 #[derive(Clone, Copy, Debug, PartialEq, Eq)]
-pub enum Meaning {
+pub enum WordClass {
     /// No value: nothing at all, or the word `#outs`.
     Passed,
 
@@ -54,14 +54,14 @@ fn length_of_run(bytes: &[u8]) -> usize
 }
 
 /// What a word is that stands outside comments.
-#[tactic(auto, unfolding(crate::specs::Word::meaning_of))]
-pub fn meaning_of(word: &[u8]) -> Meaning
-    ensures { result ≡ meaning_of word.now }
+#[tactic(auto, unfolding(crate::specs::Word::class_of))]
+pub fn class_of(word: &[u8]) -> WordClass
+    ensures { result ≡ class_of word.now }
 {
     match word {
-        [] => Meaning::Passed,
-        [b'#', ..] if word == b"#outs".as_slice() => Meaning::Passed,
-        [b'#', ..] | [b'-', b'-', ..] => Meaning::Comment,
-        _ => Meaning::Value,
+        [] => WordClass::Passed,
+        [b'#', ..] if word == b"#outs".as_slice() => WordClass::Passed,
+        [b'#', ..] | [b'-', b'-', ..] => WordClass::Comment,
+        _ => WordClass::Value,
     }
 }
