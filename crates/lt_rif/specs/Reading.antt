@@ -74,6 +74,12 @@ FedMoves old piece (fed.Whole n) new = (new.begun.place ≡ given old + n) × (n
 FedMoves old piece fed.More new = (new.begun.place ≡ old.begun.place) × (given new ≡ given old + length piece)
 FedMoves old piece (fed.Malformed f place) new = new.begun.place ≡ old.begun.place
 
+-- The values of the last whole reply stay until there is another one.
+abbrev pub FedKeeps : Fed → List Value → List Value → Type 0
+FedKeeps (fed.Whole n) old new = Unit {0}
+FedKeeps fed.More old new = new ≡ old
+FedKeeps (fed.Malformed f place) old new = new ≡ old
+
 -- What an answer of `finish` tells.
 abbrev pub ClosingTells : Reading → Closing → Reading → List Value → Type 0
 -- the end of the stream ends the reply, and the next one begins there
@@ -89,3 +95,9 @@ abbrev pub ClosingMoves : Reading → Closing → Reading → Type 0
 ClosingMoves old closing.Whole new = (new.begun.place ≡ given old) × (new.begun.place ≤ old.begun.place + longest)
 ClosingMoves old (closing.Short n) new = new.begun.place ≡ old.begun.place
 ClosingMoves old (closing.Malformed f place) new = new.begun.place ≡ old.begun.place
+
+-- the values of the last whole reply stay until there is another one
+abbrev pub ClosingKeeps : Closing → List Value → List Value → Type 0
+ClosingKeeps closing.Whole old new = Unit {0}
+ClosingKeeps (closing.Short n) old new = new ≡ old
+ClosingKeeps (closing.Malformed f place) old new = new ≡ old

@@ -63,7 +63,7 @@ pub struct Reader {
 }
 
 impl Reader {
-    ghost use Rattle.lt_rif.specs.Reading.{answer, reading, values_of, given, between, FedTells, FedMoves, ClosingTells, ClosingMoves};
+    ghost use Rattle.lt_rif.specs.Reading.{answer, reading, values_of, given, between, FedTells, FedMoves, FedKeeps, ClosingTells, ClosingMoves, ClosingKeeps};
     ghost use Rattle.lt_rif.specs.inner.Draft.{begun, filled_with};
     ghost use Rattle.lt_rif.specs.inner.Chunk.{IsChunk};
     ghost use Rattle.lt_rif.specs.inner.Open.{open_at};
@@ -72,7 +72,8 @@ impl Reader {
     /// stream. Only this call takes memory.
     pub fn make(alloc: Global, slots: Vec<Slot>, decimals: u32) -> Result<Reader, AllocError>
         requires { decimals ≤ most_decimals }
-        ensures { IfOk result (λ r. reading r ≡ between decimals slots.items 0) }
+        ensures begins { IfOk result (λ r. reading r ≡ between decimals slots.items 0) }
+        ensures values { IfOk result (λ r. values_of r ≡ []) }
     {
         let count = slots.len();
         Ok(Reader {
@@ -115,6 +116,7 @@ impl Reader {
         requires { given (reading self.old) + length piece.now < 2 ^ 63 }
         ensures tells { FedTells (reading self.old) piece.now result (reading self.new) (values_of self.new) }
         ensures moves { FedMoves (reading self.old) piece.now result (reading self.new) }
+        ensures keeps { FedKeeps result (values_of self.old) (values_of self.new) }
         ensures slots { (reading self.new).slots ≡ (reading self.old).slots }
         ensures decimals { (reading self.new).begun.decimals ≡ (reading self.old).begun.decimals }
         ensures short { (reading self.new).begun.taken + length (reading self.new).text ≤ longest }
@@ -147,6 +149,7 @@ impl Reader {
         requires { given (reading self.old) < 2 ^ 63 }
         ensures tells { ClosingTells (reading self.old) result (reading self.new) (values_of self.new) }
         ensures moves { ClosingMoves (reading self.old) result (reading self.new) }
+        ensures keeps { ClosingKeeps result (values_of self.old) (values_of self.new) }
         ensures slots { (reading self.new).slots ≡ (reading self.old).slots }
         ensures decimals { (reading self.new).begun.decimals ≡ (reading self.old).begun.decimals }
         ensures short { (reading self.new).begun.taken + length (reading self.new).text ≤ longest }
@@ -188,6 +191,7 @@ impl Reader {
         requires ends { after_word (begun self.old.draft) self.old.draft.word.items true ≡ filled_with self.old.draft value keep }
         ensures tells { ClosingTells (open_at self.old.draft) result (reading self.new) (values_of self.new) }
         ensures moves { ClosingMoves (open_at self.old.draft) result (reading self.new) }
+        ensures keeps { ClosingKeeps result (values_of self.old) (values_of self.new) }
         ensures slots { self.new.draft.slots ≡ self.old.draft.slots }
         ensures decimals { self.new.draft.decimals ≡ self.old.draft.decimals }
     {
@@ -209,6 +213,7 @@ impl Reader {
         requires chunk { IsChunk chunk.now }
         ensures tells { FedTells (open_at self.old.draft) chunk.now result (reading self.new) (values_of self.new) }
         ensures moves { FedMoves (open_at self.old.draft) chunk.now result (reading self.new) }
+        ensures keeps { FedKeeps result (values_of self.old) (values_of self.new) }
         ensures slots { self.new.draft.slots ≡ self.old.draft.slots }
         ensures decimals { self.new.draft.decimals ≡ self.old.draft.decimals }
         ensures all { (n : ℕ) → result ≡ Fed.Whole n → n ≡ length chunk.now }
@@ -229,6 +234,7 @@ impl Reader {
         requires run { list_any is_blank run.now ≡ false }
         ensures tells { FedTells (open_at self.old.draft) run.now result (reading self.new) (values_of self.new) }
         ensures moves { FedMoves (open_at self.old.draft) run.now result (reading self.new) }
+        ensures keeps { FedKeeps result (values_of self.old) (values_of self.new) }
         ensures slots { self.new.draft.slots ≡ self.old.draft.slots }
         ensures decimals { self.new.draft.decimals ≡ self.old.draft.decimals }
         ensures all { (n : ℕ) → result ≡ Fed.Whole n → n ≡ length run.now }
@@ -249,6 +255,7 @@ impl Reader {
         requires place { given (reading self.old) + 1 < 2 ^ 63 }
         ensures tells { FedTells (open_at self.old.draft) (byte ∷ []) result (reading self.new) (values_of self.new) }
         ensures moves { FedMoves (open_at self.old.draft) (byte ∷ []) result (reading self.new) }
+        ensures keeps { FedKeeps result (values_of self.old) (values_of self.new) }
         ensures slots { self.new.draft.slots ≡ self.old.draft.slots }
         ensures decimals { self.new.draft.decimals ≡ self.old.draft.decimals }
         ensures all { (n : ℕ) → result ≡ Fed.Whole n → n ≡ 1 }

@@ -46,6 +46,7 @@ loop-used-preserved c =
       decimals = c.in-More.ensures.decimals ∙ c.loop-used.invariant.decimals;
       place = moves.0 ∙ c.loop-used.invariant.place;
       taken = omega (arith, moves.1, c.loop-used.invariant.taken);
+      values = c.in-More.ensures.keeps ∙ c.loop-used.invariant.values;
       same = same_behind c.loop-used.self.draft (reading c.args.self.now) (reading c.loop-used.self) (reading c.take.new.self) c.args.piece.now c.loop-used.used _ m c.take.new.self.values.items
           c.loop-used.invariant.same (chunk_front c.args.piece.now c.loop-used.used m) (rw c.loop-used.invariant.goes_on refl) c.in-More.ensures.tells;
     }
