@@ -1,7 +1,8 @@
 -- What words make of drafts.
 use Rattle.std.proofs.Common.{◌≡◌, ◌<◌, ◌+◌, false, List, [], ◌∷◌, length, drop, length-drop, arith}
 use Rattle.lt_rif.specs.Reply.{filled}
-use Rattle.lt_rif.specs.inner.Draft.{begun, HasEffect}
+use Rattle.lt_rif.specs.inner.Draft.{HasEffect}
+use Rattle.lt_rif.specs.View.{begun}
 use Rattle.lt_rif.specs.declared.draft.Draft.{Draft}
 use Rattle.lt_rif.specs.declared.draft.Effect.TheVariants as effect
 use Rattle.lt_rif.specs.declared.slot.Slot.{Slot}

@@ -7,7 +7,8 @@ use Rattle.lt_num.specs.declared.value.Value.{Value}
 use Rattle.lt_rif.specs.Word.{is_blank, word, words_of}
 use Rattle.lt_rif.specs.Reply.{longest, Stream, Reply, whole, needs, short, malformed, Begun, Progress, more, done, refused, filled, after_word, go_on, stop, reply_in, reply_of, beginning}
 use Rattle.lt_rif.specs.Reading.{Reading, between, found, answer, FedTells, ClosingTells}
-use Rattle.lt_rif.specs.inner.Draft.{HasEffect, begun, looked, filled_with}
+use Rattle.lt_rif.specs.inner.Draft.{HasEffect, looked, filled_with}
+use Rattle.lt_rif.specs.View.{begun}
 use Rattle.lt_rif.specs.inner.Open.{open_at}
 use Rattle.lt_rif.specs.declared.draft.Draft.{Draft}
 use Rattle.lt_rif.specs.declared.draft.Effect.TheVariants as effect

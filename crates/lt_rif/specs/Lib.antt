@@ -6,6 +6,8 @@ pub mod Number
 pub mod Judgement
 -- replies on a whole stream
 pub mod Reply
+-- the view of a reply that has begun
+pub mod View
 -- what a reader has read, and what its answers tell
 pub mod Reading
 -- how replies may be written

@@ -11,7 +11,7 @@ use Rattle.lt_rif.specs.declared.reader.Fed.TheVariants as fed
 use Rattle.lt_rif.specs.declared.reader.Closing.{Closing}
 use Rattle.lt_rif.specs.declared.reader.Closing.TheVariants as closing
 use Rattle.lt_rif.specs.declared.slot.Slot.{Slot}
-use Rattle.lt_rif.specs.inner.Draft.{begun}
+use Rattle.lt_rif.specs.View.{begun}
 
 -- where a reader stands
 pub record Reading : Type 0 where

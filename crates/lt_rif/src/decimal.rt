@@ -4,8 +4,8 @@ ghost use Rattle.std.specs.Prelude.{◌≡◌, ◌*◌, ◌^◌, ◌<◌, ◌≤
 ghost use Rattle.lt_num.specs.Bounds.{most_raw};
 ghost use Rattle.lt_rif.specs.inner.Decimal.{digits_written, rounded_quotient};
 
-// The most that a raw number may be in size.
-const MOST: u128 = 1_000_000_000_000;
+/// The most that a raw number may be in size.
+pub const MOST: u128 = 1_000_000_000_000;
 
 /// The number that a text writes that is digits alone, from `least` to `most` of them.
 pub fn digits_of(text: &[u8], least: usize, most: usize) -> Option<u64>

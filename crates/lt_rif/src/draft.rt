@@ -76,7 +76,8 @@ pub struct Draft {
 }
 
 impl Draft {
-    ghost use Rattle.lt_rif.specs.inner.Draft.{begun, filled_with, looked, HasEffect};
+    ghost use Rattle.lt_rif.specs.inner.Draft.{filled_with, looked, HasEffect};
+    ghost use Rattle.lt_rif.specs.View.{begun};
 
     // Passes the word, with the byte behind it. A comment goes on behind it or not.
     fn pass(&mut self, is_comment: bool)

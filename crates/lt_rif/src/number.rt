@@ -10,14 +10,11 @@ ghost use Rattle.lt_rif.specs.Judgement.{bounded_raw};
 ghost use Rattle.lt_rif.specs.inner.Decimal.{behind_mark, IsMove, IsScaled};
 ghost use Rattle.lt_rif.specs.Number.{is_mark, is_point, raw_written, truth_written, int_written, real_written};
 
-use crate::decimal::{digits_of, rounded};
+use crate::decimal::{MOST, digits_of, rounded};
 use crate::fault::ValueFault;
 use lt_num::Kind;
 
-// The most that a raw number may be in size.
-const MOST: u128 = 1_000_000_000_000;
-
-// The most digits before a point, and behind it.
+// The most digits of an int, and of a real before its point and behind it.
 const MOST_DIGITS: usize = 18;
 
 // The most digits of an exponent.

@@ -64,7 +64,8 @@ pub struct Reader {
 
 impl Reader {
     ghost use Rattle.lt_rif.specs.Reading.{answer, reading, values_of, given, between, FedTells, FedMoves, FedKeeps, ClosingTells, ClosingMoves, ClosingKeeps};
-    ghost use Rattle.lt_rif.specs.inner.Draft.{begun, filled_with};
+    ghost use Rattle.lt_rif.specs.inner.Draft.{filled_with};
+    ghost use Rattle.lt_rif.specs.View.{begun};
     ghost use Rattle.lt_rif.specs.inner.Chunk.{IsChunk};
     ghost use Rattle.lt_rif.specs.inner.Open.{open_at};
 

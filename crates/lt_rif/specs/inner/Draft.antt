@@ -1,16 +1,13 @@
 -- What words make of a draft, the code's reply that has begun.
 use Rattle.std.specs.Prelude.{◌≡◌, ◌+◌, Bool, [], ◌∷◌, ◌++◌, length, drop, if◌then◌else◌}
 use Rattle.lt_num.specs.declared.value.Value.{Value}
-use Rattle.lt_rif.specs.Reply.{Begun, Progress, more, done, refused, past, filled}
+use Rattle.lt_rif.specs.Reply.{Progress, more, done, refused, past, filled}
+use Rattle.lt_rif.specs.View.{begun}
 use Rattle.lt_rif.specs.declared.draft.Draft.{Draft}
 use Rattle.lt_rif.specs.declared.draft.Look.{Look}
 use Rattle.lt_rif.specs.declared.draft.Look.TheVariants as look
 use Rattle.lt_rif.specs.declared.draft.Effect.{Effect}
 use Rattle.lt_rif.specs.declared.draft.Effect.TheVariants as effect
-
--- what has come of a reply, up to the last blank
-abbrev pub begun : Draft → Begun
-begun d = record { decimals = d.decimals; slots = drop d.filled d.slots.items; values = d.values.items; is_comment = d.is_comment; taken = d.taken; place = d.place }
 
 -- the next slot of a draft got a value, which it keeps or not
 abbrev pub filled_with : Draft → Value → Bool → Progress
