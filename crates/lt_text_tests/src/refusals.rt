@@ -117,6 +117,10 @@ fn texts_with_no_program(rt: HostRuntime) {
             text: "try a do b do c",
             refusal: ParseRefusal::Unexpected(0),
         },
+        Refused {
+            text: "node n() returns (b: bool) = try a do b do c",
+            refusal: ParseRefusal::Unexpected(40),
+        },
     ];
     for case in cases {
         let answer = parse(rt.alloc(), case.text.as_bytes());
