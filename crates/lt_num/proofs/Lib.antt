@@ -6,3 +6,4 @@ pub mod NumberLemmas
 pub mod TextLemmas
 pub mod RoundTripLemmas
 pub mod RangeLemmas
+pub mod QuotientLemmas

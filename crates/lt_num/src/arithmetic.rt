@@ -40,7 +40,8 @@ pub fn sub(a: Fixed, b: Fixed) -> Result<Fixed, Arith>
 /// [`Arith::Overflow`] where the rounded raw product is past 10^12 in size.
 pub fn mul(a: Fixed, b: Fixed, decimals: u32) -> Result<Fixed, Arith>
     requires { decimals ≤ most_decimals }
-    ensures { IsRounded (a.raw *ℤ b.raw) (pos (10 ^ decimals)) result }
+    ensures rounded { IsRounded (a.raw *ℤ b.raw) (pos (10 ^ decimals)) result }
+    ensures value { result ≡ bounded (nearest (a.raw *ℤ b.raw) (pos (10 ^ decimals))) }
 {
     rounded(
         i128::from(a.raw) * i128::from(b.raw),
@@ -58,6 +59,7 @@ pub fn div(a: Fixed, b: Fixed, decimals: u32) -> Result<Fixed, Arith>
     requires { decimals ≤ most_decimals }
     ensures by_zero { b.raw ≡ pos 0 → result ≡ Err Arith.DivisionByZero }
     ensures rounded { b.raw ≢ pos 0 → IsRounded (a.raw *ℤ pos (10 ^ decimals)) b.raw result }
+    ensures value { b.raw ≢ pos 0 → result ≡ bounded (nearest (a.raw *ℤ pos (10 ^ decimals)) b.raw) }
 {
     if b.raw == 0 {
         return Err(Arith::DivisionByZero);
@@ -104,8 +106,8 @@ pub(crate) fn rounded(numerator: i128, divisor: i128) -> Result<Fixed, Arith>
     })
 }
 
-// A raw number, where it is within bounds.
-fn within(raw: i128) -> Result<Fixed, Arith>
+/// A raw number, where it is within bounds.
+pub(crate) fn within(raw: i128) -> Result<Fixed, Arith>
     ensures { result ≡ bounded raw }
 {
     if raw.unsigned_abs() > MOST {

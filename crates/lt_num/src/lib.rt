@@ -2,8 +2,8 @@
 //!
 //! A [`Fixed`] holds a raw number: a real value in units of 10 to the power of minus `decimals`, or an
 //! int itself, where `decimals` is 0. Each operation gives the whole raw number nearest to the exact
-//! result, halves away from zero, or [`Arith::Overflow`] where that one is past 10^12 in size. The
-//! quotient of two ints, which drops its fraction, is none of them.
+//! result, halves away from zero, or [`Arith::Overflow`] where that one is past 10^12 in size. Only the
+//! [`quotient`] of two ints drops its fraction, and the [`remainder`] is what it leaves.
 //!
 //! A [`Value`] is a Boolean or such a number, of one of three [`Kind`]s, and each stands for a raw
 //! number: 0 and 1 for false and true. A [`Range`] has the raw numbers from one to another.
@@ -22,6 +22,7 @@ mod printing;
 mod range;
 mod reading;
 mod value;
+mod whole;
 
 pub use arithmetic::{add, div, mul, sub};
 pub use fault::Arith;
@@ -32,3 +33,4 @@ pub use printing::print;
 pub use range::Range;
 pub use reading::read;
 pub use value::Value;
+pub use whole::{product, quotient, remainder};

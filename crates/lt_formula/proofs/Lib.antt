@@ -1,0 +1,5 @@
+pub mod Same
+pub mod Tables
+pub mod Distinct
+pub mod ValueLemmas
+pub mod Solutions

@@ -1,0 +1,34 @@
+//! Expressions by number, what they are worth, and the first values that make constraints true.
+//!
+//! A [`Table`] has the expressions of a scenario, each of them once. [`value_under`] is the value of an
+//! expression where its variables have values, and [`known_value`] the value of one before the outputs and
+//! locals of an instant are drawn.
+//!
+//! Contracts see an expression as an `Expression` of `specs/Expression.antt`, in which operators are data.
+//! `specs/Shape.antt` has the one row for each node that the code has; all else is by six shapes.
+//! `specs/Valuation.antt` says what an expression is worth, and `specs/Solution.antt` which values are the
+//! first that pass a test.
+#![tactic(auto)]
+
+mod facts;
+mod known;
+mod laws;
+mod memory;
+mod node;
+mod operator;
+mod role;
+mod shape;
+mod table;
+mod valuation;
+mod values;
+
+pub use facts::Facts;
+pub use known::{Known, known_value};
+pub use laws::{first_solution_is_first, raws_from_target};
+pub use memory::Memory;
+pub use node::ExpNode;
+pub use operator::{BinaryOperator, UnaryOperator};
+pub use role::Role;
+pub use shape::Shape;
+pub use table::Table;
+pub use valuation::{Valuation, value_under};
