@@ -8,3 +8,11 @@ pub mod Calls
 pub mod MemFiles
 -- A sink in memory: what clauses see of it, and where a call fails.
 pub mod SinkState
+-- Texts that were written or sent in part.
+pub mod Sending
+-- Programs that are started and finished: which links are to come, and what finished ones leave behind.
+pub mod Spawning
+-- A link in memory: what clauses see of it, how long a piece is, and where sending fails.
+pub mod ScriptState
+-- A spawner in memory: the links of a command, and where a call fails.
+pub mod MemSpawner

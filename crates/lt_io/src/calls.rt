@@ -2,6 +2,7 @@
 
 ghost use Rattle.std.specs.Prelude.{◌≡◌, ◌≤◌, ◌↔◌, IsTrue};
 ghost use Rattle.lt_io.specs.Calls.{none_made, IsNextToFail, with_success, with_fault};
+ghost use Rattle.lt_io.specs.Spawning.{with_more};
 
 /// The calls that an object in memory answered, and which of them it is told to fail.
 #[derive(Drop)]
@@ -31,6 +32,22 @@ impl Calls {
         ensures { IsTrue result ↔ IsNextToFail self.now }
     {
         self.failing.contains(&self.made)
+    }
+
+    // Forgets the calls so far. The same numbers are to fail.
+    pub(crate) fn restart(&mut self)
+        ensures { self.new ≡ none_made self.old.failing }
+    {
+        self.made = 0;
+        self.faults = 0;
+    }
+
+    // Counts faults of elsewhere, as of a link that was finished.
+    pub(crate) fn add_faults(&mut self, more: u64)
+        ensures added { self.new ≡ record self.old { faults = with_more self.old.faults more } }
+        ensures later { self.old.faults ≤ self.new.faults }
+    {
+        self.faults = self.faults.saturating_add(more);
     }
 
     /// Counts a call that went well.

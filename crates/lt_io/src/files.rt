@@ -5,6 +5,7 @@ ghost use Rattle.std.specs.declared.option.Option.{Option};
 ghost use Rattle.lt_io.specs.Causes.{Rose, WhereTold};
 ghost use Rattle.lt_io.specs.Files.{names_of};
 
+use crate::asked::record;
 use std::alloc::Global;
 use thiserror::Error;
 
@@ -71,10 +72,7 @@ pub(crate) fn recorded(
     if let Err(FileRefusal::Memory) = answer {
         return Err(FileRefusal::Memory);
     }
-    let Ok(name) = String::from_str(alloc, name) else {
-        return Err(FileRefusal::Memory);
-    };
-    if asked.push(name).is_err() {
+    if record(alloc, name, asked).is_err() {
         return Err(FileRefusal::Memory);
     }
     answer

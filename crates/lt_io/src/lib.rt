@@ -1,28 +1,43 @@
-//! The outside of a test run: where a trace's bytes go, and where files come from.
+//! The outside of a test run: where a trace's bytes go, where files come from, and the programs beside it.
 //!
-//! The code above takes the traits `Sink` and `Files`. `MemSink` and `MemFiles` keep everything in
-//! memory, and their contracts say exactly what each call does. `StdSink` and `DirFiles` pass on to
-//! the system, of whose bytes nothing is known.
+//! The code above takes the traits `Sink`, `Files`, `Link` and `Spawner`. `MemSink`, `MemFiles`, `ScriptLink` and
+//! `MemSpawner` keep everything in memory, and their contracts say exactly what each call does. `StdSink`,
+//! `DirFiles`, `StdLink`, `Child` and `ChildSpawner` pass on to the system, of whose bytes nothing is known.
 //!
 //! Each object counts its faults, the calls that failed because of the outside. The count never
 //! falls, and it stays at `u64::MAX` once it is there, which then counts as risen. So an answer
 //! that blames the outside comes only with a count that rose.
 #![tactic(auto)]
 
+mod asked;
 mod calls;
+mod child;
 mod dir_files;
 mod files;
+mod link;
 mod mem_files;
 mod mem_sink;
+mod mem_spawner;
 mod memory;
+mod putting;
+mod script_link;
 mod sink;
+mod spawner;
+mod std_link;
 mod std_sink;
 
 pub use calls::Calls;
+pub use child::{Child, ChildSpawner};
 pub use dir_files::DirFiles;
 pub use files::{FileRefusal, Files};
+pub use link::Link;
 pub use mem_files::MemFiles;
 pub use mem_sink::MemSink;
+pub use mem_spawner::MemSpawner;
 pub use memory::Memory;
+pub use putting::put;
+pub use script_link::ScriptLink;
 pub use sink::{Failed, Sink};
+pub use spawner::{Spawner, StartRefusal};
+pub use std_link::StdLink;
 pub use std_sink::StdSink;

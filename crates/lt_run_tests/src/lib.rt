@@ -1,5 +1,5 @@
-//! Tests of what a run is made of: files and sinks, numbers, replies and traces, drawing, expressions, and the
-//! machine of instants.
+//! Tests of what a run is made of: files and sinks, links to other programs, numbers, replies and traces, drawing,
+//! expressions, and the machine of instants.
 //!
 //! They stand in a crate of their own, so that the crates below are proved without them. What a test
 //! expects follows from the rules of `docs/LANGUAGE.md`, and of `docs/TRACE.md`.
@@ -11,6 +11,8 @@ mod drawing;
 mod files_and_sinks;
 #[cfg(test)]
 mod formulas;
+#[cfg(test)]
+mod links;
 #[cfg(test)]
 mod machine;
 #[cfg(test)]

@@ -1,0 +1,16 @@
+use Rattle.std.proofs.Common.{◌≡◌, ◌≤◌, ◌-◌, ◌∙◌, arith, length, drop, take, length-drop}
+use Rattle.std.proofs.lemmas.List.{take_all}
+use Rattle.lt_io.proofs.Texts.{written_more}
+use Rattle.lt_io.proofs.putting.put.Goals as goal
+
+pub loop-written-preserved : goal.loop-written-preserved
+loop-written-preserved g c =
+    let text = c.args.text.now in
+    let all : take (length text - c.loop-written.written) (drop c.loop-written.written text) ≡ drop c.loop-written.written text = take_all _ _ (omega (arith, length-drop c.loop-written.written text)) in
+    let within : c.in_ok-written.field-0 ≤ length (drop c.loop-written.written text) = rw all at c.in_ok-written.ensures.within in
+    let appends = rw all at c.in_ok-written.ensures.appends in
+    record {
+      short = omega (arith, within, length-drop c.loop-written.written text);
+      front = written_more (g.S.Sink.written c.args.sink.now) (g.S.Sink.written c.loop-written.sink) (g.S.Sink.written c.write.new.self) text c.loop-written.written c.in_ok-written.field-0 c.loop-written.invariant.front appends;
+      calm = c.in_ok-written.ensures.cause.calm ∙ c.loop-written.invariant.calm;
+    }

@@ -1,0 +1,30 @@
+-- A link in memory.
+use Rattle.std.specs.Prelude.{ℕ, ◌<◌, ◌⊎◌, List, [], ◌∷◌, length, min, max}
+use Rattle.lt_io.specs.Calls.{IsNextToFail}
+use Rattle.lt_io.specs.declared.calls.Calls.{Calls}
+
+-- what clauses see of a link in memory
+pub record ScriptState : Type 0 where
+  -- the bytes still to come
+  pub left : List ℕ
+  -- the most bytes of each piece still to come, in turn
+  pub cuts : List ℕ
+  -- the bytes sent so far
+  pub sent : List ℕ
+  -- how many more bytes it takes
+  pub room : ℕ
+  -- the calls of `send` and `recv`
+  pub calls : Calls
+
+-- the most bytes of the next piece, where there is room for so many: those of its cut, which is 1 at least
+abbrev pub most_of : List ℕ → ℕ → ℕ
+most_of [] space = space
+most_of (cut ∷ cuts) space = min (max cut 1) space
+
+-- how many bytes the next piece has, where there is room for so many
+abbrev pub piece_length : ScriptState → ℕ → ℕ
+piece_length link space = min (most_of link.cuts space) (length link.left)
+
+-- sending so many bytes fails: the next call is to fail, or the room is too small
+abbrev pub FailsToSend : ScriptState → ℕ → Type 0
+FailsToSend link count = IsNextToFail link.calls ⊎ (link.room < count)

@@ -1,0 +1,149 @@
+//! Programs of the system.
+
+ghost use Rattle.std.specs.Prelude.{◌≡◌, [], None, IfOk};
+ghost use Rattle.lt_io.specs.Files.{names_of};
+
+use crate::asked::make_room;
+use crate::link::Link;
+use crate::sink::Failed;
+use crate::spawner::{Spawner, StartRefusal};
+use crate::std_link::StdLink;
+use std::alloc::Global;
+use std::io::ErrorKind;
+use std::process::{Command, OpenProcess, Processes, Stdio};
+use std::{io, process};
+
+/// A program of the system that was started, whose standard input is sent to, and whose standard output is
+/// received. Its standard error is that of this process. It tells nothing.
+///
+/// A program that has ended, or has closed its standard input, makes `send` fail; no signal is raised.
+#[derive(Drop)]
+pub struct Child<P: OpenProcess + Drop> {
+    process: process::Child<P>,
+    pipes: StdLink<P::Stdout, P::Stdin>,
+}
+
+impl<P: OpenProcess + Drop> Link for Child<P> {
+    ghost sent = { λ _. None };
+
+    ghost left = { λ _. None };
+
+    ghost faults = { λ c. c.pipes.sink.faults };
+
+    fn send(&mut self, bytes: &[u8]) -> Result<(), Failed> {
+        self.pipes.send(bytes)
+    }
+
+    fn recv(&mut self, into: &mut [u8]) -> Result<usize, Failed> {
+        self.pipes.recv(into)
+    }
+}
+
+/// Starts programs of the system. A command is a program and its arguments, split at blanks; there are no
+/// quotes, and no shell reads it. It tells nothing of what comes.
+#[derive(Drop)]
+pub struct ChildSpawner<'a, R: Processes> {
+    rt: &'a R,
+    /// The commands that were asked for, the last one at the end.
+    pub asked: Vec<String>,
+    /// How many calls failed, of those here and of those of finished links, up to `u64::MAX`.
+    pub faults: u64,
+}
+
+impl<'a, R: Processes> ChildSpawner<'a, R> {
+    /// The programs that `rt` can start, none of them asked for so far. The commands asked for are kept in
+    /// memory of `alloc`.
+    pub fn new(rt: &'a R, alloc: Global) -> Self
+        ensures asked { result.asked.items ≡ [] }
+        ensures faults { result.faults ≡ 0 }
+    {
+        ChildSpawner {
+            rt,
+            asked: Vec::new(alloc),
+            faults: 0,
+        }
+    }
+}
+
+fn refusal_of(error: &io::Error) -> StartRefusal {
+    if error.kind() == ErrorKind::OutOfMemory {
+        StartRefusal::Memory
+    } else {
+        StartRefusal::Failed
+    }
+}
+
+// The program and its arguments, with a pipe to each end of it. A command without a program is refused.
+fn command_of(alloc: Global, command: &str) -> Result<Command, StartRefusal> {
+    let mut words = command.split_ascii_whitespace();
+    let program = words.next().ok_or(StartRefusal::Failed)?;
+    let mut command = Command::new(alloc, program).map_err(|_| StartRefusal::Memory)?;
+    for word in words {
+        if command.arg(word).is_err() {
+            return Err(StartRefusal::Memory);
+        }
+    }
+    command.stdin(Stdio::piped()).stdout(Stdio::piped());
+    Ok(command)
+}
+
+// Starts a program by its command.
+fn started<R: Processes>(
+    rt: &R,
+    alloc: Global,
+    command: &str,
+) -> Result<Child<R::Started>, StartRefusal>
+    ensures { IfOk result (λ child. child.pipes.sink.faults ≡ 0) }
+{
+    let mut command = command_of(alloc, command)?;
+    let mut process = command.spawn(rt).map_err(|error| refusal_of(&error))?;
+    if let Some(reader) = process.stdout.take()
+        && let Some(writer) = process.stdin.take()
+    {
+        return Ok(Child {
+            process,
+            pipes: StdLink::new(reader, writer),
+        });
+    }
+    let _ = process.wait();
+    Err(StartRefusal::Failed)
+}
+
+impl<'a, R: Processes> Spawner for ChildSpawner<'a, R> {
+    type L = Child<R::Started>;
+
+    ghost coming = { λ _ _. None };
+
+    ghost closed = { λ _. None };
+
+    ghost asked = { λ s. names_of s.asked.items };
+
+    ghost faults = { λ s. s.faults };
+
+    /// A command without a program is a fault, and so is a program that is missing or can't be started.
+    fn start(&mut self, alloc: Global, command: &str) -> Result<Child<R::Started>, StartRefusal> {
+        let Ok(name) = make_room(alloc, command, &mut self.asked) else {
+            return Err(StartRefusal::Memory);
+        };
+        let started = started(self.rt, alloc, command);
+        if let Err(StartRefusal::Memory) = started {
+            return started;
+        }
+        self.asked.push(name).unwrap();
+        if started.is_err() {
+            self.faults = self.faults.saturating_add(1);
+        }
+        started
+    }
+
+    /// Closes both pipes, so that the program finds the end of its input, and waits for its end. A wait that
+    /// fails is a fault.
+    fn finish(&mut self, link: Child<R::Started>) {
+        let Child { mut process, pipes } = link;
+        self.faults = self.faults.saturating_add(pipes.faults());
+        drop(pipes);
+        if process.wait().is_err() {
+            self.faults = self.faults.saturating_add(1);
+        }
+    }
+}

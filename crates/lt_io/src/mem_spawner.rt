@@ -1,0 +1,134 @@
+//! Links in memory, by command.
+
+ghost use Rattle.std.specs.Prelude.{◌≡◌, ◌≢◌, ◌≤◌, ◌↔◌, ℕ, List, [], ◌∷◌, ◌++◌, None, Some, IfNone, IfSome, IfOk, OnErr};
+ghost use Rattle.lt_io.specs.Calls.{IsNextToFail, none_made, with_success, with_fault};
+ghost use Rattle.lt_io.specs.Causes.{Rose, WhereTold};
+ghost use Rattle.lt_io.specs.Files.{names_of};
+ghost use Rattle.lt_io.specs.MemSpawner.{first_link, without_first, lefts_of, FailsToStart};
+ghost use Rattle.lt_io.specs.Spawning.{Closes, Starts, with_more};
+
+use crate::asked::record;
+use crate::calls::Calls;
+use crate::script_link::ScriptLink;
+use crate::spawner::{Spawner, StartRefusal};
+use std::alloc::Global;
+
+/// A spawner that gives out links in memory, and fails where it is told to. It doesn't tell what its finished
+/// links leave behind.
+#[derive(Drop)]
+pub struct MemSpawner {
+    /// The links to come, each with its command. The first of a command is started first.
+    pub links: Vec<(String, ScriptLink)>,
+    /// The commands that were asked for, the last one at the end.
+    pub asked: Vec<String>,
+    /// The calls of `start`. One that ran out of memory does not count.
+    pub calls: Calls,
+}
+
+// Takes the first link of a command.
+fn take_first(links: &mut Vec<(String, ScriptLink)>, command: &str) -> Option<ScriptLink>
+    ensures none { IfNone result (first_link links.old.items command.now ≡ None) }
+    ensures kept { IfNone result (links.new.items ≡ links.old.items) }
+    ensures some { IfSome result (λ link. first_link links.old.items command.now ≡ Some link) }
+    ensures taken { IfSome result (λ _. links.new.items ≡ without_first links.old.items command.now) }
+{
+    for place in 0..links.len() {
+        if links[place].0.as_str() == command {
+            return Some(links.remove(place).1);
+        }
+    }
+    None
+}
+
+impl MemSpawner {
+    // Takes the next link of a command, where the call does not fail.
+    fn next_link(&mut self, command: &str) -> Option<ScriptLink>
+        ensures none { IfNone result (FailsToStart self.old command.now) }
+        ensures kept { IfNone result (self.new.links.items ≡ self.old.links.items) }
+        ensures some { IfSome result (λ link. first_link self.old.links.items command.now ≡ Some link) }
+        ensures taken { IfSome result (λ _. self.new.links.items ≡ without_first self.old.links.items command.now) }
+        ensures calm { IfSome result (λ _. ¬ (IsNextToFail self.old.calls)) }
+        ensures calls { self.new.calls ≡ self.old.calls }
+        ensures asked { self.new.asked ≡ self.old.asked }
+    {
+        if self.calls.is_next_to_fail() {
+            return None;
+        }
+        take_first(&mut self.links, command)
+    }
+}
+
+impl Spawner for MemSpawner {
+    type L = ScriptLink;
+
+    ghost coming = { λ s command. Some (lefts_of s.links.items command) };
+
+    ghost closed = { λ _. None };
+
+    ghost asked = { λ s. names_of s.asked.items };
+
+    ghost faults = { λ s. s.calls.faults };
+
+    /// Gives out the first link of that command, which was sent nothing, and whose calls are counted anew.
+    ///
+    /// It fails exactly where the call is to fail or no link of the command is left. Any answer may yield to
+    /// `Memory`, which leaves everything as it was.
+    fn start(&mut self, alloc: Global, command: &str) -> Result<ScriptLink, StartRefusal>
+        ensures starts { IfOk result (λ link. Starts (Some (lefts_of self.old.links.items command.now))
+            (Some (lefts_of self.new.links.items command.now)) (Some link.left)) }
+        ensures others { (other : List ℕ) → other ≢ command.now →
+            Some (lefts_of self.new.links.items other) ≡ Some (lefts_of self.old.links.items other) }
+        ensures refused { OnErr result ((other : List ℕ) →
+            Some (lefts_of self.new.links.items other) ≡ Some (lefts_of self.old.links.items other)) }
+        ensures unsent { IfOk result (λ link. WhereTold (Some link.sent) (λ bytes. bytes ≡ [])) }
+        ensures faultless { IfOk result (λ link. link.calls.faults ≡ 0) }
+        ensures asks { result ≢ Err StartRefusal.Memory →
+            names_of self.new.asked.items ≡ names_of self.old.asked.items ++ command.now ∷ [] }
+        ensures none_asked { result ≡ Err StartRefusal.Memory →
+            names_of self.new.asked.items ≡ names_of self.old.asked.items }
+        ensures later { self.old.calls.faults ≤ self.new.calls.faults }
+        ensures cause { result ≡ Err StartRefusal.Failed → Rose self.old.calls.faults self.new.calls.faults }
+        ensures calm { result ≢ Err StartRefusal.Failed → self.new.calls.faults ≡ self.old.calls.faults }
+
+        // Beyond the trait: which calls fail, which link is given out, and what each call leaves.
+        ensures fails { result ≢ Err StartRefusal.Memory →
+            ((result ≡ Err StartRefusal.Failed) ↔ FailsToStart self.old command.now) }
+        ensures first { IfOk result (λ link. IfSome (first_link self.old.links.items command.now) (λ before.
+            link ≡ record before { sent = []; calls = none_made before.calls.failing })) }
+        ensures taken { IfOk result (λ _. self.new.links.items ≡ without_first self.old.links.items command.now) }
+        ensures kept { OnErr result (self.new.links.items ≡ self.old.links.items) }
+        ensures success { IfOk result (λ _. self.new.calls ≡ with_success self.old.calls) }
+        ensures fault { result ≡ Err StartRefusal.Failed → self.new.calls ≡ with_fault self.old.calls }
+        ensures none_called { result ≡ Err StartRefusal.Memory → self.new.calls ≡ self.old.calls }
+    {
+        if record(alloc, command, &mut self.asked).is_err() {
+            return Err(StartRefusal::Memory);
+        }
+        let Some(mut link) = self.next_link(command) else {
+            self.calls.count_fault();
+            return Err(StartRefusal::Failed);
+        };
+        self.calls.count_success();
+        link.restart();
+        Ok(link)
+    }
+
+    /// Adds the link's faults to the count. The link is dropped.
+    fn finish(&mut self, link: ScriptLink)
+        ensures closes { Closes None None (record { sent = Some link.sent; faults = link.calls.faults }) }
+        ensures adds { with_more self.old.calls.faults link.calls.faults ≤ self.new.calls.faults }
+        ensures later { self.old.calls.faults ≤ self.new.calls.faults }
+        ensures none_started { (command : List ℕ) →
+            Some (lefts_of self.new.links.items command) ≡ Some (lefts_of self.old.links.items command) }
+        ensures none_asked { names_of self.new.asked.items ≡ names_of self.old.asked.items }
+
+        // Beyond the trait: the count is all that changes, and nothing else is added to it.
+        ensures counted { self.new ≡ record self.old {
+          calls = record self.old.calls {
+            faults = with_more self.old.calls.faults link.calls.faults;
+          };
+        } }
+    {
+        self.calls.add_faults(link.faults());
+    }
+}
