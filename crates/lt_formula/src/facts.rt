@@ -21,7 +21,7 @@ pub struct Facts {
 
 impl Facts {
     /// Those of a constant.
-    pub(crate) fn of_constant(kind: Kind) -> Facts
+    pub fn of_constant(kind: Kind) -> Facts
         ensures { result ≡ record { kind = kind; is_known = true; is_static = true } }
     {
         Facts {
@@ -32,7 +32,7 @@ impl Facts {
     }
 
     /// Those of an operator on one part.
-    pub(crate) fn of_unary(operator: UnaryOperator, part: Facts) -> Facts
+    pub fn of_unary(operator: UnaryOperator, part: Facts) -> Facts
         ensures { result ≡ unary_facts operator part }
     {
         Facts {
@@ -46,7 +46,7 @@ impl Facts {
     }
 
     /// Those of an operator on two parts.
-    pub(crate) fn of_binary(operator: BinaryOperator, left: Facts, right: Facts) -> Facts
+    pub fn of_binary(operator: BinaryOperator, left: Facts, right: Facts) -> Facts
         ensures { result ≡ binary_facts operator left right }
     {
         Facts {
@@ -64,7 +64,7 @@ impl Facts {
     }
 
     /// Those of a choice.
-    pub(crate) fn of_choice(condition: Facts, first: Facts, second: Facts) -> Facts
+    pub fn of_choice(condition: Facts, first: Facts, second: Facts) -> Facts
         ensures { result ≡ choice_facts condition first second }
     {
         Facts {

@@ -32,3 +32,4 @@ pub use role::Role;
 pub use shape::Shape;
 pub use table::Table;
 pub use valuation::{Valuation, value_under};
+pub use values::{binary_value, constant_value, settled, unary_value};
