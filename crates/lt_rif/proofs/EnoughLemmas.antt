@@ -1,5 +1,5 @@
 -- How long texts are.
-use Rattle.std.proofs.Common.{◌≡◌, ℕ, zero, suc, ◌+◌, ◌*◌, ◌/◌, ◌^◌, ◌<◌, ◌≤◌, List, [], ◌∷◌, ◌++◌, length, drop, codes, decimal, pos, negsuc, ℤ, unsigned_abs, None, Some, Option, refl, ap, ◌∙◌, true, false, arith, length-append}
+use Rattle.std.proofs.Common.{◌≡◌, ℕ, zero, suc, ◌+◌, ◌*◌, ◌/◌, ◌^◌, ◌<◌, ◌≤◌, List, [], ◌∷◌, ◌++◌, length, drop, codes, decimal, pos, negsuc, ℤ, unsigned_abs, None, Some, Option, refl, ap, ◌∙◌, true, false, arith, length-append, length-drop}
 use Rattle.std.specs.Prelude.{sum_by, slice_index_or, unwrap_or}
 use Rattle.std.specs.List.{flat_map}
 use Rattle.std.proofs.lemmas.Fmt.{length-decimal-le, length-decimal-le_wide}
@@ -86,8 +86,8 @@ bool-length decimals k (value.Bool true) few sized = omega arith
 bool-length decimals k (value.Bool false) few sized = omega arith
 bool-length decimals k (value.Num raw) few sized = text-length (decimals_of decimals k) raw (decimals-few decimals k few) sized
 
--- words with a space
-before-length : (decimals : ℕ) (kinds : List Kind) (values : List Value) → decimals ≤ 6 → AreSized values → length (before_space (value_words decimals kinds values)) ≤ 32 * length values
+-- words with a space, as many as there are kinds and values
+before-length : (decimals : ℕ) (kinds : List Kind) (values : List Value) → decimals ≤ 6 → AreSized values → length (before_space (value_words decimals kinds values)) ≤ 32 * length (value_words decimals kinds values)
 before-length decimals [] values few sized = omega arith
 before-length decimals (k ∷ kinds) [] few sized = omega arith
 before-length decimals (k ∷ kinds) (v ∷ values) few sized =
@@ -95,7 +95,7 @@ before-length decimals (k ∷ kinds) (v ∷ values) few sized =
     let text = value_text decimals k v in
     omega (arith, bool-length decimals k v few sized.0, length-append (text ++ codes " ") (before_space (value_words decimals kinds values)), length-append text (codes " "))
 
-behind-length : (decimals : ℕ) (kinds : List Kind) (values : List Value) → decimals ≤ 6 → AreSized values → length (behind_space (value_words decimals kinds values)) ≤ 32 * length values
+behind-length : (decimals : ℕ) (kinds : List Kind) (values : List Value) → decimals ≤ 6 → AreSized values → length (behind_space (value_words decimals kinds values)) ≤ 32 * length (value_words decimals kinds values)
 behind-length decimals [] values few sized = omega arith
 behind-length decimals (k ∷ kinds) [] few sized = omega arith
 behind-length decimals (k ∷ kinds) (v ∷ values) few sized =
@@ -103,7 +103,12 @@ behind-length decimals (k ∷ kinds) (v ∷ values) few sized =
     let text = value_text decimals k v in
     omega (arith, bool-length decimals k v few sized.0, length-append (codes " " ++ text) (behind_space (value_words decimals kinds values)), length-append (codes " ") text)
 
-locals-behind-length : (decimals : ℕ) (kinds : List Kind) (locals : List (Option Value)) → decimals ≤ 6 → AreLocalsSized locals → length (behind_space (local_words decimals kinds locals)) ≤ 32 * length locals
+words-few : (decimals : ℕ) (kinds : List Kind) (values : List Value) → (length (value_words decimals kinds values) ≤ length kinds) × (length (value_words decimals kinds values) ≤ length values)
+words-few decimals [] values = (omega arith, omega arith)
+words-few decimals (k ∷ kinds) [] = (omega arith, omega arith)
+words-few decimals (k ∷ kinds) (v ∷ values) = let rest = words-few decimals kinds values in (omega (arith, rest.0), omega (arith, rest.1))
+
+locals-behind-length : (decimals : ℕ) (kinds : List Kind) (locals : List (Option Value)) → decimals ≤ 6 → AreLocalsSized locals → length (behind_space (local_words decimals kinds locals)) ≤ 32 * length kinds
 locals-behind-length decimals [] locals few sized = omega arith
 locals-behind-length decimals (k ∷ kinds) [] few sized = omega arith
 locals-behind-length decimals (k ∷ kinds) (None ∷ locals) few sized =
@@ -114,7 +119,7 @@ locals-behind-length decimals (k ∷ kinds) (Some v ∷ locals) few sized =
     let text = value_text decimals k v in
     omega (arith, bool-length decimals k v few sized.0, length-append (codes " " ++ text) (behind_space (local_words decimals kinds locals)), length-append (codes " ") text)
 
-part-length : (decimals : ℕ) (kinds : List Kind) (locals : Option (List (Option Value))) → decimals ≤ 6 → AreLocalsSized (unwrap_or locals []) → length (behind_space (locals_part decimals kinds locals)) ≤ 6 + 32 * length (unwrap_or locals [])
+part-length : (decimals : ℕ) (kinds : List Kind) (locals : Option (List (Option Value))) → decimals ≤ 6 → AreLocalsSized (unwrap_or locals []) → length (behind_space (locals_part decimals kinds locals)) ≤ 6 + 32 * length kinds
 part-length decimals kinds None few sized = omega arith
 part-length decimals kinds (Some locals) few sized =
     let rest = locals-behind-length decimals kinds locals few sized in
@@ -126,7 +131,7 @@ spaced-length (w ∷ ws) = omega (arith, length-append w (behind_space ws), leng
 
 line-fits : LineFits
 line-fits decimals kinds values few sized =
-    omega (arith, behind-length decimals kinds values few sized, spaced-length (value_words decimals kinds values), length-append (spaced (value_words decimals kinds values)) (10 ∷ []))
+    omega (arith, behind-length decimals kinds values few sized, (words-few decimals kinds values).1, spaced-length (value_words decimals kinds values), length-append (spaced (value_words decimals kinds values)) (10 ∷ []))
 
 -- ---- the end line
 
@@ -184,12 +189,18 @@ step-fits decimals step number kinds outputs inputs locals e names few small tin
     let last = decimal number in
     let layout : length values ≡ length (before ++ codes "#outs" ++ behind ++ part ++ 10 ∷ []) = ap (λ (text : List ℕ). length text) (step_lays_out decimals kinds outputs inputs locals) in
     let one : length first ≤ 27 = omega (arith, number-length step small, length-append (codes "#step " ++ decimal step) (10 ∷ []), length-append (codes "#step ") (decimal step)) in
-    let two : length values ≤ 12 + 32 * length outputs + 32 * length inputs + 32 * length (unwrap_or locals []) =
+    let two : length values ≤ 12 + 32 * length kinds =
     omega (
       arith,
       layout,
       before-length decimals kinds outputs few outputs_sized,
+      (words-few decimals kinds outputs).0,
+      (words-few decimals kinds outputs).1,
       behind-length decimals (drop (length outputs) kinds) inputs few inputs_sized,
+      (words-few decimals (drop (length outputs) kinds) inputs).0,
+      (words-few decimals (drop (length outputs) kinds) inputs).1,
+      length-drop (length outputs) kinds,
+      length-drop (length outputs + length inputs) kinds,
       part-length decimals (drop (length outputs + length inputs) kinds) locals few locals_sized,
       length-append (before ++ codes "#outs" ++ behind ++ part) (10 ∷ []),
       length-append (before ++ codes "#outs" ++ behind) part,

@@ -44,13 +44,13 @@ HeaderFits =
 abbrev pub LineFits : Type 0
 LineFits = (decimals : ℕ) (kinds : List Kind) (values : List Value) → decimals ≤ most_decimals → AreSized values → length (line_text decimals kinds values) ≤ room_for (length values) 0
 
--- a step fits, with an end line behind it
+-- a step fits of which so many values have kinds, with an end line behind it
 abbrev pub StepFits : Type 0
 StepFits =
     (decimals step number : ℕ) (kinds : List Kind) (outputs inputs : List Value) (locals : Option (List (Option Value))) (e : End) (names : List (List ℕ)) →
     decimals ≤ most_decimals → step < 2 ^ 64 → number < 2 ^ 64 → AreSized outputs → AreSized inputs → AreLocalsSized (unwrap_or locals []) → IsEndSized e →
     length (step_text decimals step kinds outputs inputs locals) + length (end_text e names number)
-    ≤ room_for (length outputs + length inputs + length (unwrap_or locals [])) (sum_by (λ name. length name) names)
+    ≤ room_for (length kinds) (sum_by (λ name. length name) names)
 
 abbrev pub RoomIsEnough : Type 0
 RoomIsEnough = HeaderFits × LineFits × StepFits

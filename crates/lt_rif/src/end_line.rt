@@ -11,7 +11,7 @@ use crate::fault::ValueFault;
 use crate::writing::{append, append_number};
 use lt_num::Arith;
 
-/// AddsText the end line of a trace, with its number: that of the instant at which the run ended, or of the steps
+/// Appends the end line of a trace, with its number: that of the instant at which the run ended, or of the steps
 /// written where it is over or at its limit. Exceptions have these names.
 pub fn write_end(into: &mut Vec<u8>, end: End, names: &[String], number: u64)
     requires named { IsNamed end (length names.now) }
@@ -25,7 +25,7 @@ pub fn write_end(into: &mut Vec<u8>, end: End, names: &[String], number: u64)
     append(into, b"\n");
 }
 
-// AddsText the words of an end, with a space before each.
+// Appends the words of an end, with a space before each.
 fn append_end(into: &mut Vec<u8>, end: End, names: &[String])
     requires named { IsNamed end (length names.now) }
     requires room { HasRoom into.old (behind_space (end_words end (map string_bytes names.now))) }
@@ -66,8 +66,8 @@ fn append_end(into: &mut Vec<u8>, end: End, names: &[String])
     }
 }
 
-// The word of a side.
-fn who_word(who: Who) -> &'static [u8]
+/// The word of a side.
+pub fn who_word(who: Who) -> &'static [u8]
     ensures { result.now ≡ who_text who }
 {
     match who {
@@ -76,8 +76,8 @@ fn who_word(who: Who) -> &'static [u8]
     }
 }
 
-// The word of a fault of arithmetic.
-fn fault_word(fault: Arith) -> &'static [u8]
+/// The word of a fault of arithmetic.
+pub fn fault_word(fault: Arith) -> &'static [u8]
     ensures { result.now ≡ fault_text fault }
 {
     match fault {
@@ -88,8 +88,8 @@ fn fault_word(fault: Arith) -> &'static [u8]
     }
 }
 
-// The word of a refusal.
-fn refusal_word(fault: ValueFault) -> &'static [u8]
+/// The word of a refusal.
+pub fn refusal_word(fault: ValueFault) -> &'static [u8]
     ensures { result.now ≡ refusal_text fault }
 {
     match fault {

@@ -44,7 +44,8 @@ pub fn replies_grow()
     ensures { RepliesGrow }
 {}
 
-/// What `room_for` answers is enough for a header, for a line, and for a step with an end line behind it.
+/// What `room_for` answers is enough for a header, for a line, and for a step with an end line behind it. A step is
+/// counted by the kinds that it is written with.
 #[tactic(auto, using(crate::proofs::EnoughLemmas::room_is_enough))]
 pub fn room_is_enough()
     ensures { RoomIsEnough }

@@ -23,7 +23,7 @@ mod writing;
 pub use declared::Declared;
 pub use draft::LONGEST;
 pub use end::{End, Who};
-pub use end_line::write_end;
+pub use end_line::{fault_word, refusal_word, who_word, write_end};
 pub use fault::ValueFault;
 pub use laws::{
     cuts_change_nothing, next_reply_is_at_hand, replies_grow, room_is_enough, spelling_is_read,
@@ -32,3 +32,4 @@ pub use laws::{
 pub use reader::{Closing, Fed, Reader};
 pub use slot::Slot;
 pub use trace::{room_for, write_header, write_line, write_step};
+pub use values::values_are_sized;

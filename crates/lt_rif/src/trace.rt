@@ -23,7 +23,7 @@ pub fn room_for(variables: usize, names: usize) -> usize
     256 + 32 * variables + names
 }
 
-/// AddsText the header of a trace: the seed, what the controller takes in, what it gives out, and the scenario's
+/// Appends the header of a trace: the seed, what the controller takes in, what it gives out, and the scenario's
 /// locals, where they are written.
 pub fn write_header(
     into: &mut Vec<u8>,
@@ -45,7 +45,7 @@ pub fn write_header(
     append_locals_header(into, locals);
 }
 
-// AddsText the line of the locals, where they are written.
+// Appends the line of the locals, where they are written.
 fn append_locals_header(into: &mut Vec<u8>, locals: Option<&[Declared]>)
     requires { HasRoom into.old (locals_header (option_map (map declared_variable) (option_copied locals))) }
     ensures { AddsText into.old into.new (locals_header (option_map (map declared_variable) (option_copied locals.entry))) }
@@ -57,7 +57,7 @@ fn append_locals_header(into: &mut Vec<u8>, locals: Option<&[Declared]>)
     }
 }
 
-// AddsText a space, a quoted name and a kind for each variable.
+// Appends a space, a quoted name and a kind for each variable.
 fn append_declared(into: &mut Vec<u8>, variables: &[Declared])
     requires { HasRoom into.old (flat_map declared_text (map declared_variable variables.now)) }
     ensures { AddsText into.old into.new (flat_map declared_text (map declared_variable variables.now)) }
@@ -83,9 +83,9 @@ fn kind_word(kind: Kind) -> &'static [u8]
     }
 }
 
-/// AddsText the two lines of a step: its number, from 1, and the values of the scenario's outputs `x` and inputs
+/// Appends the two lines of a step: its number, from 1, and the values of the scenario's outputs `x` and inputs
 /// `y`, and of its locals, where they are written; a local out of scope has none. `kinds` has their kinds in this
-/// order. A real has so many decimals, 0 to 6.
+/// order; a value that has none isn't written. A real has so many decimals, 0 to 6.
 pub fn write_step(
     into: &mut Vec<u8>,
     step: u64,
@@ -96,7 +96,6 @@ pub fn write_step(
     decimals: u32,
 )
     requires decimals { decimals ≤ most_decimals }
-    requires kinds { length x.now + length y.now ≤ length kinds.now }
     requires room { HasRoom into.old (step_text decimals step kinds.now x.now y.now (option_copied locals)) }
     ensures { AddsText into.old into.new (step_text decimals step kinds.now x.now y.now (option_copied locals.entry)) }
 {
@@ -106,7 +105,7 @@ pub fn write_step(
     append_step_values(into, x, y, locals, kinds, decimals);
 }
 
-// AddsText the line of a step's values.
+// Appends the line of a step's values.
 fn append_step_values(
     into: &mut Vec<u8>,
     x: &[Value],
@@ -116,7 +115,6 @@ fn append_step_values(
     decimals: u32,
 )
     requires decimals { decimals ≤ most_decimals }
-    requires kinds { length x.now + length y.now ≤ length kinds.now }
     requires room { HasRoom into.old (step_layout decimals kinds.now x.now y.now (option_copied locals)) }
     ensures { AddsText into.old into.new (step_layout decimals kinds.now x.now y.now (option_copied locals.entry)) }
 {
@@ -126,21 +124,25 @@ fn append_step_values(
     append_locals_part(
         into,
         locals,
-        kinds_behind(kinds, x.len() + y.len()),
+        kinds_behind(kinds_behind(kinds, x.len()), y.len()),
         decimals,
     );
     append(into, b"\n");
 }
 
 // The kinds behind the first so many.
+#[tactic(auto, using(std::proofs::lemmas::List::drop_all))]
 fn kinds_behind(kinds: &[Kind], count: usize) -> &[Kind]
-    requires { count ≤ length kinds.now }
     ensures { result.now ≡ drop count kinds.now }
 {
-    &kinds[count..]
+    if count < kinds.len() {
+        &kinds[count..]
+    } else {
+        &[]
+    }
 }
 
-// AddsText the mark of the locals and their words, where they are written, with a space before each.
+// Appends the mark of the locals and their words, where they are written, with a space before each.
 fn append_locals_part(
     into: &mut Vec<u8>,
     locals: Option<&[Option<Value>]>,
@@ -157,7 +159,7 @@ fn append_locals_part(
     }
 }
 
-/// AddsText a line of values of these kinds, as it goes to a controller or to an oracle. A real has so many
+/// Appends a line of values of these kinds, as it goes to a controller or to an oracle. A real has so many
 /// decimals, 0 to 6.
 pub fn write_line(into: &mut Vec<u8>, values: &[Value], kinds: &[Kind], decimals: u32)
     requires decimals { decimals ≤ most_decimals }

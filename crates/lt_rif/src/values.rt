@@ -2,6 +2,7 @@
 
 ghost use Rattle.std.specs.Prelude.{◌≡◌, ◌≤◌};
 ghost use Rattle.lt_num.specs.Bounds.{most_decimals};
+ghost use Rattle.lt_rif.specs.Enough.{AreSized, IsSized};
 ghost use Rattle.lt_rif.specs.Room.{AddsText, HasRoom};
 ghost use Rattle.lt_rif.specs.Trace.{decimals_of, local_text, local_words, spaced, value_text, value_words};
 ghost use Rattle.lt_rif.specs.inner.Spaced.{before_space, behind_space};
@@ -9,7 +10,7 @@ ghost use Rattle.lt_rif.specs.inner.Spaced.{before_space, behind_space};
 use crate::writing::append;
 use lt_num::{Fixed, Kind, Value, print};
 
-/// AddsText the words of values of these kinds, with a space behind each.
+/// Appends the words of values of these kinds, with a space behind each.
 pub fn append_before_space(into: &mut Vec<u8>, values: &[Value], kinds: &[Kind], decimals: u32)
     requires decimals { decimals ≤ most_decimals }
     requires room { HasRoom into.old (before_space (value_words decimals kinds.now values.now)) }
@@ -28,7 +29,7 @@ pub fn append_before_space(into: &mut Vec<u8>, values: &[Value], kinds: &[Kind],
     }
 }
 
-/// AddsText the words of values of these kinds, with a space before each.
+/// Appends the words of values of these kinds, with a space before each.
 pub fn append_behind_space(into: &mut Vec<u8>, values: &[Value], kinds: &[Kind], decimals: u32)
     requires decimals { decimals ≤ most_decimals }
     requires room { HasRoom into.old (behind_space (value_words decimals kinds.now values.now)) }
@@ -47,7 +48,7 @@ pub fn append_behind_space(into: &mut Vec<u8>, values: &[Value], kinds: &[Kind],
     }
 }
 
-/// AddsText the words of values of these kinds, with a space between two.
+/// Appends the words of values of these kinds, with a space between two.
 pub fn append_spaced(into: &mut Vec<u8>, values: &[Value], kinds: &[Kind], decimals: u32)
     requires decimals { decimals ≤ most_decimals }
     requires room { HasRoom into.old (spaced (value_words decimals kinds.now values.now)) }
@@ -63,7 +64,7 @@ pub fn append_spaced(into: &mut Vec<u8>, values: &[Value], kinds: &[Kind], decim
     append_behind_space(into, more_values, more_kinds, decimals);
 }
 
-/// AddsText the words of locals of these kinds, with a space before each.
+/// Appends the words of locals of these kinds, with a space before each.
 pub fn append_locals(into: &mut Vec<u8>, locals: &[Option<Value>], kinds: &[Kind], decimals: u32)
     requires decimals { decimals ≤ most_decimals }
     requires room { HasRoom into.old (behind_space (local_words decimals kinds.now locals.now)) }
@@ -82,7 +83,7 @@ pub fn append_locals(into: &mut Vec<u8>, locals: &[Option<Value>], kinds: &[Kind
     }
 }
 
-// AddsText a local of a kind.
+// Appends a local of a kind.
 fn append_local(into: &mut Vec<u8>, local: Option<Value>, kind: Kind, decimals: u32)
     requires decimals { decimals ≤ most_decimals }
     requires room { HasRoom into.old (local_text decimals kind local) }
@@ -94,7 +95,7 @@ fn append_local(into: &mut Vec<u8>, local: Option<Value>, kind: Kind, decimals: 
     }
 }
 
-// AddsText a value of a kind, where a real has so many decimals.
+// Appends a value of a kind, where a real has so many decimals.
 fn append_value(into: &mut Vec<u8>, value: Value, kind: Kind, decimals: u32)
     requires decimals { decimals ≤ most_decimals }
     requires room { HasRoom into.old (value_text decimals kind value) }
@@ -118,5 +119,27 @@ fn decimals_of(decimals: u32, kind: Kind) -> u32
     match kind {
         Kind::Real => decimals,
         Kind::Int | Kind::Bool => 0,
+    }
+}
+
+/// Values are as small as the law of room asks, since their raw numbers have 64 bits. That a walk over them shows; it
+/// does nothing else.
+pub fn values_are_sized(values: &[Value])
+    ensures { AreSized values.now }
+{
+    let mut values = values;
+    while let [value, more @ ..] = values {
+        value_is_sized(*value);
+        values = more;
+    }
+}
+
+// A value is.
+fn value_is_sized(value: Value)
+    ensures { IsSized value }
+{
+    match value {
+        Value::Bool(_) => {}
+        Value::Num(_raw) => {}
     }
 }

@@ -5,7 +5,7 @@ ghost use Rattle.lt_rif.specs.Room.{AddsText, HasRoom};
 
 use itoa::{Buffer, Integer};
 
-/// AddsText bytes.
+/// Appends bytes.
 pub fn append(into: &mut Vec<u8>, bytes: &[u8])
     requires { HasRoom into.old bytes.now }
     ensures { AddsText into.old into.new bytes.now }
@@ -13,7 +13,7 @@ pub fn append(into: &mut Vec<u8>, bytes: &[u8])
     into.extend_from_slice(bytes).unwrap();
 }
 
-/// AddsText a number in decimal digits.
+/// Appends a number in decimal digits.
 pub fn append_number<I: Integer>(into: &mut Vec<u8>, number: I)
     requires { HasRoom into.old (I.text number) }
     ensures { AddsText into.old into.new (I.text number) }
