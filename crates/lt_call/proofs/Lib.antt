@@ -1,9 +1,11 @@
 pub mod Dues
+pub mod Ends
 pub mod Gives
 pub mod Limits
 pub mod Numbers
 pub mod Options
 pub mod Prepared
+pub mod Rooms
 pub mod Runs
 pub mod Texts
 pub mod Wholes

@@ -5,6 +5,9 @@ use Rattle.std.specs.Io.KnownBytes.{Appends, Keeps}
 use Rattle.std.proofs.KnownBytes.{Appends-trans, Appends-nil}
 use Rattle.std.specs.declared.option.Option.{Option}
 use Rattle.std.specs.declared.result.Result.{Result}
+use Rattle.lt_rif.specs.Trace.{end_text}
+use Rattle.lt_rif.specs.declared.end.End.{End}
+use Rattle.lt_rif.specs.declared.end.End.TheVariants as end
 use Rattle.lt_term.specs.Expression.{Expression}
 use Rattle.lt_term.specs.Process.{Process}
 use Rattle.lt_term.specs.Offers.{Leaf, vanish, nothing, go, offers_of}
@@ -14,53 +17,53 @@ use Rattle.lt_step.specs.Drawn.{drawn_leaf}
 use Rattle.lt_num.specs.declared.value.Value.{Value}
 use Rattle.lt_step.specs.Instant.{Instant, values, normal, deadlock, instant_of, go_instant, leaf_instant}
 use Rattle.lt_step.specs.Machine.{Phase, running, finished, State, Step, outputs_in, answered, step_of, step_in}
+use Rattle.lt_step.specs.declared.machine.Outcome.{Outcome}
 use Rattle.lt_step.specs.declared.machine.Outcome.TheVariants as outcome
 use Rattle.lt_call.specs.Call.{blames}
 use Rattle.lt_call.specs.Cut.{IsCut, by_trace, by_memory_later}
 use Rattle.lt_call.specs.Pieces.{trace_texts, joined, trace_of}
 use Rattle.lt_call.specs.Play.{Play, ended, with_text, with_instant, instant_text, play_from}
-use Rattle.lt_call.specs.TraceText.{end_text}
 use Rattle.lt_call.specs.Writing.{AppendsPart}
 use Rattle.lt_call.specs.inner.Running.{rest_in, rest_of, IsAt, WritesEnd, FailsIn, by_write, by_memory, FailsFirst, Follows}
-use Rattle.lt_call.specs.declared.ending.End.{End}
-use Rattle.lt_call.specs.declared.ending.End.TheVariants as end
-use Rattle.lt_call.specs.declared.ending.Ending.{Ending}
+use Rattle.lt_call.specs.inner.Writer.{IsFor}
+use Rattle.lt_call.specs.declared.writer.Writer.{Writer}
+use Rattle.lt_call.specs.declared.status.Ending.{Ending}
 use Rattle.lt_call.specs.declared.status.Status.{Status}
 use Rattle.lt_call.specs.declared.status.Status.TheVariants as status
 use Rattle.lt_call.specs.declared.status.Device.TheVariants as device
 
 -- A step that answers an end leaves that end of the run.
 
-normal_next : (s : Scene) (c : Configuration) (i : Instant) (new : State) (left : ℕ) → record { outcome = outcome.Normal; state = new } ≡ answered s i → with_instant s c i (play_from s left) ≡ ended end.Normal (c.step - 1)
+normal_next : (s : Scene) (c : Configuration) (i : Instant) (new : State) (left : ℕ) → record { outcome = outcome.Normal; state = new } ≡ answered s i → with_instant s c i (play_from s left) ≡ ended s end.Normal (c.step - 1)
 normal_next s c (values vs next) new left h = let e = ap (λ (step : Step). step.outcome) h in cc
 normal_next s c normal new left h = refl
 normal_next s c deadlock new left h = let e = ap (λ (step : Step). step.outcome) h in cc
 
-deadlock_next : (s : Scene) (c : Configuration) (i : Instant) (new : State) (left : ℕ) → record { outcome = outcome.Deadlock; state = new } ≡ answered s i → with_instant s c i (play_from s left) ≡ ended end.Deadlock c.step
+deadlock_next : (s : Scene) (c : Configuration) (i : Instant) (new : State) (left : ℕ) → record { outcome = outcome.Deadlock; state = new } ≡ answered s i → with_instant s c i (play_from s left) ≡ ended s end.Deadlock c.step
 deadlock_next s c (values vs next) new left h = let e = ap (λ (step : Step). step.outcome) h in cc
 deadlock_next s c normal new left h = let e = ap (λ (step : Step). step.outcome) h in cc
 deadlock_next s c deadlock new left h = refl
 
-normal_in : (s : Scene) (p : Phase) (step : ℕ) (new : State) → IsAt step p → record { outcome = outcome.Normal; state = new } ≡ step_in s p → (left : ℕ) → rest_in s (suc left) p ≡ ended end.Normal (step - 1)
-normal_in s (running c) step new at h left = normal_next s c (instant_of s c) new left h ∙ ap (λ n. ended end.Normal (n - 1)) at
+normal_in : (s : Scene) (p : Phase) (step : ℕ) (new : State) → IsAt step p → record { outcome = outcome.Normal; state = new } ≡ step_in s p → (left : ℕ) → rest_in s (suc left) p ≡ ended s end.Normal (step - 1)
+normal_in s (running c) step new at h left = normal_next s c (instant_of s c) new left h ∙ ap (λ n. ended s end.Normal (n - 1)) at
 normal_in s finished step new at h left = absurd at
 
-deadlock_in : (s : Scene) (p : Phase) (step : ℕ) (new : State) → IsAt step p → record { outcome = outcome.Deadlock; state = new } ≡ step_in s p → (left : ℕ) → rest_in s (suc left) p ≡ ended end.Deadlock step
-deadlock_in s (running c) step new at h left = deadlock_next s c (instant_of s c) new left h ∙ ap (λ n. ended end.Deadlock n) at
+deadlock_in : (s : Scene) (p : Phase) (step : ℕ) (new : State) → IsAt step p → record { outcome = outcome.Deadlock; state = new } ≡ step_in s p → (left : ℕ) → rest_in s (suc left) p ≡ ended s end.Deadlock step
+deadlock_in s (running c) step new at h left = deadlock_next s c (instant_of s c) new left h ∙ ap (λ n. ended s end.Deadlock n) at
 deadlock_in s finished step new at h left = absurd at
 
-pub rest_normal : (m new : State) (step : ℕ) → IsAt step m.phase → record { outcome = outcome.Normal; state = new } ≡ step_of m → (left : ℕ) → rest_of m (suc left) ≡ ended end.Normal (step - 1)
+pub rest_normal : (m new : State) (step : ℕ) → IsAt step m.phase → record { outcome = outcome.Normal; state = new } ≡ step_of m → (left : ℕ) → rest_of m (suc left) ≡ ended m.scene end.Normal (step - 1)
 rest_normal m new step at h left = normal_in m.scene m.phase step new at h left
 
-pub rest_deadlock : (m new : State) (step : ℕ) → IsAt step m.phase → record { outcome = outcome.Deadlock; state = new } ≡ step_of m → (left : ℕ) → rest_of m (suc left) ≡ ended end.Deadlock step
+pub rest_deadlock : (m new : State) (step : ℕ) → IsAt step m.phase → record { outcome = outcome.Deadlock; state = new } ≡ step_of m → (left : ℕ) → rest_of m (suc left) ≡ ended m.scene end.Deadlock step
 rest_deadlock m new step at h left = deadlock_in m.scene m.phase step new at h left
 
-limit_in : (s : Scene) (p : Phase) (k : ℕ) → IsAt (k + 1) p → rest_in s 0 p ≡ ended end.Limit k
-limit_in s (running c) k at = let e : c.step - 1 ≡ k = omega arith in ap (ended end.Limit) e
+limit_in : (s : Scene) (p : Phase) (k : ℕ) → IsAt (k + 1) p → rest_in s 0 p ≡ ended s end.Limit k
+limit_in s (running c) k at = let e : c.step - 1 ≡ k = omega arith in ap (ended s end.Limit) e
 limit_in s finished k at = absurd at
 
 -- a machine with no step left ends at its limit
-pub rest_limit : (m : State) (k : ℕ) → IsAt (k + 1) m.phase → rest_of m 0 ≡ ended end.Limit k
+pub rest_limit : (m : State) (k : ℕ) → IsAt (k + 1) m.phase → rest_of m 0 ≡ ended m.scene end.Limit k
 rest_limit m k at = limit_in m.scene m.phase k at
 
 -- A step that answers values leaves the rest behind them.
@@ -103,6 +106,24 @@ values_in s finished step new at h left = absurd at
 pub rest_values : (m new : State) (step : ℕ) → IsAt step m.phase → record { outcome = outcome.Values; state = new } ≡ step_of m → (left : ℕ) → LeavesRest m.scene step (rest_of m (suc left)) new left
 rest_values m new step at h left = values_in m.scene m.phase step new at h left
 
+-- A step keeps the scene.
+
+answered_there : (s : Scene) (i : Instant) → (answered s i).state.scene ≡ s
+answered_there s (values vs next) = refl
+answered_there s normal = refl
+answered_there s deadlock = refl
+
+stepped_there : (s : Scene) (p : Phase) → (step_in s p).state.scene ≡ s
+stepped_there s (running c) = answered_there s (instant_of s c)
+stepped_there s finished = refl
+
+pub same_scene : (m new : State) (o : Outcome) → record { outcome = o; state = new } ≡ step_of m → new.scene ≡ m.scene
+same_scene m new o h = ap (λ (step : Step). step.state.scene) h ∙ stepped_there m.scene m.phase
+
+-- so its writer is the same
+pub is_next : (m new : State) (o : Outcome) (writer : Writer) → record { outcome = o; state = new } ≡ step_of m → IsFor m.scene writer → IsFor new.scene writer
+is_next m new o writer h is = let P : Scene → Type 0 = λ s. IsFor s writer in subst P (sym (same_scene m new o h)) is
+
 -- Whichever instant comes next, a text is put out.
 
 -- some text comes first
@@ -111,8 +132,8 @@ HasFirst rest = (text : List ℕ) × (later : List (List ℕ)) × (trace_texts r
 
 first_next : (s : Scene) (c : Configuration) (i : Instant) (left : ℕ) → HasFirst (with_instant s c i (play_from s left))
 first_next s c (values vs next) left = (instant_text s c.step vs, trace_texts (play_from s left next).pieces, refl)
-first_next s c normal left = (end_text end.Normal (c.step - 1), [], refl)
-first_next s c deadlock left = (end_text end.Deadlock c.step, [], refl)
+first_next s c normal left = (end_text end.Normal s.exceptions (c.step - 1), [], refl)
+first_next s c deadlock left = (end_text end.Deadlock s.exceptions c.step, [], refl)
 
 first_in : (s : Scene) (p : Phase) (step left : ℕ) → IsAt step p → HasFirst (rest_in s (suc left) p)
 first_in s (running c) step left at = first_next s c (instant_of s c) left
@@ -163,11 +184,11 @@ pub fails_first : (number : ℕ) (text : List ℕ) (rest later : Play) (before n
 fails_first number text rest later before now s e f = (text, trace_texts later.pieces, ap (λ (p : Play). trace_texts p.pieces) e, f)
 
 -- the end line, which is the rest of a run
-pub writes_end : (e : End) (at : ℕ) (last : Ending) (rest : Play) (before now : Option (List ℕ)) → last ≡ record { end = e; at = at } → rest ≡ ended e at → Appends before now (end_text e at) → WritesEnd last rest before now
-writes_end e at last rest before now is same appends = let P : Ending → Type 0 = λ l. WritesEnd l rest before now in subst P (sym is) (same, appends)
+pub writes_end : (s : Scene) (e : End) (at : ℕ) (last : Ending) (rest : Play) (before now : Option (List ℕ)) → last ≡ record { end = e; at = at } → rest ≡ ended s e at → Appends before now (end_text e s.exceptions at) → WritesEnd s last rest before now
+writes_end s e at last rest before now is same appends = let P : Ending → Type 0 = λ l. WritesEnd s l rest before now in subst P (sym is) (same, appends)
 
-pub end_fails : (number : ℕ) (e : End) (at : ℕ) (rest : Play) (before now : Option (List ℕ)) (s : Status) → rest ≡ ended e at → FailsIn number (end_text e at) before now s → FailsFirst number rest before now s
-end_fails number e at rest before now s same f = (end_text e at, [], ap (λ (p : Play). trace_texts p.pieces) same, f)
+pub end_fails : (number : ℕ) (s : Scene) (e : End) (at : ℕ) (rest : Play) (before now : Option (List ℕ)) (status : Status) → rest ≡ ended s e at → FailsIn number (end_text e s.exceptions at) before now status → FailsFirst number rest before now status
+end_fails number s e at rest before now status same f = (end_text e s.exceptions at, [], ap (λ (p : Play). trace_texts p.pieces) same, f)
 
 -- Texts so far, and texts to come.
 
@@ -211,11 +232,12 @@ follows_more k whole rest later text before now then f e h =
     })
 
 -- the end line is the rest of a run
-pub ends_whole : (k : ℕ) (whole rest : Play) (before now then : Option (List ℕ)) (last : Ending) → Follows k whole rest before now → WritesEnd last rest now then → (last ≡ whole.ending) × Appends before then (trace_of whole.pieces)
-ends_whole k whole rest before now then last f w =
-    let texts : joined (drop k (trace_texts whole.pieces)) ≡ end_text last.end last.at =
-    ap joined (sym f.texts) ∙ ap (λ (p : Play). trace_of p.pieces) w.0 ∙ append-nil (end_text last.end last.at) in
-    let all : joined (take k (trace_texts whole.pieces)) ++ end_text last.end last.at ≡ trace_of whole.pieces =
+pub ends_whole : (k : ℕ) (whole rest : Play) (before now then : Option (List ℕ)) (s : Scene) (last : Ending) → Follows k whole rest before now → WritesEnd s last rest now then → (last ≡ whole.ending) × Appends before then (trace_of whole.pieces)
+ends_whole k whole rest before now then s last f w =
+    let line = end_text last.end s.exceptions last.at in
+    let texts : joined (drop k (trace_texts whole.pieces)) ≡ line =
+    ap joined (sym f.texts) ∙ ap (λ (p : Play). trace_of p.pieces) w.0 ∙ append-nil line in
+    let all : joined (take k (trace_texts whole.pieces)) ++ line ≡ trace_of whole.pieces =
     ap (λ t. joined (take k (trace_texts whole.pieces)) ++ t) (sym texts) ∙ all_joined k (trace_texts whole.pieces) in
     (sym (ap (λ (p : Play). p.ending) w.0) ∙ f.ending, same_text before then _ _ all (Appends-trans before now then _ _ f.written w.1))
 
@@ -234,15 +256,15 @@ cut_first k whole rest before now then s f h = cut_in k whole rest h.0 h.1 befor
 
 -- a run whose rest is its end line
 
-pub last_all : (r : Result Ending Status) (k : ℕ) (whole rest : Play) (e : End) (at : ℕ) (before now then : Option (List ℕ)) → Follows k whole rest before now → rest ≡ ended e at → OnOk r (Appends now then (end_text e at)) → OnOk r (Appends before then (trace_of whole.pieces))
-last_all (Ok x) k whole rest e at before now then f same appends = (ends_whole k whole rest before now then (record { end = e; at = at }) f (same, appends)).1
-last_all (Err s) k whole rest e at before now then f same appends = tt
+pub last_all : (r : Result Ending Status) (k : ℕ) (whole rest : Play) (s : Scene) (e : End) (at : ℕ) (before now then : Option (List ℕ)) → Follows k whole rest before now → rest ≡ ended s e at → OnOk r (Appends now then (end_text e s.exceptions at)) → OnOk r (Appends before then (trace_of whole.pieces))
+last_all (Ok x) k whole rest s e at before now then f same appends = (ends_whole k whole rest before now then s (record { end = e; at = at }) f (same, appends)).1
+last_all (Err t) k whole rest s e at before now then f same appends = tt
 
-pub last_cut : (r : Result Ending Status) (k : ℕ) (whole rest : Play) (e : End) (at : ℕ) (before now then : Option (List ℕ)) → Follows k whole rest before now → rest ≡ ended e at → IfErr r (FailsIn k (end_text e at) now then) → IfErr r (IsCut whole.pieces before then)
-last_cut (Ok x) k whole rest e at before now then f same fails = tt
-last_cut (Err s) k whole rest e at before now then f same fails = cut_first k whole rest before now then s f (end_fails k e at rest now then s same fails)
+pub last_cut : (r : Result Ending Status) (k : ℕ) (whole rest : Play) (s : Scene) (e : End) (at : ℕ) (before now then : Option (List ℕ)) → Follows k whole rest before now → rest ≡ ended s e at → IfErr r (FailsIn k (end_text e s.exceptions at) now then) → IfErr r (IsCut whole.pieces before then)
+last_cut (Ok x) k whole rest s e at before now then f same fails = tt
+last_cut (Err t) k whole rest s e at before now then f same fails = cut_first k whole rest before now then t f (end_fails k s e at rest now then t same fails)
 
 -- its ending
-pub last_ends : (r : Result Ending Status) (k : ℕ) (whole rest : Play) (e : End) (at : ℕ) (before now : Option (List ℕ)) → Follows k whole rest before now → rest ≡ ended e at → IfOk r (λ last. last ≡ record { end = e; at = at }) → IfOk r (λ last. last ≡ whole.ending)
-last_ends (Ok x) k whole rest e at before now f same is = is ∙ sym (ap (λ (p : Play). p.ending) same) ∙ f.ending
-last_ends (Err s) k whole rest e at before now f same is = tt
+pub last_ends : (r : Result Ending Status) (k : ℕ) (whole rest : Play) (s : Scene) (e : End) (at : ℕ) (before now : Option (List ℕ)) → Follows k whole rest before now → rest ≡ ended s e at → IfOk r (λ last. last ≡ record { end = e; at = at }) → IfOk r (λ last. last ≡ whole.ending)
+last_ends (Ok x) k whole rest s e at before now f same is = is ∙ sym (ap (λ (p : Play). p.ending) same) ∙ f.ending
+last_ends (Err t) k whole rest s e at before now f same is = tt

@@ -1,5 +1,5 @@
 -- Texts in parts.
-use Rattle.std.proofs.Common.{◌≡◌, ℕ, zero, suc, ◌<◌, List, [], ◌∷◌, ◌++◌, length, length-append, get_or, append_assoc, subst, OnErr, OnOk, Ok, Err, None, Some, MatchOption, refl, ap, sym, ◌∙◌, arith, ◌+◌, take, drop}
+use Rattle.std.proofs.Common.{◌≡◌, ℕ, zero, suc, ◌<◌, List, [], ◌∷◌, ◌++◌, length, length-append, get_or, append_assoc, subst, OnErr, OnOk, Ok, Err, None, Some, IfNone, MatchOption, refl, ap, sym, ◌∙◌, arith, ◌+◌, take, drop}
 use Rattle.std.specs.List.{flat_map}
 use Rattle.std.proofs.Math.Seq.{take-add}
 use Rattle.std.proofs.KnownBytes.{Appends-trans}
@@ -52,6 +52,10 @@ OnErr-of (Err e) A a = a
 
 pub matched_some : {X : Type 0} (o : Option X) (x : X) (P : Type 0) (Q : X → Type 0) → o ≡ Some x → MatchOption o P Q → Q x
 matched_some {X} o x P Q is h = let M : Option X → Type 0 = λ p. MatchOption p P Q in subst M is h
+
+pub none_is : {X : Type 0} (o : Option X) (P : Type 0) → ((x : X) → o ≡ Some x → ⊥) → IfNone o P → P
+none_is None P none h = h
+none_is (Some x) P none h = absurd (none x refl)
 
 pub matched_none : {X : Type 0} (o : Option X) (P : Type 0) (Q : X → Type 0) → ((x : X) → o ≡ Some x → ⊥) → MatchOption o P Q → P
 matched_none None P Q none h = h

@@ -58,5 +58,5 @@ pub record IsCall (words : List (List ℕ)) (old new : Outside) (s : Status) : T
   pub asks : IfOk (requested words) (λ request. Asks (asks_of request) old.files.asked new.files.asked s)
   -- a device is blamed exactly where its count of faults rose
   pub blame : (what : Device) → Counts (blames s what) (faults_of what old) (faults_of what new)
-  -- what the status says is said, and nothing else
-  pub says : Says (status_lines s) old.says new.says
+  -- what the status says is said, and nothing else; a program that runs has no exceptions to be named
+  pub says : Says (status_lines [] s) old.says new.says

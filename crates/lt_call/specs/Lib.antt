@@ -9,8 +9,6 @@ pub mod Asked
 pub mod Form
 -- the scene of such a program
 pub mod Prepared
--- the text of a trace
-pub mod TraceText
 -- what is put out, piece by piece
 pub mod Pieces
 -- a run, and how it ends

@@ -1,11 +1,11 @@
 -- What a call says on standard error.
-use Rattle.std.specs.Prelude.{ℕ, List, [], ◌++◌, None, Some, codes, decimal}
+use Rattle.std.specs.Prelude.{ℕ, List, [], ◌∷◌, ◌++◌, None, Some, codes, decimal}
 use Rattle.std.specs.declared.option.Option.{Option}
 use Rattle.lt_parser.specs.Refusals.{parse_code, parse_place}
+use Rattle.lt_rif.specs.Trace.{line, spaced, end_words}
+use Rattle.lt_rif.specs.declared.end.End.{End}
+use Rattle.lt_rif.specs.declared.end.End.TheVariants as end
 use Rattle.lt_types.specs.Codes.{type_code, type_place}
-use Rattle.lt_call.specs.TraceText.{line}
-use Rattle.lt_call.specs.declared.ending.End.{End}
-use Rattle.lt_call.specs.declared.ending.End.TheVariants as end
 use Rattle.lt_call.specs.declared.status.Status.{Status}
 use Rattle.lt_call.specs.declared.status.Status.TheVariants as status
 use Rattle.lt_call.specs.declared.status.UsageKind.{UsageKind}
@@ -49,26 +49,40 @@ abbrev pub usage_text : List ℕ
 usage_text =
     codes "lurette MODE FILE [-l N] [--seed N] [--precision N] [--budget N] [--node NAME] [--sut CMD] [--oracle CMD] [--replay FILE] [--locals]"
 
--- what is said of an ending, if anything
-abbrev pub end_lines : End → ℕ → List ℕ
-end_lines end.Normal at = []
-end_lines end.Limit at = []
-end_lines end.Deadlock at = line (codes "lurette: deadlock " ++ decimal at)
+-- the place of a reply that is refused
+abbrev pub end_place : End → Option ℕ
+end_place (end.Malformed w f place) = Some place
+end_place _ = None
 
--- the line of a status, or its lines; none where all went well
-abbrev pub status_lines : Status → List ℕ
-status_lines status.Done = []
-status_lines (status.Ran ending) = end_lines ending.end ending.at
-status_lines (status.Usage kind) = line (codes "lurette: usage: " ++ usage_word kind) ++ line usage_text
-status_lines (status.Refused reason) = line (codes "lurette: refused " ++ refusal_code reason ++ at_place (refusal_place reason))
-status_lines (status.Device what at) = line (codes "lurette: device " ++ device_word what ++ codes " " ++ decimal at)
-status_lines status.Memory = line (codes "lurette: memory")
+-- what is said of an end, if anything: the words of the end line with its number, and the place of a reply that is
+-- refused. Exceptions have these names.
+abbrev pub end_lines : End → List (List ℕ) → ℕ → List ℕ
+end_lines end.Normal names at = []
+end_lines end.Limit names at = []
+end_lines e names at = line (codes "lurette: " ++ spaced (end_words e names ++ decimal at ∷ []) ++ at_place (end_place e))
+
+-- the line of a status, or its lines; none where all went well. Exceptions have these names.
+abbrev pub status_lines : List (List ℕ) → Status → List ℕ
+status_lines names status.Done = []
+status_lines names (status.Ran ending) = end_lines ending.end names ending.at
+status_lines names (status.Usage kind) = line (codes "lurette: usage: " ++ usage_word kind) ++ line usage_text
+status_lines names (status.Refused reason) = line (codes "lurette: refused " ++ refusal_code reason ++ at_place (refusal_place reason))
+status_lines names (status.Device what at) = line (codes "lurette: device " ++ device_word what ++ codes " " ++ decimal at)
+status_lines names status.Memory = line (codes "lurette: memory")
 
 -- the exit status of a run
 abbrev pub end_code : End → ℕ
 end_code end.Normal = 0
 end_code end.Limit = 0
+end_code end.Oracle = 1
 end_code end.Deadlock = 4
+end_code (end.Raise exception) = 5
+end_code (end.Fault fault) = 6
+end_code (end.Malformed who fault place) = 7
+end_code (end.Ended who taken) = 8
+end_code (end.Device who) = 9
+end_code (end.Budget need) = 10
+end_code end.TooLarge = 14
 
 -- the exit status of the program
 abbrev pub status_code : Status → ℕ

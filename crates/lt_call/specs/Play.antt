@@ -1,14 +1,15 @@
 -- A run: what it puts out, and how it ends.
-use Rattle.std.specs.Prelude.{ℕ, zero, suc, ◌-◌, List, [], ◌∷◌}
+use Rattle.std.specs.Prelude.{ℕ, zero, suc, ◌-◌, List, [], ◌∷◌, ◌++◌, map, None}
+use Rattle.lt_num.specs.declared.kind.Kind.{Kind}
 use Rattle.lt_num.specs.declared.value.Value.{Value}
-use Rattle.lt_term.specs.Scene.{Scene, Configuration, first_configuration}
+use Rattle.lt_rif.specs.Trace.{DeclaredVariable, header_text, step_text, end_text}
+use Rattle.lt_rif.specs.declared.end.End.{End}
+use Rattle.lt_rif.specs.declared.end.End.TheVariants.{Normal, Limit, Deadlock}
+use Rattle.lt_term.specs.Scene.{Variable, Scene, Configuration, first_configuration}
 use Rattle.lt_step.specs.Instant as instant
 use Rattle.lt_step.specs.Instant.{Instant, instant_of}
 use Rattle.lt_call.specs.Pieces.{Piece, trace_piece}
-use Rattle.lt_call.specs.TraceText.{header_text, step_text, end_text}
-use Rattle.lt_call.specs.declared.ending.End.{End}
-use Rattle.lt_call.specs.declared.ending.End.TheVariants.{Normal, Limit, Deadlock}
-use Rattle.lt_call.specs.declared.ending.Ending.{Ending}
+use Rattle.lt_call.specs.declared.status.Ending.{Ending}
 
 -- a run: its pieces, in turn, and how it ends
 pub record Play : Type 0 where
@@ -21,29 +22,41 @@ pub record Setup : Type 0 where
   -- the most steps
   pub limit : ℕ
 
+-- a variable as the header of a trace declares it
+abbrev pub declared_as : Variable → DeclaredVariable
+declared_as v = record { name = v.name; kind = v.kind }
+
+-- the kinds of variables
+abbrev pub kinds_of : List Variable → List Kind
+kinds_of variables = map (λ v. v.kind) variables
+
+-- the header of a trace, of this seed
+abbrev pub header_of : Scene → ℕ → List ℕ
+header_of s seed = header_text seed (map declared_as s.outputs) (map declared_as s.inputs) None
+
+-- the text of an instant of this number, with these values of the outputs; nobody gives the inputs values
+abbrev pub instant_text : Scene → ℕ → List Value → List ℕ
+instant_text s step outputs = step_text s.decimals step (kinds_of s.outputs ++ kinds_of s.inputs) outputs [] None
+
 -- the end of a run: its end line
-abbrev pub ended : End → ℕ → Play
-ended end at = record { pieces = trace_piece (end_text end at) ∷ []; ending = record { end = end; at = at } }
+abbrev pub ended : Scene → End → ℕ → Play
+ended s end at = record { pieces = trace_piece (end_text end s.exceptions at) ∷ []; ending = record { end = end; at = at } }
 
 -- a run that puts out this text of the trace first, and then what the rest does
 abbrev pub with_text : List ℕ → Play → Play
 with_text text rest = record { pieces = trace_piece text ∷ rest.pieces; ending = rest.ending }
 
--- the text of an instant of this number, with these values of the outputs
-abbrev pub instant_text : Scene → ℕ → List Value → List ℕ
-instant_text s step outputs = step_text s.decimals s.outputs step outputs
-
 -- a run in which this is the next instant; where it has values, rest is the run that follows them
 abbrev pub with_instant : Scene → Configuration → Instant → (Configuration → Play) → Play
 with_instant s c (instant.values outputs next) rest = with_text (instant_text s c.step outputs) (rest next)
-with_instant s c instant.normal rest = ended Normal (c.step - 1)
-with_instant s c instant.deadlock rest = ended Deadlock c.step
+with_instant s c instant.normal rest = ended s Normal (c.step - 1)
+with_instant s c instant.deadlock rest = ended s Deadlock c.step
 
 -- a run of at most so many further steps from here
 abbrev pub play_from : Scene → ℕ → Configuration → Play
-play_from s zero c = ended Limit (c.step - 1)
+play_from s zero c = ended s Limit (c.step - 1)
 play_from s (suc left) c = with_instant s c (instant_of s c) (play_from s left)
 
 -- the run of a scenario with nobody beside the tester
 abbrev pub play_of : Scene → Setup → Play
-play_of s setup = with_text (header_text setup.seed s.outputs s.inputs) (play_from s setup.limit (first_configuration s))
+play_of s setup = with_text (header_of s setup.seed) (play_from s setup.limit (first_configuration s))

@@ -27,10 +27,10 @@ default_decimals = 2
 abbrev pub most_outputs : ℕ
 most_outputs = 8
 
--- the seed of a run, for which no words ask yet
+-- the seed of a run, for which no words ask
 abbrev pub default_seed : ℕ
 default_seed = 0
 
--- the greatest search that a run makes, for which no words ask yet
+-- the greatest search that a run makes, for which no words ask
 abbrev pub default_budget : ℕ
 default_budget = 10000000

@@ -5,5 +5,7 @@ pub mod Statuses
 pub mod Programs
 -- the functions that prepare a scenario
 pub mod Preparing
+-- the writer of a run
+pub mod Writer
 -- a run that is under way
 pub mod Running

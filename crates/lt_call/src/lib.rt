@@ -5,7 +5,6 @@
 //! the number that a program ends with, and [`start`] hands it the system.
 #![tactic(auto)]
 
-mod ending;
 mod laws;
 mod prepare;
 mod put;
@@ -15,17 +14,16 @@ mod settings;
 mod status;
 mod system;
 mod top;
-mod trace_text;
 mod words;
+mod writer;
 
-pub use ending::{End, Ending};
 pub use laws::{
     contents_have_one_due_answer, refusals_are_exact, same_call_same_bytes,
     undisturbed_calls_are_whole,
 };
+pub use lt_rif::End;
 pub use settings::settings_are_as_defined;
-pub use status::{Device, Refusal, Status, UsageKind};
+pub use status::{Device, Ending, Refusal, Status, UsageKind};
 pub use system::{program, start};
 pub use top::lurette;
-pub use trace_text::{write_header, write_step};
 pub use words::limits_are_printed;

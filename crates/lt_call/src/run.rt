@@ -1,25 +1,26 @@
 //! The run of a scenario with nobody beside the tester.
 
-ghost use Rattle.std.specs.Prelude.{◌≡◌, ◌≤◌, ℕ, suc, ◌+◌, [], false, IfErr, IfOk, OnOk, MatchOption};
+ghost use Rattle.std.specs.Prelude.{◌≡◌, ◌≤◌, ℕ, suc, ◌+◌, [], false, IfErr, IfNone, IfOk, OnOk, MatchOption, length};
 ghost use Rattle.std.specs.Io.KnownBytes.{Appends};
+ghost use Rattle.lt_rif.specs.Enough.{IsEndSized};
+ghost use Rattle.lt_rif.specs.Trace.{IsNamed, end_text};
 ghost use Rattle.lt_step.specs.Machine.{started, outputs_in};
 ghost use Rattle.lt_step.specs.View.{machine_state};
 ghost use Rattle.lt_call.specs.Call.{Counts, blames};
 ghost use Rattle.lt_call.specs.Cut.{Gives, IsCut};
 ghost use Rattle.lt_call.specs.Due.{ran};
 ghost use Rattle.lt_call.specs.Pieces.{trace_of};
-ghost use Rattle.lt_call.specs.Play.{play_of, instant_text};
+ghost use Rattle.lt_call.specs.Play.{header_of, instant_text, play_of};
 ghost use Rattle.lt_call.specs.Settings.{most_steps, default_seed};
-ghost use Rattle.lt_call.specs.TraceText.{end_text};
 ghost use Rattle.lt_call.specs.declared.status.Device.{Device};
 ghost use Rattle.lt_call.specs.inner.Running.{rest_of, IsAt, WritesStep, WritesEnd, FailsIn, FailsFirst};
+ghost use Rattle.lt_call.specs.inner.Writer.{IsFor};
 
-use crate::ending::{End, Ending};
 use crate::put::put_text;
-use crate::settings::DEFAULT_SEED;
-use crate::status::Status;
-use crate::trace_text::{write_end, write_header, write_step};
+use crate::status::{Ending, Status};
+use crate::writer::Writer;
 use lt_io::Sink;
+use lt_rif::End;
 use lt_step::{Machine, Outcome};
 use std::alloc::Global;
 
@@ -55,48 +56,57 @@ fn steps<S: Sink>(
     ensures calm { OnOk result (S.faults trace.new ≡ S.faults trace.old) }
     ensures blame { IfErr result (λ s. Counts (blames s Device.Trace) (S.faults trace.old) (S.faults trace.new)) }
 {
-    let mut text = Vec::new(alloc);
-    write_header(
-        &mut text,
-        DEFAULT_SEED,
-        machine.output_vars(),
-        machine.input_vars(),
-    )?;
-    put_text(trace, &text, 0)?;
+    let mut writer = begin(alloc, machine, trace)?;
     for steps in 0..limit {
-        if let Some(ending) = advance(alloc, machine, steps + 1, &mut text, trace)? {
+        if let Some(ending) = advance(alloc, machine, steps + 1, &mut writer, trace)? {
             return Ok(ending);
         }
     }
-    finish(End::Limit, limit, limit + 1, &mut text, trace)
+    finish(machine, End::Limit, limit, limit + 1, &mut writer, trace)
+}
+
+// Reserves the room for all texts, and writes the header.
+fn begin<S: Sink>(alloc: Global, machine: &Machine, trace: &mut S) -> Result<Writer, Status>
+    ensures is_for { IfOk result (IsFor (machine_state machine.now).scene) }
+    ensures all { OnOk result (Appends (S.written trace.old) (S.written trace.new) (header_of (machine_state machine.now).scene default_seed)) }
+    ensures fails { IfErr result (FailsIn 0 (header_of (machine_state machine.now).scene default_seed) (S.written trace.old) (S.written trace.new)) }
+    ensures calm { OnOk result (S.faults trace.new ≡ S.faults trace.old) }
+    ensures blame { IfErr result (λ s. Counts (blames s Device.Trace) (S.faults trace.old) (S.faults trace.new)) }
+{
+    let writer = Writer::make(alloc, machine)?;
+    put_text(trace, &writer.text, 0)?;
+    Ok(writer)
 }
 
 // Makes and writes the step of this number; or the end line, where the run ends instead.
+#[tactic(auto, using(crate::proofs::Runs::is_next))]
 fn advance<S: Sink>(
     alloc: Global,
     machine: &mut Machine,
     step: u64,
-    text: &mut Vec<u8>,
+    writer: &mut Writer,
     trace: &mut S,
 ) -> Result<Option<Ending>, Status>
     requires inputs { (machine_state machine.old).scene.inputs ≡ [] }
     requires at { IsAt step (machine_state machine.old).phase }
     requires first { 1 ≤ step }
     requires few { step ≤ most_steps }
+    requires writer { IsFor (machine_state machine.old).scene writer.old }
+    ensures writer { IfOk result (λ end. IfNone end (IsFor (machine_state machine.new).scene writer.new)) }
     ensures goes { IfOk result (λ end. MatchOption end
         (WritesStep step (machine_state machine.old) (machine_state machine.new) (S.written trace.old) (S.written trace.new))
-        (λ ending. (left : ℕ) → WritesEnd ending (rest_of (machine_state machine.old) (suc left)) (S.written trace.old) (S.written trace.new))) }
+        (λ ending. (left : ℕ) → WritesEnd (machine_state machine.old).scene ending (rest_of (machine_state machine.old) (suc left)) (S.written trace.old) (S.written trace.new))) }
     ensures fails { IfErr result (λ s. (left : ℕ) → FailsFirst step (rest_of (machine_state machine.old) (suc left)) (S.written trace.old) (S.written trace.new) s) }
     ensures calm { OnOk result (S.faults trace.new ≡ S.faults trace.old) }
     ensures blame { IfErr result (λ s. Counts (blames s Device.Trace) (S.faults trace.old) (S.faults trace.new)) }
 {
     match machine.step(alloc, &[]) {
         Outcome::Values => {
-            write_out(machine, step, text, trace)?;
+            write_out(machine, step, writer, trace)?;
             Ok(None)
         }
-        Outcome::Normal => Ok(Some(finish(End::Normal, step - 1, step, text, trace)?)),
-        Outcome::Deadlock => Ok(Some(finish(End::Deadlock, step, step, text, trace)?)),
+        Outcome::Normal => Ok(Some(finish(machine, End::Normal, step - 1, step, writer, trace)?)),
+        Outcome::Deadlock => Ok(Some(finish(machine, End::Deadlock, step, step, writer, trace)?)),
         Outcome::Memory => Err(Status::Memory),
         Outcome::Ended => unreachable!(),
     }
@@ -104,21 +114,24 @@ fn advance<S: Sink>(
 
 // Writes the end line, which is the text of this number in the trace.
 fn finish<S: Sink>(
+    machine: &Machine,
     end: End,
     at: u64,
     number: u64,
-    text: &mut Vec<u8>,
+    writer: &mut Writer,
     trace: &mut S,
 ) -> Result<Ending, Status>
+    requires writer { IsFor (machine_state machine.now).scene writer.old }
+    requires named { IsNamed end (length (machine_state machine.now).scene.exceptions) }
+    requires sized { IsEndSized end }
     ensures ends { IfOk result (λ ending. ending ≡ record { end = end; at = at }) }
-    ensures all { OnOk result (Appends (S.written trace.old) (S.written trace.new) (end_text end at)) }
-    ensures fails { IfErr result (FailsIn number (end_text end at) (S.written trace.old) (S.written trace.new)) }
+    ensures all { OnOk result (Appends (S.written trace.old) (S.written trace.new) (end_text end (machine_state machine.now).scene.exceptions at)) }
+    ensures fails { IfErr result (FailsIn number (end_text end (machine_state machine.now).scene.exceptions at) (S.written trace.old) (S.written trace.new)) }
     ensures calm { OnOk result (S.faults trace.new ≡ S.faults trace.old) }
     ensures blame { IfErr result (λ s. Counts (blames s Device.Trace) (S.faults trace.old) (S.faults trace.new)) }
 {
-    text.clear();
-    write_end(text, end, at)?;
-    put_text(trace, text, number)?;
+    writer.make_end(machine, end, at);
+    put_text(trace, &writer.text, number)?;
     Ok(Ending { end, at })
 }
 
@@ -126,22 +139,16 @@ fn finish<S: Sink>(
 fn write_out<S: Sink>(
     machine: &Machine,
     step: u64,
-    text: &mut Vec<u8>,
+    writer: &mut Writer,
     trace: &mut S,
 ) -> Result<(), Status>
-    requires { IsAt (step + 1) (machine_state machine.now).phase }
+    requires { IsFor (machine_state machine.now).scene writer.old }
+    ensures writer { IsFor (machine_state machine.now).scene writer.new }
     ensures all { OnOk result (Appends (S.written trace.old) (S.written trace.new) (instant_text (machine_state machine.now).scene step (outputs_in (machine_state machine.now).phase))) }
     ensures fails { IfErr result (FailsIn step (instant_text (machine_state machine.now).scene step (outputs_in (machine_state machine.now).phase)) (S.written trace.old) (S.written trace.new)) }
     ensures calm { OnOk result (S.faults trace.new ≡ S.faults trace.old) }
     ensures blame { IfErr result (λ s. Counts (blames s Device.Trace) (S.faults trace.old) (S.faults trace.new)) }
 {
-    text.clear();
-    write_step(
-        text,
-        machine.decimals(),
-        machine.output_vars(),
-        step,
-        machine.outputs(),
-    )?;
-    put_text(trace, text, step)
+    writer.make_step(machine, step);
+    put_text(trace, &writer.text, step)
 }

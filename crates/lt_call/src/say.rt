@@ -1,31 +1,32 @@
 //! What a call says on standard error, by `docs/COMMAND.md`.
 
-ghost use Rattle.std.specs.Prelude.{◌≡◌, OnErr, OnOk};
+ghost use Rattle.std.specs.Prelude.{◌≡◌, [], OnErr, OnOk, map, slice_index_or, string_bytes};
 ghost use Rattle.std.specs.Io.KnownBytes.{Appends};
 ghost use Rattle.lt_io.specs.Causes.{HasCause};
 ghost use Rattle.lt_call.specs.Writing.{AppendsPart};
 ghost use Rattle.lt_call.specs.Lines.{status_lines, end_lines, usage_word, refusal_code, refusal_place, device_word};
 
-use crate::ending::{End, Ending};
 use crate::put::put_all;
-use crate::status::{Device, Refusal, Status, UsageKind};
+use crate::status::{Device, Ending, Refusal, Status, UsageKind};
 use itoa::Buffer;
 use lt_io::{Failed, Sink};
+use lt_rif::{End, fault_word, refusal_word, who_word};
 
 // How the program is called.
 const USAGE: &[u8] =
     b"lurette MODE FILE [-l N] [--seed N] [--precision N] [--budget N] [--node NAME] [--sut CMD] [--oracle CMD] [--replay FILE] [--locals]";
 
-/// Says the line of a status, if any. Where that fails, a front of it was said, but not all.
-pub fn say<M: Sink>(says: &mut M, status: Status) -> Result<(), Failed>
-    ensures all { OnOk result (Appends (M.written says.old) (M.written says.new) (status_lines status)) }
-    ensures front { OnErr result (AppendsPart (M.written says.old) (M.written says.new) (status_lines status)) }
+/// Says the line of a status, if any. Where that fails, a front of it was said, but not all. Exceptions have these
+/// names.
+pub fn say<M: Sink>(says: &mut M, status: Status, names: &[String]) -> Result<(), Failed>
+    ensures all { OnOk result (Appends (M.written says.old) (M.written says.new) (status_lines (map string_bytes names.now) status)) }
+    ensures front { OnErr result (AppendsPart (M.written says.old) (M.written says.new) (status_lines (map string_bytes names.now) status)) }
     ensures cause { HasCause (M.faults says.old) (M.faults says.new) result }
 {
     let mut digits = Buffer::new();
     match status {
         Status::Done => Ok(()),
-        Status::Ran(ending) => say_ending(says, ending),
+        Status::Ran(ending) => say_ending(says, ending, names),
         Status::Usage(kind) => put_all(
             says,
             &[b"lurette: usage: ", usage_name(kind), b"\n", USAGE, b"\n"],
@@ -46,22 +47,61 @@ pub fn say<M: Sink>(says: &mut M, status: Status) -> Result<(), Failed>
 }
 
 // Says the line of an ending, if any.
-fn say_ending<M: Sink>(says: &mut M, ending: Ending) -> Result<(), Failed>
-    ensures all { OnOk result (Appends (M.written says.old) (M.written says.new) (end_lines ending.end ending.at)) }
-    ensures front { OnErr result (AppendsPart (M.written says.old) (M.written says.new) (end_lines ending.end ending.at)) }
+fn say_ending<M: Sink>(says: &mut M, ending: Ending, names: &[String]) -> Result<(), Failed>
+    ensures all { OnOk result (Appends (M.written says.old) (M.written says.new) (end_lines ending.end (map string_bytes names.now) ending.at)) }
+    ensures front { OnErr result (AppendsPart (M.written says.old) (M.written says.new) (end_lines ending.end (map string_bytes names.now) ending.at)) }
     ensures cause { HasCause (M.faults says.old) (M.faults says.new) result }
 {
     let mut digits = Buffer::new();
+    let at = digits.format(ending.at).as_bytes();
+    let mut more_digits = Buffer::new();
     match ending.end {
         End::Normal | End::Limit => Ok(()),
-        End::Deadlock => put_all(
+        End::Oracle => put_all(says, &[b"lurette: oracle ", at, b"\n"]),
+        End::Deadlock => put_all(says, &[b"lurette: deadlock ", at, b"\n"]),
+        End::Raise { exception } => {
+            let name = name_of(names, exception);
+            put_all(says, &[b"lurette: raise ", name, b" ", at, b"\n"])
+        }
+        End::Fault(fault) => {
+            let fault = fault_word(fault);
+            put_all(says, &[b"lurette: fault ", fault, b" ", at, b"\n"])
+        }
+        End::TooLarge => put_all(says, &[b"lurette: toolarge ", at, b"\n"]),
+        End::Malformed { who, fault, place } => put_all(
             says,
             &[
-                b"lurette: deadlock ",
-                digits.format(ending.at).as_bytes(),
+                b"lurette: malformed ",
+                who_word(who),
+                b" ",
+                refusal_word(fault),
+                b" ",
+                at,
+                b" at ",
+                more_digits.format(place).as_bytes(),
                 b"\n",
             ],
         ),
+        End::Ended { who, .. } => {
+            put_all(says, &[b"lurette: ended ", who_word(who), b" ", at, b"\n"])
+        }
+        End::Device(who) => {
+            put_all(says, &[b"lurette: device ", who_word(who), b" ", at, b"\n"])
+        }
+        End::Budget { need } => {
+            let need = more_digits.format(need).as_bytes();
+            put_all(says, &[b"lurette: budget ", need, b" ", at, b"\n"])
+        }
+    }
+}
+
+// The name of an exception; nothing where it has none.
+fn name_of(names: &[String], exception: u32) -> &[u8]
+    ensures { result.now ≡ slice_index_or (map string_bytes names.now) exception [] }
+{
+    match names.get(exception as usize) {
+        Some(name) => name.as_bytes(),
+        None => &[],
     }
 }
 
@@ -76,8 +116,8 @@ fn usage_name(kind: UsageKind) -> &'static [u8]
 
 // Says why a file is refused, and where, if that is a place in its text.
 fn say_refusal<M: Sink>(says: &mut M, reason: Refusal) -> Result<(), Failed>
-    ensures all { OnOk result (Appends (M.written says.old) (M.written says.new) (status_lines (Status.Refused reason))) }
-    ensures front { OnErr result (AppendsPart (M.written says.old) (M.written says.new) (status_lines (Status.Refused reason))) }
+    ensures all { OnOk result (Appends (M.written says.old) (M.written says.new) (status_lines [] (Status.Refused reason))) }
+    ensures front { OnErr result (AppendsPart (M.written says.old) (M.written says.new) (status_lines [] (Status.Refused reason))) }
     ensures cause { HasCause (M.faults says.old) (M.faults says.new) result }
 {
     let code = refusal_code(reason);

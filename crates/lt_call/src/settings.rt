@@ -24,7 +24,7 @@ pub const MOST_OUTPUTS: usize = 8;
 /// The seed of every run.
 pub const DEFAULT_SEED: u64 = 0;
 
-/// The greatest search that a machine may make. No search looks at it yet.
+/// The greatest search that a machine may make. No search looks at it.
 pub const DEFAULT_BUDGET: u64 = 10_000_000;
 
 /// These are the numbers that the definitions name.

@@ -1,10 +1,10 @@
 //! How a call ends: `docs/COMMAND.md` has the statuses and their lines.
 
 ghost use Rattle.std.specs.Prelude.{◌≡◌};
-ghost use Rattle.lt_call.specs.Lines.{status_code};
+ghost use Rattle.lt_call.specs.Lines.{end_code, status_code};
 
-use crate::ending::Ending;
 use lt_parser::ParseRefusal;
+use lt_rif::End;
 use lt_types::TypeRefusal;
 use std::alloc::AllocError;
 
@@ -35,6 +35,17 @@ pub enum Status {
 
     /// Memory ran out.
     Memory,
+}
+
+/// How a run ended.
+#[derive(Clone, Copy, Debug, PartialEq, Eq)]
+pub struct Ending {
+    /// Why.
+    pub end: End,
+
+    /// The number of the end line: where the scenario is over or at its limit, how many steps were written, else the
+    /// number of the instant, from 1.
+    pub at: u64,
 }
 
 /// What is wrong with the words of a call.
@@ -74,19 +85,37 @@ pub enum Device {
 }
 
 impl Status {
-    /// The exit status of the program: 0 for what was written whole and for a run that ended well, 2 usage,
-    /// 3 refused, 4 deadlock, 9 device, 11 memory.
+    /// The exit status of the program: 0 for what was written whole, 2 usage, 3 refused, 9 device, 11 memory, and
+    /// that of the ending for a run.
     pub fn code(self) -> u8
         ensures { result ≡ status_code self }
     {
         match self {
             Status::Done => 0,
-            Status::Ran(ending) => ending.end.code(),
+            Status::Ran(ending) => end_code(ending.end),
             Status::Usage(_) => 2,
             Status::Refused(_) => 3,
             Status::Device { .. } => 9,
             Status::Memory => 11,
         }
+    }
+}
+
+// The exit status of the program where a run ended so.
+fn end_code(end: End) -> u8
+    ensures { result ≡ end_code end }
+{
+    match end {
+        End::Normal | End::Limit => 0,
+        End::Oracle => 1,
+        End::Deadlock => 4,
+        End::Raise { .. } => 5,
+        End::Fault(_) => 6,
+        End::Malformed { .. } => 7,
+        End::Ended { .. } => 8,
+        End::Device(_) => 9,
+        End::Budget { .. } => 10,
+        End::TooLarge => 14,
     }
 }
 

@@ -50,7 +50,7 @@ pub fn start<R: Env + rt::Files + Print + AllocGlobal, W: Write + Drop>(
         Ok(words) => words,
         // The system ran out of memory.
         Err(error) if error.kind() == ErrorKind::OutOfMemory => {
-            let _ = say(&mut says, Status::Memory);
+            let _ = say(&mut says, Status::Memory, &[]);
             return ExitCode::from(Status::Memory.code());
         }
         // A word is no text, so the words ask for nothing.

@@ -54,7 +54,8 @@ pub fn lurette<F: Files, S: Sink, M: Sink>(
         result }
 {
     let status = serve(alloc, words, files, trace);
-    let _ = say(says, status);
+    // A program that runs has no exceptions.
+    let _ = say(says, status, &[]);
     status
 }
 

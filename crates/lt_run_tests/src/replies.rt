@@ -41,6 +41,33 @@ const SKIPPED_REAL: Slot = Slot {
     keep: false,
 };
 
+const SKIPPED_BOOL: Slot = Slot {
+    kind: Kind::Bool,
+    range: None,
+    keep: false,
+};
+
+// A slot for 5 alone.
+const FIVE: Slot = Slot {
+    kind: Kind::Int,
+    range: Some(Range { low: 5, high: 5 }),
+    keep: true,
+};
+
+// A slot for the ints from -9 to 9.
+const NINES: Slot = Slot {
+    kind: Kind::Int,
+    range: Some(Range { low: -9, high: 9 }),
+    keep: true,
+};
+
+// A slot for the reals whose raw numbers go from -20 to 20.
+const TWENTIES: Slot = Slot {
+    kind: Kind::Real,
+    range: Some(Range { low: -20, high: 20 }),
+    keep: true,
+};
+
 // A slot for the raw numbers up to a greatest one.
 fn up_to(kind: Kind, high: i64) -> Slot {
     let range = Some(Range { low: 0, high });
@@ -52,7 +79,7 @@ fn up_to(kind: Kind, high: i64) -> Slot {
 }
 
 // Words of truths.
-const TRUTHS: [(&[u8], &str); 5] = [
+const TRUTHS: [(&[u8], &str); 12] = [
     (
         b"t f T F true false 1 0 ",
         "whole t at 2; whole f at 4; whole t at 6; whole f at 8; whole t at 13; whole f at 19; whole t at 21; whole f at 23; short 0",
@@ -61,13 +88,20 @@ const TRUTHS: [(&[u8], &str); 5] = [
     (b"tt ", "malformed NotAValue 0"),
     (b"2 ", "malformed NotAValue 0"),
     (b"01 ", "malformed NotAValue 0"),
+    (b"TRUE ", "malformed NotAValue 0"),
+    (b"False ", "malformed NotAValue 0"),
+    (b"t. ", "malformed NotAValue 0"),
+    (b"+1 ", "malformed NotAValue 0"),
+    (b"-0 ", "malformed NotAValue 0"),
+    (b"t", "whole t at 1; short 0"),
+    (b"10 ", "malformed NotAValue 0"),
 ];
 
 // The same where false alone is in range.
 const TRUTHS_IN_RANGE: [(&[u8], &str); 1] = [(b"f t ", "whole f at 2; malformed OutOfRange 2")];
 
 // Words of ints.
-const INTS: [(&[u8], &str); 14] = [
+const INTS: [(&[u8], &str); 25] = [
     (
         b"0 -0 +5 -7 007 ",
         "whole 0 at 2; whole 0 at 5; whole 5 at 8; whole -7 at 11; whole 7 at 15; short 0",
@@ -88,19 +122,35 @@ const INTS: [(&[u8], &str); 14] = [
     (b"1e0 ", "malformed NotAValue 0"),
     (b"12x ", "malformed NotAValue 0"),
     (b"t ", "malformed NotAValue 0"),
+    (
+        b"+0 -000 +000000000000000012 -000000000000000012 ",
+        "whole 0 at 3; whole 0 at 8; whole 12 at 28; whole -12 at 48; short 0",
+    ),
+    (b"-0000000000000000012 ", "malformed NotAValue 0"),
+    (b"000000000000000000 ", "whole 0 at 19; short 0"),
+    (b"-999999999999999999 ", "malformed OutOfRange 0"),
+    (b"++1 ", "malformed NotAValue 0"),
+    (b"1+ ", "malformed NotAValue 0"),
+    (b"- 1 ", "malformed NotAValue 0"),
+    (b"1_0 ", "malformed NotAValue 0"),
+    (b"\xd9\xa1 ", "malformed NotAValue 0"),
+    (b"1000000000000", "whole 1000000000000 at 13; short 0"),
+    (b"1000000000001", "malformed OutOfRange 0"),
 ];
 
 // The same in the range from 0 to 9.
-const DIGITS: [(&[u8], &str); 2] = [
+const DIGITS: [(&[u8], &str); 4] = [
     (
         b"0 9 10 ",
         "whole 0 at 2; whole 9 at 4; malformed OutOfRange 4",
     ),
     (b"-1 ", "malformed OutOfRange 0"),
+    (b"9", "whole 9 at 1; short 0"),
+    (b"1000000000001 ", "malformed OutOfRange 0"),
 ];
 
 // Words of reals with two decimals, by their raw numbers.
-const REALS: [(&[u8], &str); 24] = [
+const REALS: [(&[u8], &str); 52] = [
     (
         b"-1.5e-1 12 +.5 7. ",
         "whole -15 at 8; whole 1200 at 11; whole 50 at 15; whole 700 at 18; short 0",
@@ -143,13 +193,76 @@ const REALS: [(&[u8], &str); 24] = [
     (b"nan ", "malformed NotAValue 0"),
     (b"1,5 ", "malformed NotAValue 0"),
     (b"0x1 ", "malformed NotAValue 0"),
+    (
+        b"1.e2 .5e1 5.e+1 0.e0 00.50 ",
+        "whole 10000 at 5; whole 500 at 10; whole 5000 at 16; whole 0 at 21; whole 50 at 27; short 0",
+    ),
+    (
+        b"000000000000000000.000000000000000000 ",
+        "whole 0 at 38; short 0",
+    ),
+    (
+        b"000000000000000000.0000000000000000000 ",
+        "malformed NotAValue 0",
+    ),
+    (b"999999999999999999e-999 ", "whole 0 at 24; short 0"),
+    (b"0.000000000000000001e20 ", "whole 10000 at 24; short 0"),
+    (
+        b"0.004999999999999999 -0.004999999999999999 0.005 ",
+        "whole 0 at 21; whole 0 at 43; whole 1 at 49; short 0",
+    ),
+    (
+        b"0.015 -0.015 0.025 ",
+        "whole 2 at 6; whole -2 at 13; whole 3 at 19; short 0",
+    ),
+    (
+        b"4.99e-3 5.00e-3 0.5e-2 ",
+        "whole 0 at 8; whole 1 at 16; whole 1 at 23; short 0",
+    ),
+    (
+        b"1e10 -1e10 1E010 ",
+        "whole 1000000000000 at 5; whole -1000000000000 at 11; whole 1000000000000 at 17; short 0",
+    ),
+    (b"1e11 ", "malformed OutOfRange 0"),
+    (b"-1e999 ", "malformed OutOfRange 0"),
+    (b".e0 ", "malformed NotAValue 0"),
+    (b"+. ", "malformed NotAValue 0"),
+    (b"+e1 ", "malformed NotAValue 0"),
+    (b"1E ", "malformed NotAValue 0"),
+    (b"1e+ ", "malformed NotAValue 0"),
+    (b"1e+-1 ", "malformed NotAValue 0"),
+    (b"1e-0001 ", "malformed NotAValue 0"),
+    (b"1e5. ", "malformed NotAValue 0"),
+    (b"1.. ", "malformed NotAValue 0"),
+    (b"1.-2 ", "malformed NotAValue 0"),
+    (b"- 1.0 ", "malformed NotAValue 0"),
+    (b"inf ", "malformed NotAValue 0"),
+    (b"1d0 ", "malformed NotAValue 0"),
+    (b"0e999", "whole 0 at 5; short 0"),
+    (b"1e-999", "whole 0 at 6; short 0"),
+    (b"1e", "malformed NotAValue 0"),
+    (b".", "malformed NotAValue 0"),
 ];
 
 // The same without decimals.
-const REALS_WITHOUT_DECIMALS: [(&[u8], &str); 1] = [(
-    b"0.5 -0.5 1.5 -2.5 0.49 1e12 ",
-    "whole 1 at 4; whole -1 at 9; whole 2 at 13; whole -3 at 18; whole 0 at 23; whole 1000000000000 at 28; short 0",
-)];
+const REALS_WITHOUT_DECIMALS: [(&[u8], &str); 4] = [
+    (
+        b"0.5 -0.5 1.5 -2.5 0.49 1e12 ",
+        "whole 1 at 4; whole -1 at 9; whole 2 at 13; whole -3 at 18; whole 0 at 23; whole 1000000000000 at 28; short 0",
+    ),
+    (
+        b"0.499999999999999999 0.500000000000000000 -0.500000000000000000 ",
+        "whole 0 at 21; whole 1 at 42; whole -1 at 64; short 0",
+    ),
+    (
+        b"1000000000000.4 -1000000000000.4 1000000000000.5 ",
+        "whole 1000000000000 at 16; whole -1000000000000 at 33; malformed OutOfRange 33",
+    ),
+    (
+        b"3.5 4.5 -3.5 ",
+        "whole 4 at 4; whole 5 at 8; whole -4 at 13; short 0",
+    ),
+];
 
 // The same with six decimals.
 const REALS_OF_SIX_DECIMALS: [(&[u8], &str); 2] = [
@@ -170,7 +283,7 @@ const REALS_IN_RANGE: [(&[u8], &str); 2] = [
 ];
 
 // Blanks, comments and ends, for one truth.
-const WORDS: [(&[u8], &str); 26] = [
+const WORDS: [(&[u8], &str); 48] = [
     (b"  t\t\r\nf\r\n", "whole t at 4; whole f at 8; short 1"),
     (b"t", "whole t at 1; short 0"),
     (b"t", "needs"),
@@ -197,10 +310,32 @@ const WORDS: [(&[u8], &str); 26] = [
     (b"\x00 ", "malformed NotAValue 0"),
     (b"t\x0bf ", "malformed NotAValue 0"),
     (b"\xff ", "malformed NotAValue 0"),
+    (b"--", "short 2"),
+    (b"#", "short 1"),
+    (b"-", "malformed NotAValue 0"),
+    (b"--\nt ", "whole t at 5; short 0"),
+    (b"#\nt ", "whole t at 4; short 0"),
+    (b"#OUTS t\nf ", "whole f at 10; short 0"),
+    (b"#outs# t\nf ", "whole f at 11; short 0"),
+    (b"# #outs t\nf ", "whole f at 12; short 0"),
+    (b"#outs#outs t\nf ", "whole f at 15; short 0"),
+    (b"#outsx", "short 6"),
+    (b"#outs\n#outs\tt\n", "whole t at 14; short 0"),
+    (b"t#outs ", "malformed NotAValue 0"),
+    (b"t\x0cf ", "malformed NotAValue 0"),
+    (b"#outs-- t\nf ", "whole f at 12; short 0"),
+    (b"--#\nt ", "whole t at 6; short 0"),
+    (b"-- -- t\nf ", "whole f at 10; short 0"),
+    (b"#x\r t\n f", "whole f at 8; short 0"),
+    (b"#o t\nf ", "whole f at 7; short 0"),
+    (b"f#", "malformed NotAValue 0"),
+    (b"#outs t", "needs"),
+    (b"-", "needs"),
+    (b"#ou", "needs"),
 ];
 
 // Two ints, of which the second is kept.
-const STEPS: [(&[u8], &str); 6] = [
+const STEPS: [(&[u8], &str); 11] = [
     (
         b"#step 1\n1 #outs 5\n#step 2\n1 #outs 6\n#step 3\n1 #o",
         "whole 5 at 18; whole 6 at 36; short 12",
@@ -210,32 +345,213 @@ const STEPS: [(&[u8], &str); 6] = [
     (b"1 -- 2\n3\n", "whole 3 at 9; short 0"),
     (b"1 x", "needs"),
     (b"1 x", "malformed NotAValue 2"),
+    (b"1 #outs", "short 7"),
+    (b"1 #o\n2 ", "whole 2 at 7; short 0"),
+    (b"1 #outs#\n2 ", "whole 2 at 11; short 0"),
+    (b"1000000000001 1 ", "malformed OutOfRange 0"),
+    (
+        b"1 #outs 2 #locs ? 7\n3 4 ",
+        "whole 2 at 10; whole 4 at 24; short 0",
+    ),
 ];
 
 // A truth, a real, a real that is not kept, and an int, with one decimal.
 const MIXED: [(&[u8], &str); 1] = [(b"t 1.25\n#outs -.05 4", "whole t 13 4 at 19; short 0")];
 
-// Spaces before a text, for one truth.
-const LONG: [(usize, &[u8], &str); 12] = [
-    (65535, b"x", "malformed TooLong 0"),
-    (65535, b"t ", "malformed TooLong 0"),
-    (65534, b"x ", "malformed NotAValue 65534"),
-    (65534, b"t ", "whole t at 65536; short 0"),
-    (65534, b"x", "malformed NotAValue 65534"),
-    (65534, b"x", "needs"),
-    (65534, b"t", "whole t at 65535; short 0"),
-    (65535, b"", "short 65535"),
-    (65535, b"", "needs"),
-    (65536, b"", "malformed TooLong 0"),
-    (70000, b"t ", "malformed TooLong 0"),
-    (1, b"t   ", "whole t at 3; short 2"),
+// Streams as a controller writes them and traces that are played again: slots, decimals, and what is found.
+const STREAMS: [(&[Slot], u32, &[u8], &str); 25] = [
+    (
+        &[NINES],
+        2,
+        b"-0\r\n\n-- #outs\n\r-3  ",
+        "whole 0 at 3; whole -3 at 18; short 1",
+    ),
+    (
+        &[INT, BOOL],
+        2,
+        b"0\ttrue\r\n\t9\t0  +7    #xtrue ",
+        "whole 0 t at 7; whole 9 f at 13; short 14",
+    ),
+    (
+        &[INT],
+        1,
+        b"  -0  \n 5\r\n+7\r \n -9\r\n ++1 \n ",
+        "whole 0 at 5; whole 5 at 10; whole 7 at 14; whole -9 at 20; malformed NotAValue 22",
+    ),
+    (
+        &[BOOL],
+        2,
+        b"t  \nt    -- c\n\nf \n \ntrue\r\n\n#outsx\nf  ",
+        "whole t at 2; whole t at 6; whole f at 17; whole t at 25; whole f at 36; short 1",
+    ),
+    (
+        &[SKIPPED_BOOL, BOOL],
+        0,
+        b"true \t#outsx\n\ttrue ",
+        "whole t at 19; short 0",
+    ),
+    (
+        &[SKIPPED_INT, SKIPPED_REAL],
+        2,
+        b"0  \n--x  1e-999\r\n",
+        "short 17",
+    ),
+    (&[SKIPPED_INT, NINES], 2, b"0000000000000000", "short 16"),
+    (
+        &[SKIPPED_BOOL, SKIPPED_INT, BOOL, INT],
+        6,
+        b"\n0 \r#o\n-0  \n #outsx\n\r\nF\t007 \n true\r\n --\n\r\n-0\tf \n-0\n",
+        "whole f 7 at 28; whole f 0 at 51; short 0",
+    ),
+    (
+        &[SKIPPED_BOOL],
+        2,
+        b"true \n 0\n \n .5\tT  tru",
+        "whole at 5; whole at 9; malformed NotAValue 12",
+    ),
+    (
+        &[TWENTIES],
+        1,
+        b".5\r .5 \t#outs \n .5\r # x 1\n0e999\n .5  ",
+        "whole 5 at 3; whole 5 at 7; whole 5 at 19; whole 0 at 32; whole 5 at 36; short 1",
+    ),
+    (
+        &[NINES],
+        2,
+        b" \n # outs\n-3\r\n\n--\n\r-3 \r-1000000000001 ",
+        "whole -3 at 13; whole -3 at 22; malformed OutOfRange 23",
+    ),
+    (
+        &[SKIPPED_REAL, BOOL, BOOL, BOOL],
+        6,
+        b"-1.5e-1\r\nf\r  #outs   0\rf \n .5\r\nt\t\tt\r\n1\n0",
+        "whole f f f at 25; whole t t t at 39; short 1",
+    ),
+    (
+        &[BOOL],
+        2,
+        b"\n#outs\n\r\nt\r\nt\tt\r\nf \n T",
+        "whole t at 11; whole t at 14; whole t at 16; whole f at 19; whole t at 22; short 0",
+    ),
+    (
+        &[SKIPPED_INT, INT, BOOL, FIVE],
+        0,
+        b"  007  -3  \r\nf\r\n\t-- #outs\n000000000000000005 \n   0\r5\n  T\r\n9\r\n",
+        "whole -3 f 5 at 45; malformed OutOfRange 58",
+    ),
+    (
+        &[REAL],
+        2,
+        b" +.25\t\t0  \n0.005 \n ",
+        "whole 25 at 6; whole 0 at 9; whole 1 at 17; short 2",
+    ),
+    (
+        &[SKIPPED_INT, SKIPPED_BOOL],
+        2,
+        b"\n# x 1\n-0 T\n 9\rF\n-0\r\n\ntrue \n ",
+        "whole at 12; whole at 17; whole at 27; short 2",
+    ),
+    (
+        &[INT, NINES, REAL],
+        2,
+        b"000000000000000005\t\r+7 \t1.5 \r\n--x-9\r\n\r#outs# \n \n 9\t\r# outs\n1e-3\t",
+        "whole 5 7 150 at 28; malformed NotAValue 59",
+    ),
+    (
+        &[REAL, BOOL],
+        2,
+        b"0.0049999 \n \tf\r\r#step 1\n0x1p3\t0\r",
+        "whole 0 f at 15; malformed NotAValue 24",
+    ),
+    (
+        &[BOOL, TWENTIES, TWENTIES],
+        1,
+        b"1 \n -1.5e-1\r\n\n000.500\nF  \n --5\n000.500\t 0\r\n",
+        "whole t -2 5 at 22; whole f 5 0 at 42; short 1",
+    ),
+    (
+        &[SKIPPED_REAL, REAL],
+        2,
+        b"1e-999\r\t9\n1e-999\r\r\n#outs# \n+.25 ",
+        "whole 900 at 10; whole 25 at 32; short 0",
+    ),
+    (
+        &[REAL],
+        1,
+        b"0.0049999\r  #OUTS\n\t1e1 1e-999  +-1 \n 0.0049999  ",
+        "whole 0 at 10; whole 100 at 23; whole 0 at 30; malformed NotAValue 31",
+    ),
+    (
+        &[SKIPPED_BOOL, INT],
+        1,
+        b"\r--5\nf\r\n0 \n  \n 1\r\n \n -9  false\n-9  t\r  -0\nfa",
+        "whole 0 at 10; whole -9 at 24; whole -9 at 34; whole 0 at 42; malformed NotAValue 42",
+    ),
+    (
+        &[SKIPPED_BOOL, SKIPPED_REAL, BOOL],
+        6,
+        b"\t-- c\n  t \n1E+0\r\r\nfalse\n\r\nfalse\n2.5e000\r\rF \n 0\n 0.005   \n #outs  T\t",
+        "whole f at 24; whole f at 43; whole t at 67; short 0",
+    ),
+    (
+        &[SKIPPED_INT, FIVE],
+        2,
+        b"007   --x000000000000000005  ",
+        "short 29",
+    ),
+    (
+        &[SKIPPED_REAL, BOOL, INT, NINES],
+        2,
+        b"0.005\r\n  #o\nF \n   # outs\n\n-9  5\r",
+        "whole f -9 5 at 32; short 0",
+    ),
+];
+
+// So many spaces between two texts, for one truth.
+const LONG: [(&[u8], usize, &[u8], &str); 26] = [
+    (b"", 65535, b"x", "malformed TooLong 0"),
+    (b"", 65535, b"t ", "malformed TooLong 0"),
+    (b"", 65534, b"x ", "malformed NotAValue 65534"),
+    (b"", 65534, b"t ", "whole t at 65536; short 0"),
+    (b"", 65534, b"x", "malformed NotAValue 65534"),
+    (b"", 65534, b"x", "needs"),
+    (b"", 65534, b"t", "whole t at 65535; short 0"),
+    (b"", 65535, b"", "short 65535"),
+    (b"", 65535, b"", "needs"),
+    (b"", 65536, b"", "malformed TooLong 0"),
+    (b"", 70000, b"t ", "malformed TooLong 0"),
+    (b"", 1, b"t   ", "whole t at 3; short 2"),
+    (b"", 65531, b"#x\nt ", "whole t at 65536; short 0"),
+    (b"", 65532, b"#x\nt ", "malformed TooLong 0"),
+    (b"", 65528, b"#outs t ", "whole t at 65536; short 0"),
+    (b"", 65529, b"#outs t ", "malformed TooLong 0"),
+    (b"", 65530, b"#outs", "short 65535"),
+    (b"", 65531, b"#outs", "malformed TooLong 0"),
+    (b"# ", 65531, b"\nt ", "whole t at 65536; short 0"),
+    (b"# ", 65532, b"\nt ", "malformed TooLong 0"),
+    (b"-- ", 65532, b"t", "malformed TooLong 0"),
+    (
+        b"t ",
+        65534,
+        b"f ",
+        "whole t at 2; whole f at 65538; short 0",
+    ),
+    (
+        b"t ",
+        65534,
+        b"x ",
+        "whole t at 2; malformed NotAValue 65536",
+    ),
+    (b"t ", 65535, b"f ", "whole t at 2; malformed TooLong 2"),
+    (b"t ", 65535, b"x", "whole t at 2; malformed TooLong 2"),
+    (b"t ", 65536, b"", "whole t at 2; malformed TooLong 2"),
 ];
 
 // The same for two truths.
-const LONG_PAIRS: [(usize, &[u8], &str); 3] = [
-    (65530, b"t   t ", "whole t t at 65536; short 0"),
-    (65531, b"t   t ", "malformed TooLong 0"),
-    (65531, b"t  ft ", "malformed TooLong 0"),
+const LONG_PAIRS: [(&[u8], usize, &[u8], &str); 3] = [
+    (b"", 65530, b"t   t ", "whole t t at 65536; short 0"),
+    (b"", 65531, b"t   t ", "malformed TooLong 0"),
+    (b"", 65531, b"t  ft ", "malformed TooLong 0"),
 ];
 
 // What was found so far, as text.
@@ -278,13 +594,15 @@ impl Findings {
     }
 }
 
-// Feeds a stream in pieces of so many bytes, and ends it if it is closed.
+// Feeds a stream in pieces, the first of which has so many bytes and each later one so many, and ends it if it is
+// closed. What a whole reply leaves of its piece is fed again.
 fn found_in(
     alloc: Global,
     slots: &[Slot],
     decimals: u32,
     stream: &[u8],
     is_closed: bool,
+    first_length: usize,
     piece_length: usize,
 ) -> Result<String, Fail>
     requires decimals { decimals ≤ most_decimals }
@@ -296,17 +614,16 @@ fn found_in(
     };
     let mut reader = Reader::make(alloc, slots.to_vec(alloc)?, decimals)?;
     let mut place = 0;
+    let mut end = first_length.min(stream.len());
     'pieces: for _ in 0..100_000 {
-        if place >= stream.len() {
-            break;
-        }
-        let end = if piece_length < stream.len() - place {
-            place + piece_length
-        } else {
-            stream.len()
-        };
         match reader.feed(&stream[place..end]) {
-            Fed::More => place = end,
+            Fed::More => {
+                place = end;
+                end = place + piece_length.min(stream.len() - place);
+                if end == place {
+                    break;
+                }
+            }
             Fed::Whole(count) => {
                 place += count;
                 findings.add_whole(reader.values(), place)?;
@@ -337,57 +654,79 @@ fn found_in(
     Ok(findings.text)
 }
 
-// Sees what is found behind so many spaces, in pieces of each length. A stream that needs more is open.
+// The lengths of pieces of which a stream is made.
+const LENGTHS: [usize; 10] = [1, 2, 3, 4, 5, 7, 11, 4096, 65_535, 100_000];
+
+// Sees what is found in a stream, in pieces of each length; and in two pieces, cut at each place of it, where it is no
+// long one. A stream that needs more is open.
 fn check(
     rt: &impl Abort,
     alloc: Global,
     slots: &[Slot],
     decimals: u32,
-    blanks: usize,
-    text: &[u8],
+    stream: &[u8],
     wanted: &str,
 ) -> Result<(), Fail>
     requires { decimals ≤ most_decimals }
 {
-    let mut stream = Vec::new(alloc);
-    stream.resize(blanks, b' ')?;
-    stream.extend_from_slice(text)?;
     // What `found_in` asks of a stream.
     assert!(rt; stream.len() <= 1_000_000);
     let is_closed = !wanted.ends_with("needs");
-    for length in [1, 2, 3, 4, 5, 7, 11, 4096, 65_535, 100_000] {
-        let found = found_in(alloc, slots, decimals, &stream, is_closed, length)?;
+    for length in LENGTHS {
+        let found = found_in(alloc, slots, decimals, stream, is_closed, length, length)?;
         assert_eq!(rt; found.as_str(), wanted, "in pieces of {length}");
     }
+    for cut in 0..stream.len().min(100) {
+        let found = found_in(alloc, slots, decimals, stream, is_closed, cut, stream.len())?;
+        assert_eq!(rt; found.as_str(), wanted, "cut at {cut}");
+    }
     Ok(())
+}
+
+// The same of two texts with so many spaces between them.
+fn check_long(
+    rt: &impl Abort,
+    alloc: Global,
+    slots: &[Slot],
+    before: &[u8],
+    spaces: usize,
+    behind: &[u8],
+    wanted: &str,
+) -> Result<(), Fail> {
+    let mut stream = Vec::from_slice(alloc, before)?;
+    for _ in 0..spaces {
+        stream.push(b' ')?;
+    }
+    stream.extend_from_slice(behind)?;
+    check(rt, alloc, slots, 0, &stream, wanted)
 }
 
 #[test]
 fn words_write_truths_and_numbers(rt: HostRuntime) -> Result<(), Fail> {
     let alloc = rt.alloc();
     for (text, wanted) in TRUTHS {
-        check(&rt, alloc, &[BOOL], 0, 0, text, wanted)?;
+        check(&rt, alloc, &[BOOL], 0, text, wanted)?;
     }
     for (text, wanted) in TRUTHS_IN_RANGE {
-        check(&rt, alloc, &[up_to(Kind::Bool, 0)], 0, 0, text, wanted)?;
+        check(&rt, alloc, &[up_to(Kind::Bool, 0)], 0, text, wanted)?;
     }
     for (text, wanted) in INTS {
-        check(&rt, alloc, &[INT], 2, 0, text, wanted)?;
+        check(&rt, alloc, &[INT], 2, text, wanted)?;
     }
     for (text, wanted) in DIGITS {
-        check(&rt, alloc, &[up_to(Kind::Int, 9)], 2, 0, text, wanted)?;
+        check(&rt, alloc, &[up_to(Kind::Int, 9)], 2, text, wanted)?;
     }
     for (text, wanted) in REALS {
-        check(&rt, alloc, &[REAL], 2, 0, text, wanted)?;
+        check(&rt, alloc, &[REAL], 2, text, wanted)?;
     }
     for (text, wanted) in REALS_WITHOUT_DECIMALS {
-        check(&rt, alloc, &[REAL], 0, 0, text, wanted)?;
+        check(&rt, alloc, &[REAL], 0, text, wanted)?;
     }
     for (text, wanted) in REALS_OF_SIX_DECIMALS {
-        check(&rt, alloc, &[REAL], 6, 0, text, wanted)?;
+        check(&rt, alloc, &[REAL], 6, text, wanted)?;
     }
     for (text, wanted) in REALS_IN_RANGE {
-        check(&rt, alloc, &[up_to(Kind::Real, 100)], 2, 0, text, wanted)?;
+        check(&rt, alloc, &[up_to(Kind::Real, 100)], 2, text, wanted)?;
     }
     Ok(())
 }
@@ -396,10 +735,10 @@ fn words_write_truths_and_numbers(rt: HostRuntime) -> Result<(), Fail> {
 fn comments_and_blanks_stand_between_words(rt: HostRuntime) -> Result<(), Fail> {
     let alloc = rt.alloc();
     for (text, wanted) in WORDS {
-        check(&rt, alloc, &[BOOL], 0, 0, text, wanted)?;
+        check(&rt, alloc, &[BOOL], 0, text, wanted)?;
     }
     for (text, wanted) in STEPS {
-        check(&rt, alloc, &[SKIPPED_INT, INT], 2, 0, text, wanted)?;
+        check(&rt, alloc, &[SKIPPED_INT, INT], 2, text, wanted)?;
     }
     for (text, wanted) in MIXED {
         check(
@@ -407,21 +746,36 @@ fn comments_and_blanks_stand_between_words(rt: HostRuntime) -> Result<(), Fail> 
             alloc,
             &[BOOL, REAL, SKIPPED_REAL, INT],
             1,
-            0,
             text,
             wanted,
         )?;
+    }
+    for (slots, decimals, text, wanted) in STREAMS {
+        // What a reader asks of its decimals.
+        assert!(rt; decimals <= 6);
+        check(&rt, alloc, slots, decimals, text, wanted)?;
     }
     Ok(())
 }
 
 #[test]
 fn a_reply_takes_so_many_bytes(rt: HostRuntime) -> Result<(), Fail> {
-    for (blanks, text, wanted) in LONG {
-        check(&rt, rt.alloc(), &[BOOL], 0, blanks, text, wanted)?;
+    let alloc = rt.alloc();
+    for (before, spaces, behind, wanted) in LONG {
+        check_long(&rt, alloc, &[BOOL], before, spaces, behind, wanted)?;
     }
-    for (blanks, text, wanted) in LONG_PAIRS {
-        check(&rt, rt.alloc(), &[BOOL, BOOL], 0, blanks, text, wanted)?;
+    for (before, spaces, behind, wanted) in LONG_PAIRS {
+        check_long(&rt, alloc, &[BOOL, BOOL], before, spaces, behind, wanted)?;
     }
+    Ok(())
+}
+
+#[test]
+fn a_reply_of_no_slots_is_whole_at_once(rt: HostRuntime) -> Result<(), Fail> {
+    let alloc = rt.alloc();
+    let mut open = Reader::make(alloc, Vec::new(alloc), 2)?;
+    assert!(rt; matches!(open.feed(b"x"), Fed::Whole(0)));
+    let mut ended = Reader::make(alloc, Vec::new(alloc), 2)?;
+    assert!(rt; matches!(ended.finish(), Closing::Whole));
     Ok(())
 }

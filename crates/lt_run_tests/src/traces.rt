@@ -119,8 +119,7 @@ fn step_and_end(
     end: End,
     names: &[String],
 ) -> Result<Vec<u8>, Fail>
-    requires kinds { length x.now + length y.now ≤ length kinds.now }
-    requires few { length x.now + length y.now + length (unwrap_or (option_copied locals) []) ≤ 100 }
+    requires few { length kinds.now ≤ 100 }
     requires x_sized { AreSized x.now }
     requires y_sized { AreSized y.now }
     requires locals_sized { AreLocalsSized (unwrap_or (option_copied locals) []) }

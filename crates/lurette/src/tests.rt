@@ -1,9 +1,7 @@
 //! Whole calls over files and sinks in memory, which have ample memory: no clause can promise that.
 
-use lt_call::{Status, lurette, write_header, write_step};
+use lt_call::{Status, lurette};
 use lt_io::{Calls, MemFiles, MemSink};
-use lt_num::{Kind, Range, Value};
-use lt_term::Var;
 use std::alloc::{AllocError, Global};
 use std::process::Abort;
 use std::test::Fail;
@@ -530,36 +528,5 @@ fn a_write_that_fails_cuts_the_printed_program(rt: HostRuntime) -> Result<(), Fa
             check(&rt, &call, 9, &printed[..room], "lurette: device trace 0\n");
         }
     }
-    Ok(())
-}
-
-// No program that runs has numbers yet.
-#[test]
-fn values_are_written_by_kind(rt: HostRuntime) -> Result<(), Fail> {
-    let alloc = rt.alloc();
-    let mut outputs = Vec::new(alloc);
-    for (name, kind) in [("i", Kind::Int), ("x", Kind::Real)] {
-        outputs.push(Var {
-            name: String::from_str(alloc, name)?,
-            kind,
-            range: Range {
-                low: -150,
-                high: 150,
-            },
-        })?;
-    }
-    let mut text = Vec::new(alloc);
-    write_header(&mut text, 7, &outputs, &[])?;
-    write_step(
-        &mut text,
-        2,
-        &outputs,
-        3,
-        &[Value::Num(-12), Value::Num(-5)],
-    )?;
-    assert_eq!(rt;
-        text.as_slice(),
-        b"#seed 7\n#inputs \"i\":int \"x\":real\n#outputs\n#step 3\n-12 -0.05 #outs\n".as_slice()
-    );
     Ok(())
 }

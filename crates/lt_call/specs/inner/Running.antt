@@ -2,14 +2,14 @@
 use Rattle.std.specs.Prelude.{◌≡◌, ℕ, suc, ◌+◌, List, ◌∷◌, take, drop}
 use Rattle.std.specs.Io.KnownBytes.{Appends, Keeps}
 use Rattle.std.specs.declared.option.Option.{Option}
+use Rattle.lt_rif.specs.Trace.{end_text}
+use Rattle.lt_rif.specs.declared.end.End.TheVariants as end
 use Rattle.lt_term.specs.Scene.{Scene}
 use Rattle.lt_step.specs.Machine.{Phase, running, finished, State, outputs_in}
 use Rattle.lt_call.specs.Pieces.{trace_texts, joined}
 use Rattle.lt_call.specs.Play.{Play, ended, with_text, instant_text, play_from}
-use Rattle.lt_call.specs.TraceText.{end_text}
 use Rattle.lt_call.specs.Writing.{AppendsPart}
-use Rattle.lt_call.specs.declared.ending.End.TheVariants as end
-use Rattle.lt_call.specs.declared.ending.Ending.{Ending}
+use Rattle.lt_call.specs.declared.status.Ending.{Ending}
 use Rattle.lt_call.specs.declared.status.Status.{Status}
 use Rattle.lt_call.specs.declared.status.Status.TheVariants as status
 use Rattle.lt_call.specs.declared.status.Device.TheVariants as device
@@ -17,7 +17,7 @@ use Rattle.lt_call.specs.declared.status.Device.TheVariants as device
 -- what a machine that is running has still to put out, in at most so many steps
 abbrev pub rest_in : Scene → ℕ → Phase → Play
 rest_in s left (running c) = play_from s left c
-rest_in s left finished = ended end.Normal 0
+rest_in s left finished = ended s end.Normal 0
 
 -- the same of a machine
 abbrev pub rest_of : State → ℕ → Play
@@ -35,9 +35,9 @@ pub record WritesStep (step : ℕ) (old new : State) (before now : Option (List 
   pub rest : (left : ℕ) → rest_of old (suc left) ≡ with_text (instant_text new.scene step (outputs_in new.phase)) (rest_of new left)
   pub written : Appends before now (instant_text new.scene step (outputs_in new.phase))
 
--- nothing but this end is to come, and it was written
-abbrev pub WritesEnd : Ending → Play → Option (List ℕ) → Option (List ℕ) → Type 0
-WritesEnd ending rest before now = (rest ≡ ended ending.end ending.at) × Appends before now (end_text ending.end ending.at)
+-- nothing but this end of a run of the scene is to come, and it was written
+abbrev pub WritesEnd : Scene → Ending → Play → Option (List ℕ) → Option (List ℕ) → Type 0
+WritesEnd s ending rest before now = (rest ≡ ended s ending.end ending.at) × Appends before now (end_text ending.end s.exceptions ending.at)
 
 -- the text of this number was not written whole: a write failed in it, or memory ran out before it
 pub data FailsIn (number : ℕ) (text : List ℕ) (before now : Option (List ℕ)) : Status → Type 0 where

@@ -1,8 +1,8 @@
 use Rattle.std.proofs.Common.{◌≡◌, ◌-◌, suc, Err, rules}
+use Rattle.lt_rif.specs.declared.end.End.TheVariants.{Normal, Deadlock}
 use Rattle.lt_step.specs.Machine.{outputs_in}
 use Rattle.lt_step.specs.View.{machine_state}
 use Rattle.lt_call.specs.Play.{instant_text}
-use Rattle.lt_call.specs.declared.ending.End.TheVariants.{Normal, Deadlock}
 use Rattle.lt_call.specs.inner.Running.{rest_of}
 use Rattle.lt_call.proofs.Runs.{IfErr-at, kept_same, fails_first, no_instant, rest_normal, rest_deadlock, rest_values, writes_end}
 use Rattle.lt_call.proofs.run.advance.Goals as goal
@@ -21,14 +21,14 @@ pub returns-in_ok-finish-in-Normal-clause-goes : goal.returns-in_ok-finish-in-No
 returns-in_ok-finish-in-Normal-clause-goes g c = λ left.
     let old = machine_state c.args.machine.now in
     let done = c.in_ok-finish-in-Normal in
-    writes_end Normal (c.args.step - 1) done.field-0 (rest_of old (suc left)) _ _ done.ensures.ends
+    writes_end old.scene Normal (c.args.step - 1) done.field-0 (rest_of old (suc left)) _ _ done.ensures.ends
     (rest_normal old (machine_state c.step.new.self) c.args.step c.requires.at (c.in-Normal.ensures.steps (λ e. cc)) left) done.ensures.all
 
 pub returns-in_ok-finish-in-Deadlock-clause-goes : goal.returns-in_ok-finish-in-Deadlock-clause-goes
 returns-in_ok-finish-in-Deadlock-clause-goes g c = λ left.
     let old = machine_state c.args.machine.now in
     let done = c.in_ok-finish-in-Deadlock in
-    writes_end Deadlock c.args.step done.field-0 (rest_of old (suc left)) _ _ done.ensures.ends
+    writes_end old.scene Deadlock c.args.step done.field-0 (rest_of old (suc left)) _ _ done.ensures.ends
     (rest_deadlock old (machine_state c.step.new.self) c.args.step c.requires.at (c.in-Deadlock.ensures.steps (λ e. cc)) left) done.ensures.all
 
 pub returns-in-Memory-clause-fails : goal.returns-in-Memory-clause-fails

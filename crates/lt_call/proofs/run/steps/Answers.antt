@@ -1,42 +1,27 @@
-use Rattle.std.proofs.Common.{◌≡◌, ◌+◌, ◌-◌, ℕ, ◌++◌, Err, ap, map, suc, arith, subst, ◌∙◌, refl, rules}
+use Rattle.std.proofs.Common.{◌≡◌, ◌+◌, ◌-◌, ℕ, Err, suc, arith, subst, ◌∙◌, refl, rules}
+use Rattle.lt_rif.specs.declared.end.End.TheVariants.{Limit}
 use Rattle.lt_step.specs.Machine.{outputs_in}
 use Rattle.lt_step.specs.View.{machine_state}
 use Rattle.lt_term.specs.Scene.{first_configuration}
-use Rattle.lt_term.specs.SceneView.{variable}
-use Rattle.lt_call.specs.Cut.{by_memory}
-use Rattle.lt_call.specs.Play.{instant_text, play_from, play_of}
+use Rattle.lt_call.specs.Play.{header_of, instant_text, play_from, play_of}
 use Rattle.lt_call.specs.Settings.{default_seed}
-use Rattle.lt_call.specs.TraceText.{header_text}
-use Rattle.lt_call.specs.declared.ending.End.TheVariants.{Limit}
-use Rattle.lt_call.specs.declared.status.Status.TheVariants.{Memory}
 use Rattle.lt_call.specs.inner.Running.{rest_of, IsAt, Follows}
-use Rattle.lt_call.proofs.Texts.{matched_none, matched_some}
-use Rattle.lt_call.proofs.Runs.{IfErr-at, kept_same, text_fails, fails_first, untouched, cut_first, ends_whole, follows_more, last_all, last_cut, no_file_first, no_file_of, rest_limit}
+use Rattle.lt_call.proofs.Texts.{matched_none, matched_some, none_is}
+use Rattle.lt_call.proofs.Runs.{IfErr-at, fails_first, untouched, cut_first, ends_whole, follows_more, last_all, last_cut, no_file_first, no_file_in, no_file_of, rest_limit}
 use Rattle.lt_call.proofs.run.steps.Goals as goal
 
-pub returns-in_err-write_header-clause-cut : goal.returns-in_err-write_header-clause-cut
-returns-in_err-write_header-clause-cut g c =
-    let is : c.from_residual.result ≡ Err Memory = search rules in
-    IfErr-at c.from_residual.result Memory _ is (by_memory (kept_same _))
-
-pub returns-in_err-put_text-clause-cut : goal.returns-in_err-put_text-clause-cut
-returns-in_err-put_text-clause-cut g c =
+pub returns-in_err-writer-clause-cut : goal.returns-in_err-writer-clause-cut
+returns-in_err-writer-clause-cut g c =
     let scene = (machine_state c.args.machine.now).scene in
     let whole = play_of scene (record { seed = default_seed; limit = c.args.limit }) in
     let before = g.S.Sink.written c.args.trace.now in
-    let now = g.S.Sink.written c.put_text.new.trace in
-    let header = header_text default_seed scene.outputs scene.inputs in
-    let s = c.in_err-put_text.field-0.0 in
-    let is : c.from_residual-in_err-put_text.result ≡ Err s = search rules in
-    let text =
-    c.deref.ensures.value ∙ c.in_ok-write_header.ensures
-    ∙ ap (λ t. t ++ header_text default_seed (map variable c.output_vars.result.now) (map variable c.input_vars.result.now)) c.new-text.ensures.items
-    ∙ ap (λ vs. header_text default_seed vs (map variable c.input_vars.result.now)) c.output_vars.ensures
-    ∙ ap (λ vs. header_text default_seed scene.outputs vs) c.input_vars.ensures in
-    IfErr-at c.from_residual-in_err-put_text.result s _ is
+    let now = g.S.Sink.written c.begin.new.trace in
+    let header = header_of scene default_seed in
+    let s = c.in_err-writer.field-0.0 in
+    let is : c.from_residual.result ≡ Err s = search rules in
+    IfErr-at c.from_residual.result s _ is
     (cut_first 0 whole whole before before now s (untouched whole before)
-    (fails_first 0 header whole (play_from scene c.args.limit (first_configuration scene)) before now s refl
-    (text_fails 0 c.deref.result.now header before now s text c.in_err-put_text.ensures.blame c.in_err-put_text.ensures.front)))
+    (fails_first 0 header whole (play_from scene c.args.limit (first_configuration scene)) before now s refl c.in_err-writer.ensures.fails))
 
 pub returns-in_err-ending-clause-cut : goal.returns-in_err-ending-clause-cut
 returns-in_err-ending-clause-cut g c =
@@ -65,7 +50,7 @@ returns-in-Some-clause-ends g c =
     let one_more : c.args.limit - c.loop-steps.steps ≡ suc left = omega (arith, c.loop-steps-test.true) in
     let P : ℕ → Type 0 = λ n. Follows step whole (rest_of machine n) before now in
     let goes = matched_some c.in_ok-ending.field-0 c.in-Some.ending _ _ c.in-Some.is c.in_ok-ending.ensures.goes in
-    (ends_whole step whole (rest_of machine (suc left)) before now (g.S.Sink.written c.advance.new.trace) c.in-Some.ending (subst P one_more c.loop-steps.invariant.follows) (goes left)).0
+    (ends_whole step whole (rest_of machine (suc left)) before now (g.S.Sink.written c.advance.new.trace) (machine_state c.loop-steps.machine).scene c.in-Some.ending (subst P one_more c.loop-steps.invariant.follows) (goes left)).0
 
 pub returns-in-Some-clause-all : goal.returns-in-Some-clause-all
 returns-in-Some-clause-all g c =
@@ -78,7 +63,7 @@ returns-in-Some-clause-all g c =
     let one_more : c.args.limit - c.loop-steps.steps ≡ suc left = omega (arith, c.loop-steps-test.true) in
     let P : ℕ → Type 0 = λ n. Follows step whole (rest_of machine n) before now in
     let goes = matched_some c.in_ok-ending.field-0 c.in-Some.ending _ _ c.in-Some.is c.in_ok-ending.ensures.goes in
-    (ends_whole step whole (rest_of machine (suc left)) before now (g.S.Sink.written c.advance.new.trace) c.in-Some.ending (subst P one_more c.loop-steps.invariant.follows) (goes left)).1
+    (ends_whole step whole (rest_of machine (suc left)) before now (g.S.Sink.written c.advance.new.trace) (machine_state c.loop-steps.machine).scene c.in-Some.ending (subst P one_more c.loop-steps.invariant.follows) (goes left)).1
 
 -- an instant was written, and the run goes on
 pub loop-steps-preserved : goal.loop-steps-preserved
@@ -95,6 +80,7 @@ loop-steps-preserved g c =
     let more = matched_none c.in_ok-ending.field-0 _ _ c.in_default.not-Some c.in_ok-ending.ensures.goes in
     record {
       scene = more.scene ∙ c.loop-steps.invariant.scene;
+      writer = none_is c.in_ok-ending.field-0 _ c.in_default.not-Some c.in_ok-ending.ensures.writer;
       at = more.at;
       follows = follows_more step whole (rest_of old (suc left)) (rest_of new left) (instant_text new.scene step (outputs_in new.phase)) before now (g.S.Sink.written c.advance.new.trace) (subst P one_more c.loop-steps.invariant.follows) (more.rest left) more.written;
       calm = c.in_ok-ending.ensures.calm ∙ c.loop-steps.invariant.calm;
@@ -112,7 +98,7 @@ returns-clause-all g c =
     let P : ℕ → Type 0 = λ n. Follows (c.loop-steps.steps + 1) whole (rest_of machine n) before now in
     let Q : ℕ → Type 0 = λ n. Follows (n + 1) whole (rest_of machine 0) before now in
     let R : ℕ → Type 0 = λ n. IsAt (n + 1) machine.phase in
-    last_all c.finish.result (c.args.limit + 1) whole (rest_of machine 0) Limit c.args.limit before now (g.S.Sink.written c.finish.new.trace)
+    last_all c.finish.result (c.args.limit + 1) whole (rest_of machine 0) machine.scene Limit c.args.limit before now (g.S.Sink.written c.finish.new.trace)
     (subst Q all (subst P none c.loop-steps.invariant.follows)) (rest_limit machine c.args.limit (subst R all c.loop-steps.invariant.at)) c.finish.ensures.all
 
 pub returns-clause-cut : goal.returns-clause-cut
@@ -126,10 +112,16 @@ returns-clause-cut g c =
     let P : ℕ → Type 0 = λ n. Follows (c.loop-steps.steps + 1) whole (rest_of machine n) before now in
     let Q : ℕ → Type 0 = λ n. Follows (n + 1) whole (rest_of machine 0) before now in
     let R : ℕ → Type 0 = λ n. IsAt (n + 1) machine.phase in
-    last_cut c.finish.result (c.args.limit + 1) whole (rest_of machine 0) Limit c.args.limit before now (g.S.Sink.written c.finish.new.trace)
+    last_cut c.finish.result (c.args.limit + 1) whole (rest_of machine 0) machine.scene Limit c.args.limit before now (g.S.Sink.written c.finish.new.trace)
     (subst Q all (subst P none c.loop-steps.invariant.follows)) (rest_limit machine c.args.limit (subst R all c.loop-steps.invariant.at)) c.finish.ensures.fails
 
 -- it isn't the file that failed
+pub returns-in_err-writer-clause-no_file : goal.returns-in_err-writer-clause-no_file
+returns-in_err-writer-clause-no_file g c =
+    let s = c.in_err-writer.field-0.0 in
+    let is : c.from_residual.result ≡ Err s = search rules in
+    IfErr-at c.from_residual.result s _ is (no_file_in 0 (header_of (machine_state c.args.machine.now).scene default_seed) _ _ s c.in_err-writer.ensures.fails)
+
 pub returns-in_err-ending-clause-no_file : goal.returns-in_err-ending-clause-no_file
 returns-in_err-ending-clause-no_file g c =
     let s = c.in_err-ending.field-0.0 in

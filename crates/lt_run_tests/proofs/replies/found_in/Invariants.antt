@@ -2,9 +2,13 @@ use Rattle.std.proofs.Common.{◌≡◌, ◌≤◌, length}
 use Rattle.lt_rif.specs.Reading.{reading, given}
 use Rattle.lt_run_tests.proofs.replies.found_in.Given as goal
 
--- the reader was given all up to this place
+-- the reader was given all up to this place, and the piece goes on up to its end
 abbrev pub invariant-pieces : goal.invariant-pieces
-invariant-pieces l = (given (reading l.reader) ≡ l.place) × (l.place ≤ length l.stream)
+invariant-pieces l = record {
+  given : given (reading l.reader) ≡ l.place;
+  piece : l.place ≤ l.end;
+  stream : l.end ≤ length l.stream;
+}
 
 abbrev pub invariant-ends : goal.invariant-ends
 invariant-ends l = given (reading l.reader) ≤ 1_000_000
