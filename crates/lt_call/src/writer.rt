@@ -34,7 +34,7 @@ impl Writer {
     ///
     /// # Errors
     ///
-    /// Memory ran out, or names are longer than any room.
+    /// Memory ran out, or variables or the bytes of names are 2^32 or more, for which there is no room.
     pub fn make(alloc: Global, machine: &Machine) -> Result<Writer, AllocError>
         ensures is_for { IfOk result (IsFor (machine_state machine.now).scene) }
         ensures header { IfOk result (λ w. w.text.items ≡ header_of (machine_state machine.now).scene default_seed) }
@@ -54,6 +54,7 @@ impl Writer {
         ensures is { self.new.text.items ≡ instant_text (machine_state machine.now).scene step (outputs_in (machine_state machine.now).phase) }
         ensures is_for { IsFor (machine_state machine.now).scene self.new }
     {
+        // Laws that the proof needs: the room is enough for a step whose values have 64 bits, as these have.
         room_is_enough();
         let outputs = machine.outputs();
         values_are_sized(outputs);
@@ -76,6 +77,7 @@ impl Writer {
         requires sized { IsEndSized end }
         ensures { self.new.text.items ≡ end_text end (machine_state machine.now).scene.exceptions number }
     {
+        // A law that the proof needs: the room is enough for an end line.
         room_is_enough();
         self.text.clear();
         write_end(&mut self.text, end, machine.names(), number);
@@ -120,6 +122,7 @@ fn header(
     let Some(room) = room_of(outputs, inputs, exceptions) else {
         return Err(AllocError);
     };
+    // A law that the proof needs: the room is enough for a header.
     room_is_enough();
     let mut text = Vec::with_capacity(alloc, room)?;
     write_header(&mut text, DEFAULT_SEED, outputs, inputs, None);
