@@ -146,7 +146,6 @@ impl BinOp {
 
 /// An expression.
 #[cycle(ast)]
-#[derive(Debug)]
 pub enum Expr {
     /// A number.
     Number(Literal),
@@ -215,7 +214,7 @@ impl Drop for Expr {
 
 /// Arguments, in order.
 #[cycle(ast)]
-#[derive(Debug, Drop)]
+#[derive(Drop)]
 pub struct Args {
     /// The arguments.
     pub items: Vec<Arg>,
@@ -223,7 +222,7 @@ pub struct Args {
 
 /// An argument.
 #[cycle(ast)]
-#[derive(Debug, Drop)]
+#[derive(Drop)]
 pub enum Arg {
     /// An expression.
     Value(Expr),

@@ -39,7 +39,7 @@ impl TypeName {
 }
 
 /// A range.
-#[derive(Debug, Drop)]
+#[derive(Drop)]
 pub struct Range {
     /// Its low end.
     pub low: Literal,
@@ -50,7 +50,7 @@ pub struct Range {
 
 /// Names of one type.
 #[cycle(ast)]
-#[derive(Debug, Drop)]
+#[derive(Drop)]
 pub struct Group {
     /// The names.
     pub names: Names,
@@ -70,7 +70,7 @@ pub struct Group {
 
 /// Groups, in order.
 #[cycle(ast)]
-#[derive(Debug, Drop)]
+#[derive(Drop)]
 pub struct Groups {
     /// The groups.
     pub items: Vec<Group>,

@@ -8,7 +8,7 @@ use crate::span::Span;
 use std::alloc::{AllocError, Global};
 
 /// A name where it is written.
-#[derive(Debug, Drop)]
+#[derive(Drop)]
 pub struct Name {
     /// Its letters, digits and `_`.
     pub text: String,
@@ -18,14 +18,14 @@ pub struct Name {
 }
 
 /// Names, in order.
-#[derive(Debug, Drop)]
+#[derive(Drop)]
 pub struct Names {
     /// The names.
     pub items: Vec<Name>,
 }
 
 /// A number where it is written.
-#[derive(Debug, Drop)]
+#[derive(Drop)]
 pub struct Literal {
     /// Whether a minus stands before it. Only the ends of a range have one.
     pub minus: bool,

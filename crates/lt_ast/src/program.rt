@@ -5,14 +5,14 @@ use crate::name::{Name, Names};
 use crate::trace::{MacroDecl, TraceExpr};
 
 /// The declarations of a text, in order.
-#[derive(Debug, Drop)]
+#[derive(Drop)]
 pub struct Program {
     /// The declarations.
     pub decls: Vec<Decl>,
 }
 
 /// A declaration.
-#[derive(Debug, Drop)]
+#[derive(Drop)]
 pub enum Decl {
     /// A node.
     Node(NodeDecl),
@@ -25,7 +25,7 @@ pub enum Decl {
 }
 
 /// A node.
-#[derive(Debug, Drop)]
+#[derive(Drop)]
 pub struct NodeDecl {
     /// Its name.
     pub name: Name,

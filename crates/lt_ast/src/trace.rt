@@ -7,7 +7,7 @@ use crate::span::Span;
 
 /// How often a loop turns.
 #[cycle(ast)]
-#[derive(Debug, Drop)]
+#[derive(Drop)]
 pub enum Bounds {
     /// `loop` alone.
     Forever,
@@ -21,7 +21,7 @@ pub enum Bounds {
 
 /// What stands in braces. `lead` says whether a sign stands before the first part.
 #[cycle(ast)]
-#[derive(Debug, Drop)]
+#[derive(Drop)]
 pub enum Braced {
     /// One trace and no sign.
     Plain(Box<TraceExpr>),
@@ -56,7 +56,7 @@ pub enum Braced {
 
 /// The alternatives of a choice, in order.
 #[cycle(ast)]
-#[derive(Debug, Drop)]
+#[derive(Drop)]
 pub struct Parts {
     /// The alternatives.
     pub items: Vec<Part>,
@@ -64,7 +64,7 @@ pub struct Parts {
 
 /// An alternative of a choice.
 #[cycle(ast)]
-#[derive(Debug, Drop)]
+#[derive(Drop)]
 pub struct Part {
     /// Its weight, if one is written.
     pub weight: Option<Expr>,
@@ -75,7 +75,7 @@ pub struct Part {
 
 /// Traces, in order.
 #[cycle(ast)]
-#[derive(Debug, Drop)]
+#[derive(Drop)]
 pub struct Traces {
     /// The traces.
     pub items: Vec<TraceExpr>,
@@ -83,7 +83,7 @@ pub struct Traces {
 
 /// A macro.
 #[cycle(ast)]
-#[derive(Debug, Drop)]
+#[derive(Drop)]
 pub struct MacroDecl {
     /// Its name.
     pub name: Name,
@@ -100,7 +100,7 @@ pub struct MacroDecl {
 
 /// What a macro stands for.
 #[cycle(ast)]
-#[derive(Debug, Drop)]
+#[derive(Drop)]
 pub enum Body {
     /// A trace.
     Trace(TraceExpr),
@@ -111,7 +111,7 @@ pub enum Body {
 
 /// A trace.
 #[cycle(ast)]
-#[derive(Debug, Drop)]
+#[derive(Drop)]
 pub enum TraceExpr {
     /// Two or more traces, one after another, by `fby`. None of them is of this kind.
     Seq(Traces),

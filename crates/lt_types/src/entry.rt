@@ -8,7 +8,7 @@ ghost use Rattle.lt_types.specs.inner.Scoping.{entry_view, role_view};
 use lt_ast::TypeName;
 
 // A parameter of a macro.
-#[derive(Clone, Copy, Debug, PartialEq, Eq)]
+#[derive(Clone, Copy)]
 pub(crate) struct Param {
     // The type of what it stands for.
     pub(crate) kind: TypeName,
@@ -18,7 +18,7 @@ pub(crate) struct Param {
 }
 
 // What a name stands for.
-#[derive(Debug, Drop)]
+#[derive(Drop)]
 pub(crate) enum Entry {
     // A variable, or a parameter by `ref`.
     Variable(TypeName),
@@ -31,7 +31,7 @@ pub(crate) enum Entry {
 }
 
 // What a list of groups declares.
-#[derive(Clone, Copy, Debug, PartialEq, Eq)]
+#[derive(Clone, Copy)]
 pub(crate) enum Role {
     // Variables of a node or a trace.
     Variables,

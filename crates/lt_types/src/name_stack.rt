@@ -14,14 +14,14 @@ use std::alloc::Global;
 use std::marker::Model;
 
 // A name, and the place of the newest older one that is the same.
-#[derive(Debug, Drop)]
+#[derive(Drop)]
 struct Item {
     name: String,
     hidden: Option<usize>,
 }
 
 // Names, the newest last. A name may stand in it more than once.
-#[derive(Debug, Drop)]
+#[derive(Drop)]
 pub(crate) struct NameStack {
     items: Vec<Item>,
 

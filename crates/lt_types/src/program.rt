@@ -1,12 +1,12 @@
 //! Programs.
 
-ghost use Rattle.std.specs.Prelude.{◌≡◌, ◌≤◌, [], IfErr, IfOk, OnOk, map};
+ghost use Rattle.std.specs.Prelude.{◌≡◌, ◌≤◌, ◌++◌, [], IfErr, IfOk, OnOk, map};
 ghost use Rattle.lt_ast.specs.View.{declaration, macro, program as declarations};
 ghost use Rattle.lt_num.specs.Bounds.{most_decimals};
 ghost use Rattle.lt_types.specs.Answer.{Leads};
 ghost use Rattle.lt_types.specs.inner.Checks.{Checks};
 ghost use Rattle.lt_types.specs.Environment.{with_declaration};
-ghost use Rattle.lt_types.specs.Refusals.{declaration_refusals, declarations_refusals, new_macro, type_refusals};
+ghost use Rattle.lt_types.specs.Refusals.{declaration_refusals, declarations_refusals, new_macro, type_refusals, unless};
 ghost use Rattle.lt_types.specs.inner.Given.{node_declaration};
 ghost use Rattle.lt_types.specs.Typing.{IsWellTyped, has_node};
 
@@ -19,7 +19,7 @@ use lt_ast::{Decl, MacroDecl, NodeDecl, Program};
 use std::alloc::Global;
 
 /// A program that is well typed.
-#[derive(Debug, Drop)]
+#[derive(Drop)]
 pub struct Typed {
     program: Program,
     decimals: u32,
@@ -77,8 +77,16 @@ fn check_program(alloc: Global, program: &Program, decimals: u32) -> Result<(), 
     ensures { Checks result (type_refusals decimals (declarations program.now)) }
 {
     let mut scope = Scope::new(alloc, decimals)?;
-    check_decls(alloc, &mut scope, &program.decls)?;
-    if has_a_node(&program.decls) {
+    check_text(alloc, &mut scope, &program.decls)
+}
+
+// The declarations of a text, and that one of them is a node.
+#[tactic(auto, using(crate::proofs::Leading::leads))]
+fn check_text(alloc: Global, scope: &mut Scope, decls: &[Decl]) -> Result<(), TypeRefusal>
+    ensures { Checks result (declarations_refusals scope.old (map declaration decls.now) ++ unless (has_node (map declaration decls.now)) TypeRefusal.NoNode) }
+{
+    check_decls(alloc, scope, decls)?;
+    if has_a_node(decls) {
         return Ok(());
     }
     Err(TypeRefusal::NoNode)

@@ -16,7 +16,7 @@ use std::alloc::Global;
 use std::marker::Model;
 
 // The names that are visible, in three spaces, and the number of decimals that a real has.
-#[derive(Debug, Drop)]
+#[derive(Drop)]
 pub(crate) struct Scope {
     decimals: u32,
 
