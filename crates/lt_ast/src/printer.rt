@@ -111,7 +111,6 @@ fn put_expr(alloc: Global, out: &mut String, expr: &Expr) -> Result<(), AllocErr
 }
 
 #[cycle(print)]
-#[tactic(auto, using(crate::proofs::Written::written))]
 fn put_operand(alloc: Global, out: &mut String, expr: &Expr) -> Result<(), AllocError>
     requires { IsOperand (exp expr.now) }
     ensures { Writes result out.old out.new (exp_tokens (exp expr.now)) }
@@ -206,7 +205,6 @@ fn put_braces(alloc: Global, out: &mut String, inside: &Braced) -> Result<(), Al
 }
 
 #[cycle(print)]
-#[tactic(auto, using(crate::proofs::Written::written))]
 fn put_braced(alloc: Global, out: &mut String, inside: &Braced) -> Result<(), AllocError>
     ensures { Writes result out.old out.new (braced_tokens (braced inside.now)) }
 {
@@ -222,7 +220,6 @@ fn put_braced(alloc: Global, out: &mut String, inside: &Braced) -> Result<(), Al
 }
 
 #[cycle(print)]
-#[tactic(auto, using(crate::proofs::Written::written))]
 fn put_parts(alloc: Global, out: &mut String, parts: &Parts) -> Result<(), AllocError>
     ensures { Writes result out.old out.new (alternatives_tokens (alternatives parts.now)) }
 {
@@ -329,7 +326,6 @@ fn put_bounds(alloc: Global, out: &mut String, bounds: &Bounds) -> Result<(), Al
 }
 
 #[cycle(print)]
-#[tactic(auto, using(crate::proofs::Written::written))]
 fn put_groups(alloc: Global, out: &mut String, groups: &Groups) -> Result<(), AllocError>
     ensures { Writes result out.old out.new (groupings_tokens (groupings groups.now)) }
 {
@@ -354,7 +350,6 @@ fn put_more_groups(alloc: Global, out: &mut String, groups: &[Group]) -> Result<
 }
 
 #[cycle(print)]
-#[tactic(auto, using(crate::proofs::Written::written))]
 fn put_group(alloc: Global, out: &mut String, group: &Group) -> Result<(), AllocError>
     ensures { Writes result out.old out.new (tokens_of_group group.now) }
 {
@@ -400,7 +395,6 @@ fn put_params(alloc: Global, out: &mut String, params: &Option<Groups>) -> Resul
 
 // A macro behind its `let`.
 #[cycle(print)]
-#[tactic(auto, using(crate::proofs::Written::written))]
 fn put_macro(alloc: Global, out: &mut String, declared: &MacroDecl) -> Result<(), AllocError>
     ensures { Writes result out.old out.new (macro_rest (macro declared.now)) }
 {
@@ -423,7 +417,6 @@ fn put_body(alloc: Global, out: &mut String, body: &Body) -> Result<(), AllocErr
 }
 
 #[cycle(print)]
-#[tactic(auto, using(crate::proofs::Written::written))]
 fn put_trace(alloc: Global, out: &mut String, trace: &TraceExpr) -> Result<(), AllocError>
     ensures { Writes result out.old out.new (tokens_of_trace trace.now) }
 {
