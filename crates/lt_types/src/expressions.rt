@@ -50,7 +50,6 @@ pub(crate) fn check_expr(
 
 // An expression that is no operator between two operands.
 #[cycle(check)]
-#[tactic(auto, using(crate::proofs::Leading::leads, crate::proofs::Naming::named_used))]
 fn check_operand(alloc: Global, scope: &mut Scope, expr: &Expr) -> Result<TypeName, TypeRefusal>
     requires operand { IsOperand (exp expr.now) }
     ensures answered { Answers result (exp_refusals scope.old (exp expr.now)) (type_of scope.old (exp expr.now)) }
@@ -78,7 +77,6 @@ fn check_operand(alloc: Global, scope: &mut Scope, expr: &Expr) -> Result<TypeNa
 
 // A name, with its arguments where it has a list of them.
 #[cycle(check)]
-#[tactic(auto, using(crate::proofs::Leading::leads))]
 fn check_use(
     alloc: Global,
     scope: &mut Scope,
@@ -96,7 +94,6 @@ fn check_use(
 
 // A name with arguments.
 #[cycle(check)]
-#[tactic(auto, using(crate::proofs::Leading::leads))]
 fn check_call(
     alloc: Global,
     scope: &mut Scope,
@@ -115,7 +112,6 @@ fn check_call(
 
 // Arguments, and the types that they have.
 #[cycle(check)]
-#[tactic(auto, using(crate::proofs::Leading::leads, crate::proofs::Stacks::drop_next))]
 fn check_args(alloc: Global, scope: &mut Scope, args: &[Arg]) -> Result<Vec<TypeName>, TypeRefusal>
     ensures answered { Checks result (arguments_refusals scope.old (arguments_of (map argument args.now))) }
     ensures kinds { IfOk result (λ kinds. map Some kinds.items ≡ map (argument_type scope.old) (map argument args.now)) }
@@ -130,7 +126,6 @@ fn check_args(alloc: Global, scope: &mut Scope, args: &[Arg]) -> Result<Vec<Type
 
 // An argument, and the type that it has.
 #[cycle(check)]
-#[tactic(auto, using(crate::proofs::Leading::leads))]
 fn check_arg(alloc: Global, scope: &mut Scope, arg: &Arg) -> Result<TypeName, TypeRefusal>
     ensures answered { Answers result (argument_refusals scope.old (argument arg.now)) (argument_type scope.old (argument arg.now)) }
     ensures kept { OnOk result (scope.new ≡ scope.old) }

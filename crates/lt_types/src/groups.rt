@@ -23,7 +23,6 @@ use std::alloc::Global;
 
 // Groups, in a list that began when there were `from` names. Their names stay in the scope.
 #[cycle(check)]
-#[tactic(auto, using(crate::proofs::Leading::leads, crate::proofs::Scopes::groups_steps))]
 pub(crate) fn check_groups(
     alloc: Global,
     scope: &mut Scope,
@@ -43,7 +42,6 @@ pub(crate) fn check_groups(
 
 // A group in such a list. Its first value doesn't see its names.
 #[cycle(check)]
-#[tactic(auto, using(crate::proofs::Leading::leads, crate::proofs::Scopes::first_known))]
 fn check_group(
     alloc: Global,
     scope: &mut Scope,
@@ -65,7 +63,6 @@ fn check_group(
 
 // A first value, and the type that it has.
 #[cycle(check)]
-#[tactic(auto, using(crate::proofs::Leading::leads))]
 fn check_first(
     alloc: Global,
     scope: &mut Scope,
@@ -137,7 +134,6 @@ fn check_first_kind(
 
 // A macro. Its parameters are visible in its body alone.
 #[cycle(check)]
-#[tactic(auto, using(crate::proofs::Leading::leads, crate::proofs::Scopes::scope_ends, crate::proofs::Scopes::macro_params_first))]
 pub(crate) fn check_macro(
     alloc: Global,
     scope: &mut Scope,
@@ -155,7 +151,6 @@ pub(crate) fn check_macro(
 
 // The parameters of a macro. Their names stay in the scope.
 #[cycle(check)]
-#[tactic(auto, using(crate::proofs::Leading::leads, crate::proofs::Scopes::scope_ends))]
 fn check_params(
     alloc: Global,
     scope: &mut Scope,
@@ -175,7 +170,6 @@ fn check_params(
 
 // What a macro of a type stands for.
 #[cycle(check)]
-#[tactic(auto, using(crate::proofs::Leading::leads))]
 fn check_body(
     alloc: Global,
     scope: &mut Scope,

@@ -22,7 +22,6 @@ use std::alloc::Global;
 
 // A trace.
 #[cycle(check)]
-#[tactic(auto, using(crate::proofs::Leading::leads, lt_ast::proofs::Public::traces_list))]
 pub(crate) fn check_trace(
     alloc: Global,
     scope: &mut Scope,
@@ -77,7 +76,6 @@ fn check_served(kind: TypeName, expr: &Expr) -> Result<(), TypeRefusal>
 
 // What stands in braces.
 #[cycle(check)]
-#[tactic(auto, using(crate::proofs::Leading::leads, lt_ast::proofs::Public::traces_list))]
 pub(crate) fn check_braces(
     alloc: Global,
     scope: &mut Scope,
@@ -96,7 +94,6 @@ pub(crate) fn check_braces(
 
 // Traces.
 #[cycle(check)]
-#[tactic(auto, using(crate::proofs::Leading::leads, crate::proofs::Stacks::drop_next))]
 fn check_traces(alloc: Global, scope: &mut Scope, traces: &[TraceExpr]) -> Result<(), TypeRefusal>
     ensures answered { Checks result (traces_refusals scope.old (traces_of (map trace_view traces.now))) }
     ensures kept { OnOk result (scope.new ≡ scope.old) }
@@ -109,7 +106,6 @@ fn check_traces(alloc: Global, scope: &mut Scope, traces: &[TraceExpr]) -> Resul
 
 // The alternatives of a choice.
 #[cycle(check)]
-#[tactic(auto, using(crate::proofs::Leading::leads, crate::proofs::Tracing::parts_steps))]
 fn check_parts(alloc: Global, scope: &mut Scope, parts: &Parts) -> Result<(), TypeRefusal>
     ensures answered { Checks result (alternatives_refusals scope.old (alternatives parts.now)) }
     ensures kept { OnOk result (scope.new ≡ scope.old) }
@@ -122,7 +118,6 @@ fn check_parts(alloc: Global, scope: &mut Scope, parts: &Parts) -> Result<(), Ty
 
 // An alternative, with its weight where it has one.
 #[cycle(check)]
-#[tactic(auto, using(crate::proofs::Leading::leads))]
 fn check_part(alloc: Global, scope: &mut Scope, part: &Part) -> Result<(), TypeRefusal>
     ensures answered { Checks result (alternative_refusals scope.old (weighed part.now.weight part.now.body)) }
     ensures kept { OnOk result (scope.new ≡ scope.old) }
@@ -136,7 +131,6 @@ fn check_part(alloc: Global, scope: &mut Scope, part: &Part) -> Result<(), TypeR
 
 // The bounds of a loop.
 #[cycle(check)]
-#[tactic(auto, using(crate::proofs::Leading::leads))]
 fn check_bounds(alloc: Global, scope: &mut Scope, bounds: &Bounds) -> Result<(), TypeRefusal>
     ensures answered { Checks result (limits_refusals scope.old (limits bounds.now)) }
     ensures kept { OnOk result (scope.new ≡ scope.old) }
@@ -154,7 +148,6 @@ fn check_bounds(alloc: Global, scope: &mut Scope, bounds: &Bounds) -> Result<(),
 
 // What follows, if anything does.
 #[cycle(check)]
-#[tactic(auto, using(crate::proofs::Leading::leads))]
 fn check_handler(
     alloc: Global,
     scope: &mut Scope,
@@ -171,7 +164,6 @@ fn check_handler(
 
 // A trace with names of its own.
 #[cycle(check)]
-#[tactic(auto, using(crate::proofs::Leading::leads, crate::proofs::Scopes::scope_ends))]
 fn check_scoped(alloc: Global, scope: &mut Scope, trace: &TraceExpr) -> Result<(), TypeRefusal>
     requires scoped { IsScoped (trace_view trace.now) }
     ensures answered { Checks result (trace_refusals scope.old (trace_view trace.now)) }
