@@ -654,11 +654,46 @@ fn found_in(
     Ok(findings.text)
 }
 
-// The lengths of pieces of which a stream is made.
-const LENGTHS: [usize; 10] = [1, 2, 3, 4, 5, 7, 11, 4096, 65_535, 100_000];
+// The lengths of pieces that a stream is cut into, and those of a long one.
+const LENGTHS: [usize; 7] = [1, 2, 3, 4, 5, 7, 11];
 
-// Sees what is found in a stream, in pieces of each length; and in two pieces, cut at each place of it, where it is no
-// long one. A stream that needs more is open.
+const LONG_LENGTHS: [usize; 5] = [1, 7, 4096, 65_535, 100_000];
+
+// Sees what is found in a stream in pieces, the first of which has so many bytes and each later one so many. A stream
+// that needs more is open.
+fn check_pieces(
+    rt: &impl Abort,
+    alloc: Global,
+    slots: &[Slot],
+    decimals: u32,
+    stream: &[u8],
+    wanted: &str,
+    first_length: usize,
+    piece_length: usize,
+) -> Result<(), Fail>
+    requires { decimals ≤ most_decimals }
+{
+    // What `found_in` asks of a stream.
+    assert!(rt; stream.len() <= 1_000_000);
+    let is_closed = !wanted.ends_with("needs");
+    let found = found_in(
+        alloc,
+        slots,
+        decimals,
+        stream,
+        is_closed,
+        first_length,
+        piece_length,
+    )?;
+    assert_eq!(rt;
+        found.as_str(),
+        wanted,
+        "in pieces of {first_length} and {piece_length}"
+    );
+    Ok(())
+}
+
+// The same in pieces of each length, and in two pieces that are cut at each place.
 fn check(
     rt: &impl Abort,
     alloc: Global,
@@ -669,21 +704,25 @@ fn check(
 ) -> Result<(), Fail>
     requires { decimals ≤ most_decimals }
 {
-    // What `found_in` asks of a stream.
-    assert!(rt; stream.len() <= 1_000_000);
-    let is_closed = !wanted.ends_with("needs");
     for length in LENGTHS {
-        let found = found_in(alloc, slots, decimals, stream, is_closed, length, length)?;
-        assert_eq!(rt; found.as_str(), wanted, "in pieces of {length}");
+        check_pieces(rt, alloc, slots, decimals, stream, wanted, length, length)?;
     }
-    for cut in 0..stream.len().min(100) {
-        let found = found_in(alloc, slots, decimals, stream, is_closed, cut, stream.len())?;
-        assert_eq!(rt; found.as_str(), wanted, "cut at {cut}");
+    for cut in 0..=stream.len() {
+        check_pieces(
+            rt,
+            alloc,
+            slots,
+            decimals,
+            stream,
+            wanted,
+            cut,
+            stream.len(),
+        )?;
     }
     Ok(())
 }
 
-// The same of two texts with so many spaces between them.
+// The same of two texts with so many spaces between them, in pieces of each length of a long stream.
 fn check_long(
     rt: &impl Abort,
     alloc: Global,
@@ -698,7 +737,10 @@ fn check_long(
         stream.push(b' ')?;
     }
     stream.extend_from_slice(behind)?;
-    check(rt, alloc, slots, 0, &stream, wanted)
+    for length in LONG_LENGTHS {
+        check_pieces(rt, alloc, slots, 0, &stream, wanted, length, length)?;
+    }
+    Ok(())
 }
 
 #[test]
