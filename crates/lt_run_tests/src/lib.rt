@@ -1,5 +1,5 @@
 //! Tests of what a run is made of: files and sinks, links to other programs, numbers, replies and traces, drawing,
-//! expressions, and the machine of instants.
+//! expressions, the machine of instants, and plants.
 //!
 //! They stand in a crate of their own, so that the crates below are proved without them. What a test
 //! expects follows from the rules of `docs/LANGUAGE.md`, and of `docs/TRACE.md`.
@@ -17,6 +17,8 @@ mod links;
 mod machine;
 #[cfg(test)]
 mod numbers;
+#[cfg(test)]
+mod plants;
 #[cfg(test)]
 mod replies;
 #[cfg(test)]
