@@ -2,6 +2,8 @@
 
 ghost use Rattle.std.specs.Prelude.{◌≡◌, ◌↔◌, [], ◌∷◌, ℤ, map, string_bytes, IsTrue, IfSome, IfNone};
 ghost use Rattle.lt_num.specs.Literal.{without_minus};
+ghost use Rattle.lt_plants.specs.declared.plant.Plant.{Plant};
+ghost use Rattle.lt_plants.specs.Words.{AreDigits, IsNamed, IsNumberText};
 
 use crate::digits::all_digits;
 
@@ -19,9 +21,6 @@ pub enum Plant {
     /// it is heated over 30.00.
     Safe,
 }
-
-ghost use Rattle.lt_plants.specs.declared.plant.Plant.{Plant};
-ghost use Rattle.lt_plants.specs.Words.{AreDigits, IsNamed, IsNumberText};
 
 /// The plant that words name: `thermostat`, `gate` or `safe` alone, or `constant` and a number, which is one to
 /// eighteen digits, and may have a minus in front.
