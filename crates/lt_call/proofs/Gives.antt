@@ -28,7 +28,7 @@ use Rattle.lt_call.specs.Outside.{Sink, Outside, faults_of}
 use Rattle.lt_call.specs.Prepared.{scene_of}
 use Rattle.lt_call.specs.Settings.{longest_text}
 use Rattle.lt_call.specs.Words.{Request}
-use Rattle.lt_call.specs.Writing.{AppendsPart}
+use Rattle.lt_io.specs.Sending.{AppendsPart}
 use Rattle.lt_call.specs.inner.Statuses.{IsTextStatus, IsTypeStatus}
 use Rattle.lt_call.specs.inner.Programs.{GivesForText, typed_answer, mode_answer}
 use Rattle.lt_call.specs.declared.words.Mode.{Mode}

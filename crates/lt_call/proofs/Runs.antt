@@ -23,7 +23,7 @@ use Rattle.lt_call.specs.Call.{blames}
 use Rattle.lt_call.specs.Cut.{IsCut, by_trace, by_memory_later}
 use Rattle.lt_call.specs.Pieces.{trace_texts, joined, trace_of}
 use Rattle.lt_call.specs.Play.{Play, ended, with_text, with_instant, instant_text, play_from}
-use Rattle.lt_call.specs.Writing.{AppendsPart}
+use Rattle.lt_io.specs.Sending.{AppendsPart}
 use Rattle.lt_call.specs.inner.Running.{rest_in, rest_of, IsAt, WritesEnd, FailsIn, by_write, by_memory, FailsFirst, Follows}
 use Rattle.lt_call.specs.inner.Writer.{IsFor}
 use Rattle.lt_call.specs.declared.writer.Writer.{Writer}

@@ -8,7 +8,7 @@ use Rattle.lt_call.specs.Due.{Answer, Contents, IsDue}
 use Rattle.lt_call.specs.Lines.{status_lines}
 use Rattle.lt_call.specs.Outside.{Sink, Outside, faults_of}
 use Rattle.lt_call.specs.Words.{Request, requested}
-use Rattle.lt_call.specs.Writing.{AppendsPart}
+use Rattle.lt_io.specs.Sending.{AppendsPart}
 use Rattle.lt_call.specs.declared.status.Status.{Status}
 use Rattle.lt_call.specs.declared.status.Status.TheVariants as status
 use Rattle.lt_call.specs.declared.status.Device.{Device}

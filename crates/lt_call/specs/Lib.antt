@@ -21,8 +21,6 @@ pub mod Cut
 pub mod Lines
 -- what is outside a call
 pub mod Outside
--- texts that were written in part
-pub mod Writing
 -- the whole call
 pub mod Call
 -- what follows for whole calls

@@ -4,23 +4,10 @@ ghost use Rattle.std.specs.Prelude.{◌≡◌, OnOk, OnErr, IfErr};
 ghost use Rattle.std.specs.List.{flat_map};
 ghost use Rattle.std.specs.Io.KnownBytes.{Appends};
 ghost use Rattle.lt_io.specs.Causes.{HasCause};
-ghost use Rattle.lt_call.specs.Writing.{AppendsPart};
+ghost use Rattle.lt_io.specs.Sending.{AppendsPart};
 
 use crate::status::{Device, Status};
-use lt_io::{Failed, Sink};
-
-/// Writes the whole text. Where it fails, a front of the text was written, but not all of it.
-fn put<S: Sink>(sink: &mut S, text: &[u8]) -> Result<(), Failed>
-    ensures all { OnOk result (Appends (S.written sink.old) (S.written sink.new) text.now) }
-    ensures front { OnErr result (AppendsPart (S.written sink.old) (S.written sink.new) text.now) }
-    ensures cause { HasCause (S.faults sink.old) (S.faults sink.new) result }
-{
-    let mut written = 0;
-    while written < text.len() {
-        written += sink.write(&text[written..])?;
-    }
-    Ok(())
-}
+use lt_io::{Failed, Sink, put};
 
 /// Writes the whole text of this number to the trace. Where that fails, a front of the text was written, but
 /// not all of it, and the trace is blamed at this number.

@@ -3,7 +3,7 @@
 ghost use Rattle.std.specs.Prelude.{◌≡◌, [], OnErr, OnOk, map, slice_index_or, string_bytes};
 ghost use Rattle.std.specs.Io.KnownBytes.{Appends};
 ghost use Rattle.lt_io.specs.Causes.{HasCause};
-ghost use Rattle.lt_call.specs.Writing.{AppendsPart};
+ghost use Rattle.lt_io.specs.Sending.{AppendsPart};
 ghost use Rattle.lt_call.specs.Lines.{status_lines, end_lines, usage_word, refusal_code, refusal_place, device_word};
 
 use crate::put::put_all;

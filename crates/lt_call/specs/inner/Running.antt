@@ -8,7 +8,7 @@ use Rattle.lt_term.specs.Scene.{Scene}
 use Rattle.lt_step.specs.Machine.{Phase, running, finished, State, outputs_in}
 use Rattle.lt_call.specs.Pieces.{trace_texts, joined}
 use Rattle.lt_call.specs.Play.{Play, ended, with_text, instant_text, play_from}
-use Rattle.lt_call.specs.Writing.{AppendsPart}
+use Rattle.lt_io.specs.Sending.{AppendsPart}
 use Rattle.lt_call.specs.declared.status.Ending.{Ending}
 use Rattle.lt_call.specs.declared.status.Status.{Status}
 use Rattle.lt_call.specs.declared.status.Status.TheVariants as status
