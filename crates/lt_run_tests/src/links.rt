@@ -3,7 +3,7 @@
 use lt_io::{
     Calls, ChildSpawner, Failed, Link, MemSpawner, ScriptLink, Spawner, StartRefusal, StdLink,
 };
-use std::alloc::Global;
+use std::alloc::{AllocError, Global};
 use std::process::Abort;
 use std::test::Fail;
 
@@ -147,11 +147,18 @@ fn a_link_over_a_reader_and_a_writer_counts_its_faults(rt: HostRuntime) {
     assert_eq!(rt; &room, b"abcd");
 }
 
-// Bytes that no pipe holds at once.
-const MANY: [u8; 200_000] = [b'x'; 200_000];
+// More bytes than a pipe holds.
+fn many_bytes(alloc: Global) -> Result<Vec<u8>, AllocError> {
+    let mut bytes = Vec::new(alloc);
+    for _ in 0..200_000 {
+        bytes.push(b'x')?;
+    }
+    Ok(bytes)
+}
 
 #[test]
-fn programs_of_the_system_are_started(rt: HostRuntime) {
+fn programs_of_the_system_are_started(rt: HostRuntime) -> Result<(), Fail> {
+    let many = many_bytes(rt.alloc())?;
     let mut spawner = ChildSpawner::new(&rt, rt.alloc());
     // A command with whether it can be started, what is sent, whether all of it can be, what comes then, and
     // how many faults were counted in all behind it.
@@ -159,7 +166,7 @@ fn programs_of_the_system_are_started(rt: HostRuntime) {
         ("cat", true, b"ab\n", true, b"ab\n", 0),
         (" cat  - ", true, b"ab\n", true, b"ab\n", 0),
         // A program that has ended: its output is at its end, and what is sent to it is a fault and no signal.
-        ("true", true, &MANY, false, b"", 1),
+        ("true", true, many.as_slice(), false, b"", 1),
         ("", false, b"", true, b"", 2),
         ("  ", false, b"", true, b"", 3),
         ("/no/such/program of any kind", false, b"", true, b"", 4),
@@ -180,4 +187,5 @@ fn programs_of_the_system_are_started(rt: HostRuntime) {
         assert_eq!(rt; spawner.faults, faults, "{command}");
     }
     assert_eq!(rt; spawner.asked.len(), 6);
+    Ok(())
 }
