@@ -743,73 +743,77 @@ fn check_long(
     Ok(())
 }
 
+// The same of each stream of a table.
+fn check_all(
+    rt: &impl Abort,
+    alloc: Global,
+    slots: &[Slot],
+    decimals: u32,
+    rows: &[(&[u8], &str)],
+) -> Result<(), Fail>
+    requires { decimals ≤ most_decimals }
+{
+    for row in rows {
+        check(rt, alloc, slots, decimals, row.0, row.1)?;
+    }
+    Ok(())
+}
+
+// The same of each long stream of a table.
+fn check_all_long(
+    rt: &impl Abort,
+    alloc: Global,
+    slots: &[Slot],
+    rows: &[(&[u8], usize, &[u8], &str)],
+) -> Result<(), Fail> {
+    for row in rows {
+        check_long(rt, alloc, slots, row.0, row.1, row.2, row.3)?;
+    }
+    Ok(())
+}
+
+// The same of each stream of a table that has its slots and decimals too.
+fn check_streams(
+    rt: &impl Abort,
+    alloc: Global,
+    rows: &[(&[Slot], u32, &[u8], &str)],
+) -> Result<(), Fail> {
+    for row in rows {
+        // What a reader asks of its decimals.
+        assert!(rt; row.1 <= 6);
+        check(rt, alloc, row.0, row.1, row.2, row.3)?;
+    }
+    Ok(())
+}
+
 #[test]
 fn words_write_truths_and_numbers(rt: HostRuntime) -> Result<(), Fail> {
     let alloc = rt.alloc();
-    for (text, wanted) in TRUTHS {
-        check(&rt, alloc, &[BOOL], 0, text, wanted)?;
-    }
-    for (text, wanted) in TRUTHS_IN_RANGE {
-        check(&rt, alloc, &[up_to(Kind::Bool, 0)], 0, text, wanted)?;
-    }
-    for (text, wanted) in INTS {
-        check(&rt, alloc, &[INT], 2, text, wanted)?;
-    }
-    for (text, wanted) in DIGITS {
-        check(&rt, alloc, &[up_to(Kind::Int, 9)], 2, text, wanted)?;
-    }
-    for (text, wanted) in REALS {
-        check(&rt, alloc, &[REAL], 2, text, wanted)?;
-    }
-    for (text, wanted) in REALS_WITHOUT_DECIMALS {
-        check(&rt, alloc, &[REAL], 0, text, wanted)?;
-    }
-    for (text, wanted) in REALS_OF_SIX_DECIMALS {
-        check(&rt, alloc, &[REAL], 6, text, wanted)?;
-    }
-    for (text, wanted) in REALS_IN_RANGE {
-        check(&rt, alloc, &[up_to(Kind::Real, 100)], 2, text, wanted)?;
-    }
-    Ok(())
+    check_all(&rt, alloc, &[BOOL], 0, &TRUTHS)?;
+    check_all(&rt, alloc, &[up_to(Kind::Bool, 0)], 0, &TRUTHS_IN_RANGE)?;
+    check_all(&rt, alloc, &[INT], 2, &INTS)?;
+    check_all(&rt, alloc, &[up_to(Kind::Int, 9)], 2, &DIGITS)?;
+    check_all(&rt, alloc, &[REAL], 2, &REALS)?;
+    check_all(&rt, alloc, &[REAL], 0, &REALS_WITHOUT_DECIMALS)?;
+    check_all(&rt, alloc, &[REAL], 6, &REALS_OF_SIX_DECIMALS)?;
+    check_all(&rt, alloc, &[up_to(Kind::Real, 100)], 2, &REALS_IN_RANGE)
 }
 
 #[test]
 fn comments_and_blanks_stand_between_words(rt: HostRuntime) -> Result<(), Fail> {
     let alloc = rt.alloc();
-    for (text, wanted) in WORDS {
-        check(&rt, alloc, &[BOOL], 0, text, wanted)?;
-    }
-    for (text, wanted) in STEPS {
-        check(&rt, alloc, &[SKIPPED_INT, INT], 2, text, wanted)?;
-    }
-    for (text, wanted) in MIXED {
-        check(
-            &rt,
-            alloc,
-            &[BOOL, REAL, SKIPPED_REAL, INT],
-            1,
-            text,
-            wanted,
-        )?;
-    }
-    for (slots, decimals, text, wanted) in STREAMS {
-        // What a reader asks of its decimals.
-        assert!(rt; decimals <= 6);
-        check(&rt, alloc, slots, decimals, text, wanted)?;
-    }
-    Ok(())
+    let mixed = [BOOL, REAL, SKIPPED_REAL, INT];
+    check_all(&rt, alloc, &[BOOL], 0, &WORDS)?;
+    check_all(&rt, alloc, &[SKIPPED_INT, INT], 2, &STEPS)?;
+    check_all(&rt, alloc, &mixed, 1, &MIXED)?;
+    check_streams(&rt, alloc, &STREAMS)
 }
 
 #[test]
 fn a_reply_takes_so_many_bytes(rt: HostRuntime) -> Result<(), Fail> {
     let alloc = rt.alloc();
-    for (before, spaces, behind, wanted) in LONG {
-        check_long(&rt, alloc, &[BOOL], before, spaces, behind, wanted)?;
-    }
-    for (before, spaces, behind, wanted) in LONG_PAIRS {
-        check_long(&rt, alloc, &[BOOL, BOOL], before, spaces, behind, wanted)?;
-    }
-    Ok(())
+    check_all_long(&rt, alloc, &[BOOL], &LONG)?;
+    check_all_long(&rt, alloc, &[BOOL, BOOL], &LONG_PAIRS)
 }
 
 #[test]
