@@ -75,7 +75,9 @@ fn refusal_of(error: &io::Error) -> StartRefusal {
 
 // The program and its arguments, with a pipe to each end of it. A command without a program is refused.
 fn command_of(alloc: Global, command: &str) -> Result<Command, StartRefusal> {
-    let mut words = command.split_ascii_whitespace();
+    let mut words = command
+        .split([' ', '\t', '\n', '\r'])
+        .filter(|word| !word.is_empty());
     let program = words.next().ok_or(StartRefusal::Failed)?;
     let mut command = Command::new(alloc, program).map_err(|_| StartRefusal::Memory)?;
     for word in words {

@@ -162,14 +162,17 @@ fn programs_of_the_system_are_started(rt: HostRuntime) -> Result<(), Fail> {
     let mut spawner = ChildSpawner::new(&rt, rt.alloc());
     // A command with whether it can be started, what is sent, whether all of it can be, what comes then, and
     // how many faults were counted in all behind it.
-    let cases: [(&str, bool, &[u8], bool, &[u8], u64); 6] = [
+    let cases: [(&str, bool, &[u8], bool, &[u8], u64); 8] = [
         ("cat", true, b"ab\n", true, b"ab\n", 0),
         (" cat  - ", true, b"ab\n", true, b"ab\n", 0),
+        ("\tcat\r\n-", true, b"ab\n", true, b"ab\n", 0),
         // A program that has ended: its output is at its end, and what is sent to it is a fault and no signal.
         ("true", true, many.as_slice(), false, b"", 1),
         ("", false, b"", true, b"", 2),
         ("  ", false, b"", true, b"", 3),
         ("/no/such/program of any kind", false, b"", true, b"", 4),
+        // A form feed is no blank, so this is the name of a program.
+        ("cat\u{c}-", false, b"", true, b"", 5),
     ];
     for (command, is_there, text, is_taken, answer, faults) in cases {
         match spawner.start(rt.alloc(), command) {
@@ -186,6 +189,6 @@ fn programs_of_the_system_are_started(rt: HostRuntime) -> Result<(), Fail> {
         }
         assert_eq!(rt; spawner.faults, faults, "{command}");
     }
-    assert_eq!(rt; spawner.asked.len(), 6);
+    assert_eq!(rt; spawner.asked.len(), 8);
     Ok(())
 }
