@@ -1,0 +1,88 @@
+-- Trees as they are built.
+use Rattle.std.proofs.Common.{◌≡◌, ℕ, ◌-◌, ◌<◌, ◌≤◌, Bool, true, false, ◌&&◌, nat_le, IsTrue, List, [], ◌∷◌, length, map, drop, Result, IfOk, refl, ap, sym, subst, ◌∙◌, arith}
+use Rattle.std.proofs.lemmas.Bool.{le-leb}
+use Rattle.lt_ast.specs.Syntax as s
+use Rattle.lt_ast.specs.Syntax.{Figure, Trace}
+use Rattle.std.specs.Borrow.{Bor}
+use Rattle.lt_ast.specs.View.{figure, trace as trace_view}
+use Rattle.lt_ast.specs.declared.name.Literal.{Literal}
+use Rattle.lt_formula.specs.declared.memory.Memory.{Memory}
+use Rattle.lt_ast.specs.inner.Lists.{traces_of}
+use Rattle.lt_ast.specs.declared.trace.TraceExpr.{TraceExpr}
+use Rattle.lt_macros.specs.Environment.{Environment}
+use Rattle.lt_macros.specs.Expanded as x
+use Rattle.lt_macros.specs.Literals.{number_at}
+use Rattle.lt_macros.specs.Placed.{Placed, meaningless}
+use Rattle.lt_macros.specs.Senses.{Sense, Numbers, Numbered, as_expression, as_trace, around_two, behind_term, trace_sense, traces_sense}
+use Rattle.lt_macros.specs.inner.Heads.{AddsTo, head_reads}
+use Rattle.lt_macros.specs.Tree.{placed}
+use Rattle.lt_macros.specs.declared.heads.Head.{Head}
+use Rattle.lt_macros.specs.declared.heads.Head.TheVariants.{Number}
+use Rattle.lt_macros.specs.declared.tree.Placed.{Placed as Tree}
+use Rattle.lt_macros.specs.inner.Reading.{meant}
+use Rattle.lt_macros.specs.inner.Seen.{Seen, an_expression, a_trace}
+use Rattle.lt_macros.specs.declared.scope.Entry.{Entry}
+use Rattle.lt_macros.proofs.Adding.{adds_both, adds_length, adds_none, adds_one, all_back}
+use Rattle.lt_macros.proofs.Decimals.{decimals_same}
+
+-- Entries.
+
+pub adds_kept : (old mid same new : List Entry) → AddsTo old mid → same ≡ mid → AddsTo same new → AddsTo old new
+adds_kept old mid same new a is b = adds_both old mid new a (subst (λ rows. AddsTo rows new) is b)
+
+-- what was added is taken back from what stands there still
+pub same_back : (old mid new cut : List Entry) (len : ℕ) → AddsTo old mid → new ≡ mid → cut ≡ drop (length new - len) new → len ≡ length old → cut ≡ old
+same_back old mid new cut len a same is n = all_back old new cut len is n (subst (AddsTo old) (sym same) a)
+
+-- so much is there
+pub enough : (old mid new : List Entry) (len : ℕ) → AddsTo old mid → new ≡ mid → len ≡ length old → len ≤ length new
+enough old mid new len a same n = omega (arith, adds_length old mid a, ap length same)
+
+-- a variable may be added to an environment that is there
+pub linked_variable : (count outer : ℕ) → outer ≤ count → IsTrue (nat_le outer count && true)
+linked_variable count outer h = by (nat_le outer count) (le-leb outer count h)
+  where
+    by : (b : Bool) → IsTrue b → IsTrue (b && true)
+    by true h = h
+    by false h = h
+
+-- a number that is met is the constant that it stands for
+pub number_head : (d : ℕ) (rows : List Entry) (h : Head) (l : Bor Literal) (r : Result Tree Memory) → h ≡ Number l → IfOk r (λ e. placed e ≡ number_at d (figure l.now)) → IfOk r (λ e. placed e ≡ as_expression (head_reads (meant d) rows h))
+number_head d rows h l r is made =
+    subst (λ p. IfOk r (λ e. placed e ≡ p)) (ap (λ n. number_at n (figure l.now)) (sym (decimals_same (meant d) rows 0)) ∙ ap (λ k. as_expression (head_reads (meant d) rows k)) (sym is)) made
+
+-- Senses.
+
+expression_in : Seen → Placed
+expression_in (an_expression e) = e
+expression_in (a_trace t) = meaningless
+
+pub seen_expression : (e f : Placed) → an_expression e ≡ an_expression f → e ≡ f
+unfolding expression_in
+seen_expression e f h = ap expression_in h
+
+pub seen_trace : (t u : Numbered) → a_trace t ≡ a_trace u → t ≡ u
+seen_trace t u h = cc
+
+-- traces that are joined mean nothing as an expression
+pub joined_expression : (env : Environment Sense) (f : x.Expanded → x.Expanded → x.Expanded) (t : Trace) (rest : List TraceExpr) → 0 < length rest → meaningless ≡ as_expression (traces_sense env f (s.one_trace t (traces_of (map trace_view rest))))
+joined_expression env f t [] h = absurd (omega (arith, h))
+joined_expression env f t (u ∷ rest) h = refl
+
+-- as a trace they are the first and those behind it
+pub joined_trace : (env : Environment Sense) (f : x.Expanded → x.Expanded → x.Expanded) (t : Trace) (rest : List TraceExpr) (n : Numbers) → 0 < length rest
+    → around_two f (as_trace (trace_sense env t) (behind_term n)) (as_trace (traces_sense env f (traces_of (map trace_view rest)))) ≡ as_trace (traces_sense env f (s.one_trace t (traces_of (map trace_view rest)))) n
+joined_trace env f t [] n h = absurd (omega (arith, h))
+joined_trace env f t (u ∷ rest) n h = refl
+
+pub ruleset adding = (adds_none, adds_one, adds_both, adds_length, linked_variable)
+
+pub ruleset expressions = (same_back, enough, adds_length, seen_expression)
+
+pub ruleset expression_heads = (joined_expression)
+
+pub ruleset traces = (same_back, enough, adds_length, seen_trace)
+
+pub ruleset trace_heads = (joined_trace)
+
+pub ruleset nodes = (same_back, enough, adds_both, adds_length)

@@ -1,0 +1,180 @@
+-- Traces that are built of their parts.
+use Rattle.std.proofs.Common.{◌≡◌, ℕ, suc, ◌+◌, ◌<◌, ◌≤◌, List, [], ◌∷◌, ◌++◌, Option, None, Some, Result, IfOk, Vec, Global, length, map, drop, get_or, refl, ap, sym, ◌∙◌, arith, drop-cons}
+use Rattle.std.proofs.lemmas.List.{drop_all}
+use Rattle.std.proofs.lemmas.Result.{IfOk-weaker}
+use Rattle.std.specs.Borrow.{Bor}
+use Rattle.std.specs.declared.boxed.Box.{Box}
+use mathlib.Core.Former.{Count}
+use denote.Hole.Carrier.{out}
+use Rattle.lt_ast.specs.Syntax as s
+use Rattle.lt_ast.specs.Syntax.{Exp, Limits, Trace}
+use Rattle.lt_ast.specs.View.{trace as trace_view, word}
+use Rattle.lt_ast.specs.inner.Lists.{alternatives_of}
+use Rattle.lt_ast.specs.inner.Rows.{maybe_trace, part_of, weighed}
+use Rattle.lt_ast.specs.declared.expr.Expr.{Expr}
+use Rattle.lt_ast.specs.declared.name.Name.{Name}
+use Rattle.lt_ast.specs.declared.trace.Part.{Part as Alternative}
+use Rattle.lt_ast.specs.declared.trace.TraceExpr.{TraceExpr}
+use Rattle.lt_formula.specs.declared.memory.Memory.{Memory}
+use Rattle.lt_macros.specs.Environment.{Environment, found_exception}
+use Rattle.lt_macros.specs.Expanded as x
+use Rattle.lt_macros.specs.Senses.{Sense, Numbers, Numbered, NumberedParts, alone, alternative_sense, around_one, around_two, as_trace, as_expression, before_parts, behind_term, bounds_of, caught_as, exp_sense, handler_sense, parts_of, raised_as, repeated, trace_sense, weight_of}
+use Rattle.lt_macros.specs.inner.Built.{AreBuilt, behind_turns, in_two, items_onto, looped, numbered, parts_onto}
+use Rattle.lt_macros.specs.inner.Heads.{head_reads}
+use Rattle.lt_macros.specs.inner.Phrase.{Phrase, phrase_sense}
+use Rattle.lt_macros.specs.inner.Reading.{environment, meant, raised_by}
+use Rattle.lt_macros.specs.inner.Numbers.{numbers_view}
+use Rattle.lt_macros.specs.Tree.{expanded, part_row, parts, placed}
+use Rattle.lt_macros.specs.inner.Work.{alternative_work, alternatives_work, trace_work}
+use Rattle.lt_macros.specs.declared.build.Numbered as code
+use Rattle.lt_macros.specs.declared.build.Two.{Two}
+use Rattle.lt_macros.specs.declared.heads.Head.{Head}
+use Rattle.lt_macros.specs.declared.heads.Head.TheVariants.{Raise, Catch}
+use Rattle.lt_macros.specs.declared.scope.Declared.{Declared as Raised}
+use Rattle.lt_macros.specs.declared.scope.Entry.{Entry}
+use Rattle.lt_macros.specs.declared.tree.Expanded.{Expanded as Tree}
+use Rattle.lt_macros.specs.declared.tree.Part.{Part}
+use Rattle.lt_macros.specs.declared.tree.Parts.{Parts, Parts', Row_of-Part, end_of-Part, more_of-Part, items-the_row-Part, items_shown-the_row-Part-0, out-Parts, out-roll-Parts, roll-Parts}
+use Rattle.lt_macros.specs.declared.tree.Expanded.TheBlock.{shown-the_row-Part-0}
+use Rattle.lt_macros.specs.declared.tree.Placed.{Placed as Expression}
+
+-- a trace of a phrase, where the entries and the numbers are others that are the same
+pub built_where : (d : ℕ) (old now : List Entry) (k : ℕ) (q : Phrase) (n m : Numbers) (b : Numbered) → now ≡ old → m ≡ n → b ≡ as_trace (phrase_sense (environment (meant d) now k) q) m → b ≡ as_trace (phrase_sense (environment (meant d) old k) q) n
+built_where d old now k q n m b same is h = h ∙ (λ i. as_trace (phrase_sense (environment (meant d) (same i) k) q) (is i))
+
+-- two traces
+pub two_built : (d : ℕ) (old now : List Entry) (k : ℕ) (p q : Phrase) (n m : Numbers) (before behind : code.Numbered) (t : Two) → now ≡ old → m ≡ behind_term n
+    → t.first.value ≡ before.expanded → t.second.value ≡ behind.expanded → t.after ≡ behind.after
+    → numbered before ≡ as_trace (phrase_sense (environment (meant d) old k) p) m
+    → numbered behind ≡ as_trace (phrase_sense (environment (meant d) now k) q) (numbers_view before.after)
+    → AreBuilt t (as_trace (phrase_sense (environment (meant d) old k) p) (behind_term n)) (as_trace (phrase_sense (environment (meant d) old k) q))
+two_built d old now k p q n m before behind t same is v w a h g =
+    let env = environment (meant d) old k in
+    let first : numbered before ≡ as_trace (phrase_sense env p) (behind_term n) = h ∙ ap (as_trace (phrase_sense env p)) is in
+    let second : numbered behind ≡ as_trace (phrase_sense env q) (as_trace (phrase_sense env p) (behind_term n)).after =
+    built_where d old now k q (numbers_view before.after) (numbers_view before.after) (numbered behind) same refl g ∙ (λ i. as_trace (phrase_sense env q) (first i).after) in
+    record {
+      first_is = ap expanded v ∙ (λ i. (first i).expanded);
+      second_is = ap expanded w ∙ (λ i. (second i).expanded);
+      after_is = ap numbers_view a ∙ (λ i. (second i).after);
+    }
+
+-- two traces in one
+pub joined_built : (f : x.Expanded → x.Expanded → x.Expanded) (t : Two) (first : Numbered) (second : Numbers → Numbered) → AreBuilt t first second → in_two f t ≡ around_two f first second
+joined_built f t first second h = λ i. record { expanded = f (h.first_is i) (h.second_is i); after = h.after_is i }
+
+-- an exception that is raised
+pub raise_built : (d : ℕ) (rows : List Entry) (h : Head) (name : Bor Name) (k : ℕ) (n : Numbers) (found : Option Raised) (text : List ℕ) (made : Tree) (r : Result code.Numbered Memory) → h ≡ Raise name k → text ≡ (word name.now).text
+    → found_exception (environment (meant d) rows k).exceptions text ≡ raised_by (meant d) found → expanded made ≡ raised_as (raised_by (meant d) found)
+    → IfOk r (λ b. numbered b ≡ alone (expanded made) n) → IfOk r (λ b. numbered b ≡ as_trace (head_reads (meant d) rows h) n)
+raise_built d rows h name k n found text made r is text_is found_is made_is done =
+    let read : alone (expanded made) n ≡ as_trace (head_reads (meant d) rows h) n =
+    ap (λ t. alone t n) (made_is ∙ ap raised_as (sym found_is ∙ ap (found_exception (environment (meant d) rows k).exceptions) text_is))
+    ∙ ap (λ (g : Head). as_trace (head_reads (meant d) rows g) n) (sym is)
+    in
+    IfOk-weaker r (λ b. numbered b ≡ alone (expanded made) n) (λ b. numbered b ≡ as_trace (head_reads (meant d) rows h) n) (λ b same. same ∙ read) done
+
+-- .. and one that is caught
+pub catch_built : (d : ℕ) (old now : List Entry) (h : Head) (name : Bor Name) (t : Bor TraceExpr) (handler : Bor (Option (Box TraceExpr Global))) (k : ℕ) (n : Numbers) (found : Option Raised) (text : List ℕ) (two : Two) (r : Result code.Numbered Memory)
+    → h ≡ Catch name t handler k → text ≡ (word name.now).text → now ≡ old → found_exception (environment (meant d) now k).exceptions text ≡ raised_by (meant d) found
+    → AreBuilt two (as_trace (trace_sense (environment (meant d) old k) (trace_view t.now)) (behind_term n)) (as_trace (handler_sense (environment (meant d) old k) (maybe_trace handler.now)))
+    → IfOk r (λ b. (decimals : ℕ) → numbered b ≡ in_two (caught_as (raised_by (meant decimals) found)) two) → IfOk r (λ b. numbered b ≡ as_trace (head_reads (meant d) old h) n)
+catch_built d old now h name t handler k n found text two r is text_is same found_is built done =
+    let env = environment (meant d) old k in
+    let catching = caught_as (found_exception env.exceptions (word name.now).text) in
+    let named : raised_by (meant d) found ≡ found_exception env.exceptions (word name.now).text = sym found_is ∙ (λ i. found_exception (environment (meant d) (same i) k).exceptions (text_is i)) in
+    let read : in_two (caught_as (raised_by (meant d) found)) two ≡ as_trace (head_reads (meant d) old h) n =
+    ap (λ raised. in_two (caught_as raised) two) named
+    ∙ joined_built catching two (as_trace (trace_sense env (trace_view t.now)) (behind_term n)) (as_trace (handler_sense env (maybe_trace handler.now))) built
+    ∙ ap (λ (g : Head). as_trace (head_reads (meant d) old g) n) (sym is)
+    in
+    IfOk-weaker r (λ b. (decimals : ℕ) → numbered b ≡ in_two (caught_as (raised_by (meant decimals) found)) two) (λ b. numbered b ≡ as_trace (head_reads (meant d) old h) n) (λ b same. same d ∙ read) done
+
+-- a trace with a constraint that holds
+pub assert_built : (d : ℕ) (old now : List Entry) (k : ℕ) (e : Exp) (t : Trace) (n m : Numbers) (constraint : Expression) (box : Box Tree Global) (inner : code.Numbered) → now ≡ old → m ≡ behind_term n
+    → placed constraint ≡ as_expression (exp_sense (environment (meant d) now k) e) → box.value ≡ inner.expanded → numbered inner ≡ as_trace (trace_sense (environment (meant d) old k) t) m
+    → record { expanded = x.assert (placed constraint) (expanded box.value); after = numbers_view inner.after } ≡ as_trace (trace_sense (environment (meant d) old k) (s.assert e t)) n
+assert_built d old now k e t n m constraint box inner same is made v h =
+    let env = environment (meant d) old k in
+    let holds : placed constraint ≡ as_expression (exp_sense env e) = made ∙ ap (λ rows. as_expression (exp_sense (environment (meant d) rows k) e)) same in
+    let inside : numbered inner ≡ as_trace (trace_sense env t) (behind_term n) = h ∙ ap (as_trace (trace_sense env t)) is in
+    (λ i. record { expanded = x.assert (holds i) (expanded (v i)); after = numbers_view inner.after }) ∙ ap (around_one (x.assert (as_expression (exp_sense env e)))) inside
+
+-- a loop, whose counter has this number where it has one
+loops : (env : Environment Sense) (l : Limits) (body : Numbers → Numbered) (n : Numbers) → around_one (looped (bounds_of env l) n.counter) (body (behind_turns l n)) ≡ repeated (bounds_of env l) body n
+loops env s.forever body n = refl
+loops env (s.between d e) body n = refl
+loops env (s.around d e) body n = refl
+
+pub loop_built : (d : ℕ) (old now : List Entry) (k : ℕ) (l : Limits) (t : Trace) (n m : Numbers) (turns : Option x.Bounds) (box : Box Tree Global) (turn : code.Numbered) → now ≡ old → m ≡ behind_turns l n
+    → turns ≡ bounds_of (environment (meant d) now k) l → box.value ≡ turn.expanded → numbered turn ≡ as_trace (trace_sense (environment (meant d) old k) t) m
+    → record { expanded = looped turns n.counter (expanded box.value); after = numbers_view turn.after } ≡ as_trace (trace_sense (environment (meant d) old k) (s.loop l t)) n
+loop_built d old now k l t n m turns box turn same is bounds v h =
+    let env = environment (meant d) old k in
+    let body : Numbers → Numbered = as_trace (trace_sense env t) in
+    let bounds' : turns ≡ bounds_of env l = bounds ∙ ap (λ rows. bounds_of (environment (meant d) rows k) l) same in
+    let inside : numbered turn ≡ body (behind_turns l n) = h ∙ ap body is in
+    (λ i. record { expanded = looped (bounds' i) n.counter (expanded (v i)); after = numbers_view turn.after }) ∙ ap (around_one (looped (bounds_of env l) n.counter)) inside ∙ loops env l body n
+
+-- alternatives behind others
+items_onto-append : (items more : List Part) (rest : x.Parts) → items_onto (items ++ more) rest ≡ items_onto items (items_onto more rest)
+items_onto-append [] more rest = refl
+items_onto-append (q ∷ items) more rest = ap (x.part (placed q.weight) (expanded q.body)) (items_onto-append items more rest)
+
+alternative_is : (env : Environment Sense) (o : Option Expr) (t : TraceExpr) → trace_sense env (trace_view t) ≡ alternative_sense env (weighed o t)
+alternative_is env None t = refl
+alternative_is env (Some e) t = refl
+
+alternative_more : (env : Environment ℕ) (o : Option Expr) (t : TraceExpr) → trace_work env (trace_view t) ≤ alternative_work env (weighed o t)
+alternative_more env None t = omega arith
+alternative_more env (Some e) t = omega arith
+
+-- the alternatives from one on are that one, and those behind it
+pub parts_from : (written : List Alternative) (place : ℕ) (a : Alternative) → place < length written → a ≡ get_or written place a
+    → alternatives_of (map part_of (drop place written)) ≡ s.alternative (part_of a) (alternatives_of (map part_of (drop (place + 1) written)))
+parts_from written place a h is =
+    let next : suc place ≡ place + 1 = omega arith in
+    ap (λ as'. alternatives_of (map part_of as')) (drop-cons written place a h ∙ (λ i. sym is i ∷ drop (next i) written))
+
+-- one more alternative is built
+pub part_built : (env : Environment Sense) (written : List Alternative) (place : ℕ) (a : Alternative) (items more : List Part) (w : Expression) (b : code.Numbered) (n : Numbers) (all : NumberedParts) → place < length written → a ≡ get_or written place a
+    → more ≡ items ++ record { weight = w; body = b.expanded } ∷ [] → placed w ≡ weight_of env (part_of a) → numbered b ≡ as_trace (trace_sense env (trace_view a.body)) n
+    → parts_onto items (parts_of env (alternatives_of (map part_of (drop place written))) n) ≡ all
+    → parts_onto more (parts_of env (alternatives_of (map part_of (drop (place + 1) written))) (numbers_view b.after)) ≡ all
+part_built env written place a items more w b n all h is pushed weight body so_far =
+    let rest = alternatives_of (map part_of (drop (place + 1) written)) in
+    let left : NumberedParts = parts_of env rest (numbers_view b.after) in
+    (λ i. record { parts = items_onto (pushed i) left.parts; after = left.after })
+    ∙ (λ i. record { parts = items_onto-append items (record { weight = w; body = b.expanded } ∷ []) left.parts i; after = left.after })
+    ∙ (λ i. parts_onto items (before_parts (weight i) (body i) (parts_of env rest)))
+    ∙ ap (λ sense. parts_onto items (before_parts (weight_of env (part_of a)) (as_trace sense n) (parts_of env rest))) (alternative_is env a.weight a.body)
+    ∙ sym (ap (λ ps. parts_onto items (parts_of env ps n)) (parts_from written place a h is))
+    ∙ so_far
+
+-- which is some of the work
+pub part_worked : (env : Environment ℕ) (written : List Alternative) (place : ℕ) (a : Alternative) (all : ℕ) → place < length written → a ≡ get_or written place a
+    → alternatives_work env (alternatives_of (map part_of (drop place written))) ≤ all
+    → (trace_work env (trace_view a.body) < all) × (alternatives_work env (alternatives_of (map part_of (drop (place + 1) written))) ≤ all)
+part_worked env written place a all h is so_far =
+    let from = ap (alternatives_work env) (parts_from written place a h is) in
+    let some = alternative_more env a.weight a.body in
+    (omega (arith, from, some, so_far), omega (arith, from, so_far))
+
+-- the alternatives that the code has are those of the tree
+part_row-list : {m : Count} (row : Row_of-Part m) → part_row row ≡ items_onto (items-the_row-Part m row) x.no_part
+part_row-list end_of-Part = refl
+part_row-list (more_of-Part w a rest) = ap (x.part (placed w) (expanded a)) (part_row-list rest)
+
+parts_list : (ps : Parts) → parts ps ≡ items_onto (out-Parts ps).items.items x.no_part
+unfolding out-Parts out shown-the_row-Part-0
+parts_list (Parts' shape row) = part_row-list row ∙ ap (λ items. items_onto items x.no_part) (sym (items_shown-the_row-Part-0 shape row))
+
+-- at the end all alternatives are built
+pub parts_whole : (env : Environment Sense) (written : List Alternative) (place : ℕ) (items : Vec Part Global) (n : Numbers) (all : NumberedParts) → length written ≤ place
+    → parts_onto items.items (parts_of env (alternatives_of (map part_of (drop place written))) n) ≡ all
+    → record { parts = parts (roll-Parts (record { items = items })); after = n } ≡ all
+parts_whole env written place items n all h so_far =
+    let whole : parts (roll-Parts (record { items = items })) ≡ items_onto items.items x.no_part = parts_list (roll-Parts (record { items = items })) ∙ ap (λ r. items_onto r.items.items x.no_part) (out-roll-Parts (record { items = items })) in
+    (λ i. record { parts = whole i; after = n })
+    ∙ sym (ap (λ as'. parts_onto items.items (parts_of env (alternatives_of (map part_of as')) n)) (drop_all place written h))
+    ∙ so_far

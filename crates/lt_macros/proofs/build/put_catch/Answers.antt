@@ -1,0 +1,12 @@
+use Rattle.std.proofs.Common.{ap, sym, ◌∙◌}
+use Rattle.lt_macros.specs.Expanded as x
+use Rattle.lt_macros.specs.Senses.{caught_as}
+use Rattle.lt_macros.specs.inner.Built.{in_two}
+use Rattle.lt_macros.specs.inner.Reading.{meant, raised_by}
+use Rattle.lt_macros.proofs.build.put_catch.Goals as goal
+
+pub returns-in_ok-exception-in-Some : goal.returns-in_ok-exception-in-Some
+returns-in_ok-exception-in-Some c =
+    λ d.
+    ap (λ z. in_two (x.catch z) c.args.two) (c.in_ok-exception-in-Some.ensures d)
+    ∙ ap (λ caught. in_two (caught_as (raised_by (meant d) caught)) c.args.two) (sym c.in-Some.is)

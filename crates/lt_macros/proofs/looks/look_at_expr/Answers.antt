@@ -1,0 +1,5 @@
+use Rattle.lt_macros.proofs.Uses.{named_is}
+use Rattle.lt_macros.proofs.looks.look_at_expr.Goals as goal
+
+pub returns-in-Named : goal.returns-in-Named
+returns-in-Named c = named_is c.args.expr.now c.in-Named.name c.in-Named.args c.given.result.now c.in-Named.is c.given.ensures

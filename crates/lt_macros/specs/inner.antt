@@ -1,0 +1,22 @@
+-- Words of private contracts and of what types keep.
+pub mod Phrase
+pub mod Work
+pub mod Size
+pub mod Inside
+pub mod Uses
+pub mod Reading
+pub mod Rows
+pub mod Numbers
+pub mod Seen
+pub mod Heads
+pub mod Handing
+pub mod Figures
+pub mod Tallies
+pub mod Counting
+pub mod Started
+pub mod Leads
+pub mod Looks
+pub mod Steps
+pub mod Binding
+pub mod Asking
+pub mod Built

@@ -1,0 +1,70 @@
+-- What is seen of a phrase without going into it.
+use Rattle.std.specs.Prelude.{◌≡◌, ◌≤◌, ℕ, Bool, true, false, IsTrue, List, map}
+use Rattle.lt_ast.specs.Syntax as s
+use Rattle.lt_ast.specs.Syntax.{Traces}
+use Rattle.lt_ast.specs.View.{argument, macro as macro_view, trace as trace_view, word, words}
+use Rattle.lt_ast.specs.inner.Rows.{maybe_trace}
+use Rattle.lt_macros.specs.inner.Phrase.{Phrase, value, trace, braces, joined, handler, phrase_sense}
+use Rattle.lt_macros.specs.inner.Work.{phrase_work}
+use Rattle.lt_macros.specs.inner.Heads.{IsWithin, head_reads}
+use Rattle.lt_macros.specs.inner.Inside.{IsInside}
+use Rattle.lt_macros.specs.inner.Reading.{environment, meant, source_view, worked}
+use Rattle.lt_macros.specs.inner.Uses.{IsUse}
+use Rattle.lt_macros.specs.declared.scope.Entry.{Entry}
+use Rattle.lt_macros.specs.declared.heads.Head.{Head}
+use Rattle.lt_macros.specs.declared.looks.Look.{Look}
+use Rattle.lt_macros.specs.declared.looks.Look.TheVariants.{Cover, Use, Pre, Let, Exceptions, Trap}
+use Rattle.lt_macros.specs.declared.looks.Look.TheVariants as look
+
+-- A head is what a phrase stands for in an environment, and no more.
+pub record Shows (k : ℕ) (h : Head) (p : Phrase) : Type 0 where
+  pub sense : (decimals : ℕ) (rows : List Entry) → head_reads (meant decimals) rows h ≡ phrase_sense (environment (meant decimals) rows k) p
+  pub work : (rows : List Entry) → head_reads worked rows h ≤ phrase_work (environment worked rows k) p
+  pub within : (count : ℕ) → k ≤ count → IsWithin count h
+
+-- whether traces are some, but not one
+abbrev pub is_joined : Traces → Bool
+is_joined s.no_traces = true
+is_joined (s.one_trace t s.no_traces) = false
+is_joined (s.one_trace t (s.one_trace u us)) = true
+
+-- whether no name has to be replaced for a phrase, nor a cover or a declaration be passed
+abbrev pub is_head : Phrase → Bool
+is_head (value (s.number f)) = true
+is_head (value (s.flag b at)) = true
+is_head (value (s.named w)) = false
+is_head (value (s.called w args)) = false
+is_head (value (s.pre w at)) = false
+is_head (value (s.paren e at)) = false
+is_head (value (s.unary op e at)) = true
+is_head (value (s.binary op d e at)) = true
+is_head (value (s.choose c d e at)) = true
+is_head (trace (s.sequence ts)) = false
+is_head (trace (s.braces b at)) = false
+is_head (trace (s.loop l t)) = true
+is_head (trace (s.raise w)) = true
+is_head (trace (s.assert e t)) = true
+is_head (trace (s.exist gs t)) = true
+is_head (trace (s.define m t)) = false
+is_head (trace (s.exceptions ws t)) = false
+is_head (trace (s.catch w t h)) = true
+is_head (trace (s.trap w t h)) = false
+is_head (trace (s.try t h)) = true
+is_head (trace (s.value e)) = false
+is_head (braces (s.plain t)) = false
+is_head (braces (s.choice lead ps)) = true
+is_head (braces (s.priority lead ts)) = false
+is_head (braces (s.parallel lead ts)) = false
+is_head (joined j ts) = is_joined ts
+is_head (handler s.no_trace) = true
+is_head (handler (s.a_trace t)) = false
+
+-- A phrase looks so.
+abbrev pub LooksLike : Look → Phrase → Type 0
+LooksLike (Cover inner) p = IsInside p (source_view inner)
+LooksLike (Use u) p = IsUse p (word u.name.now) (map argument u.args.now)
+LooksLike (Pre n at) p = p ≡ value (s.pre (word n.now) at)
+LooksLike (Let d t) p = p ≡ trace (s.define (macro_view d.now) (trace_view t.now))
+LooksLike (Exceptions ns t) p = p ≡ trace (s.exceptions (words ns.now) (trace_view t.now))
+LooksLike (Trap n t h) p = p ≡ trace (s.trap (word n.now) (trace_view t.now) (maybe_trace h.now))
+LooksLike look.Head p = IsTrue (is_head p)

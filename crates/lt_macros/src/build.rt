@@ -1,0 +1,532 @@
+//! The tree that a node stands for.
+
+ghost use Rattle.std.specs.Prelude.{◌≡◌, ◌≤◌, ◌-◌, ◌+◌, ℕ, IfOk, OnOk, length, map, option_map};
+ghost use Rattle.lt_ast.specs.View.{groupings, limits, trace as trace_view, word};
+ghost use Rattle.lt_ast.specs.Syntax as s;
+ghost use Rattle.lt_ast.specs.inner.Lists.{alternatives_of};
+ghost use Rattle.lt_ast.specs.inner.Rows.{part_of};
+ghost use Rattle.lt_ast.specs.View.{exp};
+ghost use Rattle.lt_num.specs.Bounds.{most_decimals};
+ghost use Rattle.lt_macros.specs.Expanded as x;
+ghost use Rattle.lt_macros.specs.Expansion.{node_of};
+ghost use Rattle.lt_macros.specs.Senses.{alone, around_two, as_trace, behind_term, bounds_of as limits_bounds, caught_as, chosen, parts_of, raised_as as raised_tree, weight_of};
+ghost use Rattle.lt_macros.specs.inner.Built.{AreBuilt, behind_turns, in_all, in_two, looped, numbered, numbered_parts};
+ghost use Rattle.lt_macros.specs.inner.Handing.{AreRight};
+ghost use Rattle.lt_macros.specs.inner.Heads.{IsWithin, head_reads};
+ghost use Rattle.lt_macros.specs.inner.Numbers.{numbers_view};
+ghost use Rattle.lt_macros.specs.inner.Phrase.{joined_by, trace};
+ghost use Rattle.lt_macros.specs.inner.Reading.{environment as environment_of, meant, raised_by, source_view};
+ghost use Rattle.lt_macros.specs.inner.Rows.{rows};
+ghost use Rattle.lt_macros.specs.Tree.{bounds as bounds_view, declared as declared_view, exception as exception_view, expanded as expanded_view, node as node_view, placed};
+
+use crate::expressions::{build_expr, build_expr_head};
+use crate::heads::{Head, head_of};
+use crate::literals::unwritten_weight;
+use crate::numbers::Numbers;
+use crate::position::Position;
+use crate::scope::{Before, Declared as Raised, Join, Scope, Source};
+use crate::tree::{Bounds, Declared, Exception, Expanded, Node, Part, Parts, Placed};
+use crate::variables::declare_groups;
+use lt_ast::{Bounds as Limits, Expr, Groups, Name, NodeDecl, Part as Alternative, TraceExpr};
+use lt_formula::{Memory, Role};
+use std::alloc::Global;
+
+/// A trace, and what stands before the place behind it.
+#[derive(Drop)]
+pub(crate) struct Numbered {
+    /// The trace.
+    pub(crate) expanded: Expanded,
+
+    /// What stands before the place behind it.
+    pub(crate) after: Numbers,
+}
+
+/// Alternatives, and what stands before the place behind them.
+#[derive(Drop)]
+struct NumberedParts {
+    parts: Parts,
+    after: Numbers,
+}
+
+/// Two traces, the second of which is numbered behind the first, and what stands before the place behind them.
+#[derive(Drop)]
+struct Two {
+    first: Box<Expanded>,
+    second: Box<Expanded>,
+    after: Numbers,
+}
+
+// A node, in the environment at its place.
+#[tactic(auto, using(crate::proofs::Building::nodes))]
+pub(crate) fn build_node<'a>(
+    alloc: Global,
+    scope: &mut Scope<'a>,
+    decimals: u32,
+    environment: usize,
+    node: &'a NodeDecl,
+) -> Result<Node, Memory>
+    requires few { decimals ≤ most_decimals }
+    requires within { environment ≤ length (rows scope.old) }
+    requires right { AreRight (rows scope.old) }
+    ensures tree { IfOk result (λ n. node_view n ≡ node_of (environment_of (meant decimals) (rows scope.old) environment) (word node.now.name) (groupings node.now.inputs) (groupings node.now.outputs) (trace_view node.now.body)) }
+    ensures kept { OnOk result (rows scope.new ≡ rows scope.old) }
+{
+    let before = scope.len();
+    let name = node.name.text.clone()?;
+    let inputs = declare_groups(
+        alloc,
+        scope,
+        decimals,
+        Role::Input,
+        0,
+        environment,
+        &node.inputs,
+    )?;
+    let inside = inputs.environment;
+    let outputs = declare_groups(
+        alloc,
+        scope,
+        decimals,
+        Role::Output,
+        0,
+        inside,
+        &node.outputs,
+    )?;
+    let (start, inside) = (Numbers::start(), outputs.environment);
+    let body = build_trace(
+        alloc,
+        scope,
+        decimals,
+        start,
+        inside,
+        Source::Trace(&node.body),
+    )?;
+    scope.truncate(before);
+    Ok(Node {
+        name,
+        inputs: inputs.declared,
+        outputs: outputs.declared,
+        body: body.expanded,
+    })
+}
+
+// What a phrase stands for as a trace, before which so much stands.
+#[cycle(build_trace)]
+#[tactic(auto, using(crate::proofs::Building::traces))]
+pub(crate) fn build_trace<'a>(
+    alloc: Global,
+    scope: &mut Scope<'a>,
+    decimals: u32,
+    numbers: Numbers,
+    environment: usize,
+    source: Source<'a>,
+) -> Result<Numbered, Memory>
+    requires few { decimals ≤ most_decimals }
+    requires within { environment ≤ length (rows scope.old) }
+    requires right { AreRight (rows scope.old) }
+    ensures tree { IfOk result (λ b. numbered b ≡ as_trace ((meant decimals).phrase (environment_of (meant decimals) (rows scope.old) environment) (source_view source.entry)) (numbers_view numbers)) }
+    ensures kept { OnOk result (rows scope.new ≡ rows scope.old) }
+{
+    let before = scope.len();
+    let head = head_of(scope, Position::Trace(numbers), environment, source)?;
+    let built = build_trace_head(alloc, scope, decimals, numbers, head)?;
+    scope.truncate(before);
+    Ok(built)
+}
+
+// What is met as a trace; an expression is a constraint.
+#[cycle(build_trace)]
+#[tactic(auto, using(crate::proofs::Building::trace_heads))]
+fn build_trace_head<'a>(
+    alloc: Global,
+    scope: &mut Scope<'a>,
+    decimals: u32,
+    numbers: Numbers,
+    head: Head<'a>,
+) -> Result<Numbered, Memory>
+    requires few { decimals ≤ most_decimals }
+    requires within { IsWithin (length (rows scope.old)) head }
+    requires right { AreRight (rows scope.old) }
+    ensures tree { IfOk result (λ b. numbered b ≡ as_trace (head_reads (meant decimals) (rows scope.old) head.entry) (numbers_view numbers)) }
+    ensures kept { OnOk result (rows scope.new ≡ rows scope.old) }
+{
+    match head {
+        Head::Nothing => put_alone(Expanded::Eps, numbers),
+        Head::Joined(join, first, rest, environment) => {
+            let (first, rest) = (Source::Trace(first), Source::Joined(join, rest));
+            let two = build_two(alloc, scope, decimals, numbers, environment, first, rest)?;
+            Ok(put_joined(join, two))
+        }
+        Head::Loop(bounds, body, environment) => {
+            build_loop(alloc, scope, decimals, numbers, environment, bounds, body)
+        }
+        Head::Choice(parts, environment) => {
+            let (inside, parts) = (numbers.behind_term()?, &parts.items);
+            let chosen = build_parts(alloc, scope, decimals, inside, environment, parts)?;
+            Ok(put_choice(chosen))
+        }
+        Head::Raise(name, environment) => {
+            let raised = put_raise(alloc, scope.exception(environment, &name.text))?;
+            put_alone(raised, numbers)
+        }
+        Head::Assert(always, body, environment) => {
+            build_assert(alloc, scope, decimals, numbers, environment, always, body)
+        }
+        Head::Exist(groups, body, environment) => {
+            build_exist(alloc, scope, decimals, numbers, environment, groups, body)
+        }
+        Head::Catch(name, body, handler, environment) => {
+            let (body, handler) = (Source::Trace(body), Source::Handler(handler));
+            let two = build_two(alloc, scope, decimals, numbers, environment, body, handler)?;
+            put_catch(alloc, scope.exception(environment, &name.text), two)
+        }
+        Head::Try(body, handler, environment) => {
+            let (body, handler) = (Source::Trace(body), Source::Handler(handler));
+            let two = build_two(alloc, scope, decimals, numbers, environment, body, handler)?;
+            Ok(put_try(two))
+        }
+        Head::Meaningless
+        | Head::Variable(_, _, _)
+        | Head::Previous(_, _, _)
+        | Head::Number(_)
+        | Head::Flag(_, _)
+        | Head::Unary(_, _, _, _)
+        | Head::Binary(_, _, _, _, _)
+        | Head::If(_, _, _, _, _) => {
+            let condition = build_expr_head(alloc, scope, decimals, head)?;
+            put_alone(Expanded::Con(condition), numbers)
+        }
+    }
+}
+
+// Two traces, the first of which stands behind one more term.
+#[cycle(build_trace)]
+fn build_two<'a>(
+    alloc: Global,
+    scope: &mut Scope<'a>,
+    decimals: u32,
+    numbers: Numbers,
+    environment: usize,
+    first: Source<'a>,
+    second: Source<'a>,
+) -> Result<Two, Memory>
+    requires few { decimals ≤ most_decimals }
+    requires within { environment ≤ length (rows scope.old) }
+    requires right { AreRight (rows scope.old) }
+    ensures trees { IfOk result (λ two. AreBuilt two (as_trace ((meant decimals).phrase (environment_of (meant decimals) (rows scope.old) environment) (source_view first.entry)) (behind_term (numbers_view numbers))) (as_trace ((meant decimals).phrase (environment_of (meant decimals) (rows scope.old) environment) (source_view second.entry)))) }
+    ensures kept { OnOk result (rows scope.new ≡ rows scope.old) }
+{
+    let inside = numbers.behind_term()?;
+    let before = build_trace(alloc, scope, decimals, inside, environment, first)?;
+    let middle = before.after;
+    let left = Box::new(alloc, before.expanded)?;
+    let behind = build_trace(alloc, scope, decimals, middle, environment, second)?;
+    let after = behind.after;
+    let right = Box::new(alloc, behind.expanded)?;
+    Ok(Two {
+        first: left,
+        second: right,
+        after,
+    })
+}
+
+// A loop.
+#[cycle(build_trace)]
+fn build_loop<'a>(
+    alloc: Global,
+    scope: &mut Scope<'a>,
+    decimals: u32,
+    numbers: Numbers,
+    environment: usize,
+    written: &'a Limits,
+    body: &'a TraceExpr,
+) -> Result<Numbered, Memory>
+    requires few { decimals ≤ most_decimals }
+    requires within { environment ≤ length (rows scope.old) }
+    requires right { AreRight (rows scope.old) }
+    ensures tree { IfOk result (λ b. numbered b ≡ as_trace ((meant decimals).phrase (environment_of (meant decimals) (rows scope.old) environment) (trace (s.loop (limits written.now) (trace_view body.now)))) (numbers_view numbers)) }
+    ensures kept { OnOk result (rows scope.new ≡ rows scope.old) }
+{
+    let inside = behind_loop(numbers, written)?;
+    let turn = build_trace(
+        alloc,
+        scope,
+        decimals,
+        inside,
+        environment,
+        Source::Trace(body),
+    )?;
+    let after = turn.after;
+    let inner = Box::new(alloc, turn.expanded)?;
+    let bounds = build_bounds(alloc, scope, decimals, environment, written)?;
+    Ok(put_loop(numbers.counter, bounds, inner, after))
+}
+
+// Behind one more loop, which may have a counter.
+fn behind_loop(numbers: Numbers, written: &Limits) -> Result<Numbers, Memory>
+    ensures { IfOk result (λ n. numbers_view n ≡ behind_turns (limits written.now) (numbers_view numbers)) }
+{
+    match written {
+        Limits::Forever => numbers.behind_term(),
+        Limits::Between(_, _) | Limits::Around(_, _) => numbers.behind_counter(),
+    }
+}
+
+// A trace over and over: without end, or as often as the counter of this number says.
+fn put_loop(counter: u32, turns: Option<Bounds>, body: Box<Expanded>, after: Numbers) -> Numbered
+    ensures { numbered result ≡ record { expanded = looped (option_map bounds_view turns) counter (expanded_view body.value); after = numbers_view after } }
+{
+    let expanded = match turns {
+        None => Expanded::Loop(body),
+        Some(bounds) => Expanded::Count(counter, bounds, body),
+    };
+    Numbered { expanded, after }
+}
+
+// The bounds of a loop, where it has some.
+fn build_bounds<'a>(
+    alloc: Global,
+    scope: &mut Scope<'a>,
+    decimals: u32,
+    environment: usize,
+    written: &'a Limits,
+) -> Result<Option<Bounds>, Memory>
+    requires few { decimals ≤ most_decimals }
+    requires within { environment ≤ length (rows scope.old) }
+    requires right { AreRight (rows scope.old) }
+    ensures bounds { IfOk result (λ b. option_map bounds_view b ≡ limits_bounds (environment_of (meant decimals) (rows scope.old) environment) (limits written.now)) }
+    ensures kept { OnOk result (rows scope.new ≡ rows scope.old) }
+{
+    match written {
+        Limits::Forever => Ok(None),
+        Limits::Between(low, high) => {
+            let low = build_expr(alloc, scope, decimals, environment, Source::Value(low))?;
+            let high = build_expr(alloc, scope, decimals, environment, Source::Value(high))?;
+            Ok(Some(Bounds::Between(low, high)))
+        }
+        Limits::Around(average, deviation) => {
+            let (average, deviation) = (Source::Value(average), Source::Value(deviation));
+            let average = build_expr(alloc, scope, decimals, environment, average)?;
+            let deviation = build_expr(alloc, scope, decimals, environment, deviation)?;
+            Ok(Some(Bounds::Around(average, deviation)))
+        }
+    }
+}
+
+// The alternatives of a choice.
+#[cycle(build_trace)]
+fn build_parts<'a>(
+    alloc: Global,
+    scope: &mut Scope<'a>,
+    decimals: u32,
+    before: Numbers,
+    environment: usize,
+    written: &'a [Alternative],
+) -> Result<NumberedParts, Memory>
+    requires few { decimals ≤ most_decimals }
+    requires within { environment ≤ length (rows scope.old) }
+    requires right { AreRight (rows scope.old) }
+    ensures tree { IfOk result (λ b. numbered_parts b ≡ parts_of (environment_of (meant decimals) (rows scope.old) environment) (alternatives_of (map part_of written.now)) (numbers_view before)) }
+    ensures kept { OnOk result (rows scope.new ≡ rows scope.old) }
+{
+    let mut items = Vec::new(alloc);
+    let mut numbers = before;
+    for part in written {
+        let weight = build_weight(alloc, scope, decimals, environment, part)?;
+        let source = Source::Trace(&part.body);
+        let built = build_trace(alloc, scope, decimals, numbers, environment, source)?;
+        let body = built.expanded;
+        items.push(Part { weight, body })?;
+        numbers = built.after;
+    }
+    let (parts, after) = (Parts { items }, numbers);
+    Ok(NumberedParts { parts, after })
+}
+
+// The weight of an alternative.
+fn build_weight<'a>(
+    alloc: Global,
+    scope: &mut Scope<'a>,
+    decimals: u32,
+    environment: usize,
+    part: &'a Alternative,
+) -> Result<Placed, Memory>
+    requires few { decimals ≤ most_decimals }
+    requires within { environment ≤ length (rows scope.old) }
+    requires right { AreRight (rows scope.old) }
+    ensures weight { IfOk result (λ e. placed e ≡ weight_of (environment_of (meant decimals) (rows scope.old) environment) (part_of part.now)) }
+    ensures kept { OnOk result (rows scope.new ≡ rows scope.old) }
+{
+    match &part.weight {
+        None => Ok(unwritten_weight()),
+        Some(expr) => build_expr(alloc, scope, decimals, environment, Source::Value(expr)),
+    }
+}
+
+// A trace in each instant of which a constraint holds.
+#[cycle(build_trace)]
+fn build_assert<'a>(
+    alloc: Global,
+    scope: &mut Scope<'a>,
+    decimals: u32,
+    numbers: Numbers,
+    environment: usize,
+    always: &'a Expr,
+    body: &'a TraceExpr,
+) -> Result<Numbered, Memory>
+    requires few { decimals ≤ most_decimals }
+    requires within { environment ≤ length (rows scope.old) }
+    requires right { AreRight (rows scope.old) }
+    ensures tree { IfOk result (λ b. numbered b ≡ as_trace ((meant decimals).phrase (environment_of (meant decimals) (rows scope.old) environment) (trace (s.assert (exp always.now) (trace_view body.now)))) (numbers_view numbers)) }
+    ensures kept { OnOk result (rows scope.new ≡ rows scope.old) }
+{
+    let inside = numbers.behind_term()?;
+    let inner = build_trace(
+        alloc,
+        scope,
+        decimals,
+        inside,
+        environment,
+        Source::Trace(body),
+    )?;
+    let after = inner.after;
+    let boxed = Box::new(alloc, inner.expanded)?;
+    let constraint = build_expr(alloc, scope, decimals, environment, Source::Value(always))?;
+    let expanded = Expanded::Assert(constraint, boxed);
+    Ok(Numbered { expanded, after })
+}
+
+// A trace with locals, each of which sees the groups before its own.
+#[cycle(build_trace)]
+#[tactic(auto, using(crate::proofs::Building::traces))]
+fn build_exist<'a>(
+    alloc: Global,
+    scope: &mut Scope<'a>,
+    decimals: u32,
+    numbers: Numbers,
+    environment: usize,
+    groups: &'a Groups,
+    body: &'a TraceExpr,
+) -> Result<Numbered, Memory>
+    requires few { decimals ≤ most_decimals }
+    requires within { environment ≤ length (rows scope.old) }
+    requires right { AreRight (rows scope.old) }
+    ensures tree { IfOk result (λ b. numbered b ≡ as_trace ((meant decimals).phrase (environment_of (meant decimals) (rows scope.old) environment) (trace (s.exist (groupings groups.now) (trace_view body.now)))) (numbers_view numbers)) }
+    ensures kept { OnOk result (rows scope.new ≡ rows scope.old) }
+{
+    let (before, first) = (scope.len(), numbers.local);
+    let locals = declare_groups(
+        alloc,
+        scope,
+        decimals,
+        Role::Local,
+        first,
+        environment,
+        groups,
+    )?;
+    let (inside, source) = (numbers.behind_locals(locals.next)?, Source::Trace(body));
+    let inner = build_trace(alloc, scope, decimals, inside, locals.environment, source)?;
+    scope.truncate(before);
+    let after = inner.after;
+    let expanded = put_locals(alloc, locals.declared, locals.next, inner.expanded)?;
+    Ok(Numbered { expanded, after })
+}
+
+// A trace with locals of these declarations, behind the last of which the next one has this number.
+fn put_locals(
+    alloc: Global,
+    declared: Vec<Declared>,
+    next: u32,
+    body: Expanded,
+) -> Result<Expanded, Memory>
+    requires { length declared.items ≤ next }
+    ensures { IfOk result (λ t. expanded_view t ≡ in_all (next - length declared.items) (map declared_view declared.items) (expanded_view body)) }
+{
+    let mut left = declared;
+    let mut number = next;
+    let mut inside = body;
+    while let Some(local) = left.pop() {
+        number -= 1;
+        inside = Expanded::Exist(number, local, Box::new(alloc, inside)?);
+    }
+    Ok(inside)
+}
+
+// A term without parts.
+fn put_alone(expanded: Expanded, numbers: Numbers) -> Result<Numbered, Memory>
+    ensures { IfOk result (λ b. numbered b ≡ alone (expanded_view expanded) (numbers_view numbers)) }
+{
+    let after = numbers.behind_term()?;
+    Ok(Numbered { expanded, after })
+}
+
+// Traces that are joined, out of the first and those behind it.
+fn put_joined(join: Join, two: Two) -> Numbered
+    ensures { numbered result ≡ in_two (joined_by join) two }
+{
+    let expanded = match join {
+        Join::Seq => Expanded::Seq(two.first, two.second),
+        Join::Pri => Expanded::Pri(two.first, two.second),
+        Join::Par => Expanded::Par(two.first, two.second),
+    };
+    let after = two.after;
+    Numbered { expanded, after }
+}
+
+// A trace and what follows where nothing can be done.
+fn put_try(two: Two) -> Numbered
+    ensures { numbered result ≡ in_two x.try two }
+{
+    let expanded = Expanded::Try(two.first, two.second);
+    let after = two.after;
+    Numbered { expanded, after }
+}
+
+// A trace and what follows where an exception is raised; `Deadlock` is caught where nothing can be done.
+fn put_catch(alloc: Global, caught: Option<Raised<'_>>, two: Two) -> Result<Numbered, Memory>
+    ensures { IfOk result (λ b. (decimals : ℕ) → numbered b ≡ in_two (caught_as (raised_by (meant decimals) caught.entry)) two) }
+{
+    match caught {
+        None => Ok(put_try(two)),
+        Some(raised) => {
+            let exception = put_exception(alloc, raised)?;
+            let expanded = Expanded::Catch(exception, two.first, two.second);
+            let after = two.after;
+            Ok(Numbered { expanded, after })
+        }
+    }
+}
+
+// An exception that is raised; `Deadlock` is a deadlock.
+fn put_raise(alloc: Global, raised: Option<Raised<'_>>) -> Result<Expanded, Memory>
+    ensures { IfOk result (λ t. (decimals : ℕ) → expanded_view t ≡ raised_tree (raised_by (meant decimals) raised.entry)) }
+{
+    match raised {
+        None => Ok(Expanded::Dead),
+        Some(raised) => Ok(Expanded::Raise(put_exception(alloc, raised)?)),
+    }
+}
+
+// An exception as it is declared. None is declared where no place is known.
+fn put_exception(alloc: Global, raised: Raised<'_>) -> Result<Exception, Memory>
+    ensures { IfOk result (λ z. (decimals : ℕ) → exception_view z ≡ record { name = raised.entry.name.now; place = raised.entry.place; terms_before = (meant decimals).terms_before raised.entry.before }) }
+{
+    let terms_before = match raised.before {
+        Before::Terms(terms) => terms,
+        Before::Chosen(_) => 0,
+    };
+    Ok(Exception {
+        name: String::from_str(alloc, raised.name)?,
+        place: raised.place,
+        terms_before,
+    })
+}
+
+// One of these.
+fn put_choice(chosen_parts: NumberedParts) -> Numbered
+    ensures { numbered result ≡ chosen (numbered_parts chosen_parts) }
+{
+    let expanded = Expanded::Any(chosen_parts.parts);
+    let after = chosen_parts.after;
+    Numbered { expanded, after }
+}

@@ -1,0 +1,106 @@
+//! Expressions without names.
+
+ghost use Rattle.std.specs.Prelude.{◌≡◌, ◌≤◌, IfOk, OnOk, length};
+ghost use Rattle.lt_num.specs.Bounds.{most_decimals};
+ghost use Rattle.lt_macros.specs.Senses.{as_expression};
+ghost use Rattle.lt_macros.specs.inner.Handing.{AreRight};
+ghost use Rattle.lt_macros.specs.inner.Heads.{IsWithin, head_reads};
+ghost use Rattle.lt_macros.specs.inner.Reading.{environment as environment_of, meant, source_view};
+ghost use Rattle.lt_macros.specs.inner.Rows.{rows};
+ghost use Rattle.lt_macros.specs.Tree.{placed};
+
+use crate::heads::{Head, head_of};
+use crate::literals::{binary_operator, meaningless, number_at, unary_operator};
+use crate::position::Position;
+use crate::scope::{Scope, Source};
+use crate::tree::Placed;
+use lt_formula::Memory;
+use lt_num::{Kind, Value};
+use std::alloc::Global;
+
+// What a phrase stands for as an expression.
+#[cycle(build_expr)]
+#[tactic(auto, using(crate::proofs::Building::expressions))]
+pub(crate) fn build_expr<'a>(
+    alloc: Global,
+    scope: &mut Scope<'a>,
+    decimals: u32,
+    environment: usize,
+    source: Source<'a>,
+) -> Result<Placed, Memory>
+    requires few { decimals ≤ most_decimals }
+    requires within { environment ≤ length (rows scope.old) }
+    requires right { AreRight (rows scope.old) }
+    ensures tree { IfOk result (λ e. placed e ≡ as_expression ((meant decimals).phrase (environment_of (meant decimals) (rows scope.old) environment) (source_view source.entry))) }
+    ensures kept { OnOk result (rows scope.new ≡ rows scope.old) }
+{
+    let before = scope.len();
+    let head = head_of(scope, Position::Expression, environment, source)?;
+    let expr = build_expr_head(alloc, scope, decimals, head)?;
+    scope.truncate(before);
+    Ok(expr)
+}
+
+// What is met as an expression; a trace means nothing there.
+#[cycle(build_expr)]
+#[tactic(auto, using(crate::proofs::Building::expression_heads))]
+pub(crate) fn build_expr_head<'a>(
+    alloc: Global,
+    scope: &mut Scope<'a>,
+    decimals: u32,
+    head: Head<'a>,
+) -> Result<Placed, Memory>
+    requires few { decimals ≤ most_decimals }
+    requires within { IsWithin (length (rows scope.old)) head }
+    requires right { AreRight (rows scope.old) }
+    ensures tree { IfOk result (λ e. placed e ≡ as_expression (head_reads (meant decimals) (rows scope.old) head.entry)) }
+    ensures kept { OnOk result (rows scope.new ≡ rows scope.old) }
+{
+    match head {
+        Head::Variable(role, place, at) => Ok(Placed::Variable(role, place, at)),
+        Head::Previous(role, place, at) => Ok(Placed::Previous(role, place, at)),
+        Head::Number(literal) => number_at(alloc, decimals, literal),
+        Head::Flag(flag, at) => Ok(Placed::Constant(Kind::Bool, Value::Bool(flag), at)),
+        Head::Unary(operator, part, at, environment) => {
+            let part = build_expr(alloc, scope, decimals, environment, Source::Value(part))?;
+            let operator = unary_operator(operator);
+            Ok(Placed::Unary(operator, Box::new(alloc, part)?, at))
+        }
+        Head::Binary(operator, left, right, at, environment) => {
+            let left = build_expr(alloc, scope, decimals, environment, Source::Value(left))?;
+            let right = build_expr(alloc, scope, decimals, environment, Source::Value(right))?;
+            let operator = binary_operator(operator);
+            let (left, right) = (Box::new(alloc, left)?, Box::new(alloc, right)?);
+            Ok(Placed::Binary(operator, left, right, at))
+        }
+        Head::If(condition, holds, otherwise, at, environment) => {
+            let condition = build_expr(
+                alloc,
+                scope,
+                decimals,
+                environment,
+                Source::Value(condition),
+            )?;
+            let holds = build_expr(alloc, scope, decimals, environment, Source::Value(holds))?;
+            let otherwise = build_expr(
+                alloc,
+                scope,
+                decimals,
+                environment,
+                Source::Value(otherwise),
+            )?;
+            let (holds, otherwise) = (Box::new(alloc, holds)?, Box::new(alloc, otherwise)?);
+            Ok(Placed::Choice(Box::new(alloc, condition)?, holds, otherwise, at))
+        }
+        Head::Meaningless
+        | Head::Nothing
+        | Head::Joined(_, _, _, _)
+        | Head::Loop(_, _, _)
+        | Head::Choice(_, _)
+        | Head::Raise(_, _)
+        | Head::Assert(_, _, _)
+        | Head::Exist(_, _, _)
+        | Head::Catch(_, _, _, _)
+        | Head::Try(_, _, _) => Ok(meaningless()),
+    }
+}

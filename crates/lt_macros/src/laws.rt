@@ -1,0 +1,21 @@
+//! What follows from the definitions. The functions do nothing: their contracts say it.
+
+ghost use Rattle.lt_macros.specs.Naming.{NamesAreThere};
+ghost use Rattle.lt_macros.specs.Numbering.{PartsAreNumbered};
+ghost use Rattle.lt_macros.specs.Scoping.{LocalsAreInside};
+
+/// The locals of a node are numbered in preorder, and so are its counters: no two have one number.
+pub fn parts_are_numbered()
+    ensures { PartsAreNumbered }
+{}
+
+/// A local is named only inside the trace that declares it.
+pub fn locals_are_inside()
+    ensures { LocalsAreInside }
+{}
+
+/// What a node names is there: inputs and outputs are its own, constants are values of their kinds, and a variable of
+/// each one's kind may have its range.
+pub fn names_are_there()
+    ensures { NamesAreThere }
+{}

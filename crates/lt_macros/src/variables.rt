@@ -1,0 +1,219 @@
+//! Variables as they are declared.
+
+ghost use Rattle.std.specs.Prelude.{◌≡◌, ◌≤◌, ◌+◌, ◌++◌, ℕ, IfOk, OnOk, length, map, option_map};
+ghost use Rattle.lt_ast.specs.View.{groupings, interval, word};
+ghost use Rattle.lt_ast.specs.inner.Rows.{maybe_exp};
+ghost use Rattle.lt_num.specs.Bounds.{most_decimals};
+ghost use Rattle.lt_macros.specs.Environment.{Environment, parameter, variable, with_name, with_variables};
+ghost use Rattle.lt_macros.specs.Expansion.{groups_variables, with_groups};
+ghost use Rattle.lt_macros.specs.Senses.{declared_as, first_of};
+ghost use Rattle.lt_macros.specs.inner.Handing.{AreRight};
+ghost use Rattle.lt_macros.specs.inner.Heads.{AddsTo};
+ghost use Rattle.lt_macros.specs.inner.Reading.{environment as environment_of, meant, worked};
+ghost use Rattle.lt_macros.specs.inner.Rows.{rows};
+ghost use Rattle.lt_macros.specs.Tree.{declared as declared_view, placed};
+ghost use Rattle.lt_macros.specs.inner.Work.{groups_work, with_ones};
+
+use crate::expressions::build_expr;
+use crate::literals::{kind_of, range_of};
+use crate::scope::{Entity, Entry, Scope, Source};
+use crate::tree::{Declared, Placed};
+use lt_ast::{Expr, Group, Groups, Name};
+use lt_formula::{Memory, Role};
+use std::alloc::Global;
+
+/// Variables, and where they are visible.
+#[derive(Drop)]
+pub(crate) struct Variables {
+    /// The variables.
+    pub(crate) declared: Vec<Declared>,
+
+    /// The environment in which all of them are visible.
+    pub(crate) environment: usize,
+
+    /// The place behind the last one, among those of its role.
+    pub(crate) next: u32,
+}
+
+/// Where variables are visible.
+#[derive(Clone, Copy)]
+pub(crate) struct Visible {
+    /// The environment.
+    pub(crate) environment: usize,
+
+    /// The place behind the last one, among those of its role.
+    pub(crate) next: u32,
+}
+
+// The variables of groups, the first of which has this place. A first value sees the groups before.
+#[tactic(auto, using(crate::proofs::Grouped::variables))]
+pub(crate) fn declare_groups<'a>(
+    alloc: Global,
+    scope: &mut Scope<'a>,
+    decimals: u32,
+    role: Role,
+    first: u32,
+    outer: usize,
+    groups: &'a Groups,
+) -> Result<Variables, Memory>
+    requires few { decimals ≤ most_decimals }
+    requires within { outer ≤ length (rows scope.old) }
+    requires right { AreRight (rows scope.old) }
+    ensures declared { IfOk result (λ vs. map declared_view vs.declared.items ≡ groups_variables role first (environment_of (meant decimals) (rows scope.old) outer) (groupings groups.now)) }
+    ensures visible { IfOk result (λ vs. environment_of (meant decimals) (rows scope.new) vs.environment ≡ with_groups role first (groupings groups.now) (environment_of (meant decimals) (rows scope.old) outer)) }
+    ensures next { IfOk result (λ vs. vs.next ≡ first + length vs.declared.items) }
+    ensures work { IfOk result (λ vs. (body : Environment ℕ → ℕ) → body (environment_of worked (rows scope.new) vs.environment) ≤ groups_work (environment_of worked (rows scope.old) outer) (groupings groups.now) body) }
+    ensures within { IfOk result (λ vs. vs.environment ≤ length (rows scope.new)) }
+    ensures adds { OnOk result (AddsTo (rows scope.old) (rows scope.new)) }
+    ensures right { OnOk result (AreRight (rows scope.new)) }
+{
+    let mut declared = Vec::new(alloc);
+    let mut environment = outer;
+    let mut next = first;
+    for group in &groups.items {
+        declare_names(
+            alloc,
+            scope,
+            decimals,
+            role,
+            environment,
+            group,
+            &mut declared,
+        )?;
+        let visible = show_names(scope, role, next, environment, &group.names.items)?;
+        environment = visible.environment;
+        next = visible.next;
+    }
+    Ok(Variables {
+        declared,
+        environment,
+        next,
+    })
+}
+
+// The variables of a group, behind those that are there.
+#[tactic(auto, using(crate::proofs::Grouped::variables))]
+fn declare_names<'a>(
+    alloc: Global,
+    scope: &mut Scope<'a>,
+    decimals: u32,
+    role: Role,
+    environment: usize,
+    group: &'a Group,
+    declared: &mut Vec<Declared>,
+) -> Result<(), Memory>
+    requires few { decimals ≤ most_decimals }
+    requires within { environment ≤ length (rows scope.old) }
+    requires right { AreRight (rows scope.old) }
+    ensures declared { OnOk result (map declared_view declared.new.items ≡ map declared_view declared.old.items ++ map (λ w. declared_as role (environment_of (meant decimals) (rows scope.old) environment) group.now.kind (interval group.now.range) (first_of (environment_of (meant decimals) (rows scope.old) environment) (maybe_exp group.now.first)) w) (map word group.now.names.items.items)) }
+    ensures kept { OnOk result (rows scope.new ≡ rows scope.old) }
+{
+    for name in &group.names.items {
+        let variable = declare_name(alloc, scope, decimals, role, environment, group, name)?;
+        declared.push(variable)?;
+    }
+    Ok(())
+}
+
+// The variable of a name of a group.
+fn declare_name<'a>(
+    alloc: Global,
+    scope: &mut Scope<'a>,
+    decimals: u32,
+    role: Role,
+    environment: usize,
+    group: &'a Group,
+    name: &Name,
+) -> Result<Declared, Memory>
+    requires few { decimals ≤ most_decimals }
+    requires within { environment ≤ length (rows scope.old) }
+    requires right { AreRight (rows scope.old) }
+    ensures declared { IfOk result (λ d. declared_view d ≡ declared_as role (environment_of (meant decimals) (rows scope.old) environment) group.now.kind (interval group.now.range) (first_of (environment_of (meant decimals) (rows scope.old) environment) (maybe_exp group.now.first)) (word name.now)) }
+    ensures kept { OnOk result (rows scope.new ≡ rows scope.old) }
+{
+    let text = name.text.clone()?;
+    let kind = kind_of(group.kind);
+    let range = range_of(alloc, decimals, role, kind, &group.range)?;
+    let first = build_first(alloc, scope, decimals, environment, &group.first)?;
+    Ok(Declared {
+        name: text,
+        kind,
+        range,
+        first,
+    })
+}
+
+// The first value of a group, where it has one.
+fn build_first<'a>(
+    alloc: Global,
+    scope: &mut Scope<'a>,
+    decimals: u32,
+    environment: usize,
+    first: &'a Option<Expr>,
+) -> Result<Option<Placed>, Memory>
+    requires few { decimals ≤ most_decimals }
+    requires within { environment ≤ length (rows scope.old) }
+    requires right { AreRight (rows scope.old) }
+    ensures first { IfOk result (λ e. option_map placed e ≡ first_of (environment_of (meant decimals) (rows scope.old) environment) (maybe_exp first.now)) }
+    ensures kept { OnOk result (rows scope.new ≡ rows scope.old) }
+{
+    match first {
+        None => Ok(None),
+        Some(expr) => {
+            let first = build_expr(alloc, scope, decimals, environment, Source::Value(expr))?;
+            Ok(Some(first))
+        }
+    }
+}
+
+// Variables of a role by these names, the first of which has this place.
+#[tactic(auto, using(crate::proofs::Building::adding))]
+pub(crate) fn show_names<'a>(
+    scope: &mut Scope<'a>,
+    role: Role,
+    first: u32,
+    outer: usize,
+    names: &'a [Name],
+) -> Result<Visible, Memory>
+    requires within { outer ≤ length (rows scope.old) }
+    requires right { AreRight (rows scope.old) }
+    ensures visible { IfOk result (λ v. (decimals : ℕ) → environment_of (meant decimals) (rows scope.new) v.environment ≡ with_variables role first (map word names.now) (environment_of (meant decimals) (rows scope.old) outer)) }
+    ensures work { IfOk result (λ v. environment_of worked (rows scope.new) v.environment ≡ with_ones (map word names.now) (environment_of worked (rows scope.old) outer)) }
+    ensures next { IfOk result (λ v. v.next ≡ first + length names.now) }
+    ensures within { IfOk result (λ v. v.environment ≤ length (rows scope.new)) }
+    ensures adds { OnOk result (AddsTo (rows scope.old) (rows scope.new)) }
+    ensures right { OnOk result (AreRight (rows scope.new)) }
+{
+    let mut environment = outer;
+    let mut next = first;
+    for name in names {
+        environment = show_name(scope, role, next, environment, name)?;
+        next = next.checked_add(1).ok_or(Memory)?;
+    }
+    Ok(Visible { environment, next })
+}
+
+// The variable of a role at a place, by this name.
+#[tactic(auto, using(crate::proofs::Building::adding))]
+pub(crate) fn show_name<'a>(
+    scope: &mut Scope<'a>,
+    role: Role,
+    place: u32,
+    outer: usize,
+    name: &'a Name,
+) -> Result<usize, Memory>
+    requires within { outer ≤ length (rows scope.old) }
+    requires right { AreRight (rows scope.old) }
+    ensures visible { IfOk result (λ k. (decimals : ℕ) → environment_of (meant decimals) (rows scope.new) k ≡ with_name (word name.now).text (variable role place) (environment_of (meant decimals) (rows scope.old) outer)) }
+    ensures work { IfOk result (λ k. environment_of worked (rows scope.new) k ≡ with_name (word name.now).text (parameter 1) (environment_of worked (rows scope.old) outer)) }
+    ensures within { IfOk result (λ k. k ≤ length (rows scope.new)) }
+    ensures adds { OnOk result (AddsTo (rows scope.old) (rows scope.new)) }
+    ensures right { OnOk result (AreRight (rows scope.new)) }
+{
+    let number = scope.push(Entry {
+        name: &name.text,
+        outer,
+        entity: Entity::Variable(role, place),
+    })?;
+    Ok(number)
+}
