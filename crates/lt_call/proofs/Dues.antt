@@ -1,19 +1,25 @@
 -- One answer is due to a request and the contents of its files.
-use Rattle.std.proofs.Common.{◌≡◌, ℕ, ◌<◌, ◌≤◌, ◌⊎◌, inl, inr, Bool, true, false, nat_le, List, [], ◌∷◌, length, refl, ap, sym, ◌∙◌, arith, leb-true}
+use Rattle.std.proofs.Common.{◌≡◌, ◌≢◌, ℕ, ◌<◌, ◌≤◌, ◌⊎◌, inl, inr, Bool, true, false, nat_le, List, [], ◌∷◌, Option, None, Some, length, refl, ap, sym, ◌∙◌, arith, leb-true}
 use Rattle.std.proofs.lemmas.Bool.{leb-false}
 use Rattle.lt_ast.specs.Syntax.{Declaration}
+use Rattle.lt_expand.specs.Refusals.{refusals_of}
+use Rattle.lt_expand.specs.Scenes.{scene_of}
+use Rattle.lt_expand.specs.declared.refusal.ExpandRefusal.{ExpandRefusal}
+use Rattle.lt_macros.specs.Expanded.{Node}
+use Rattle.lt_macros.specs.Expansion.{expanded_node}
 use Rattle.lt_parser.specs.Text.{IsProgramOf, IsRefusal}
 use Rattle.lt_parser.specs.declared.refusal.ParseRefusal.{ParseRefusal}
+use Rattle.lt_step.specs.Plain.{is_plain}
+use Rattle.lt_term.specs.Scene.{Scene, Variable}
 use Rattle.lt_types.specs.Law.{WellTypedIsUnrefused}
 use Rattle.lt_types.specs.Refusals.{type_refusals}
 use Rattle.lt_types.specs.Typing.{IsWellTyped}
 use Rattle.lt_types.specs.declared.refusal.TypeRefusal.{TypeRefusal}
-use Rattle.lt_call.specs.Due.{Answer, Contents, IsDue, Spells, refused, too_long, no_program, ill_typed, not_built, runs, prints}
-use Rattle.lt_call.specs.Form.{is_runnable}
+use Rattle.lt_call.specs.Due.{Answer, Contents, IsDue, IsSceneOf, Spells, refused, too_long, no_program, ill_typed, not_expanded, not_built, no_controller, runs, prints}
 use Rattle.lt_call.specs.Laws.{ContentsHaveOneDueAnswer}
 use Rattle.lt_call.specs.Settings.{longest_text}
 use Rattle.lt_call.specs.Words.{Request}
-use Rattle.lt_call.specs.inner.Programs.{built_answer, typed_answer, mode_answer, program_answer}
+use Rattle.lt_call.specs.inner.Programs.{fed_answer, built_answer, scene_answer, node_answer, expanded_answer, typed_answer, mode_answer, program_answer}
 use Rattle.lt_call.specs.declared.status.Refusal.TheVariants as refusal
 use Rattle.lt_call.specs.declared.words.Mode.{Mode}
 use Rattle.lt_call.specs.declared.words.Mode.TheVariants as mode
@@ -27,12 +33,23 @@ pub record OneAnswer : Type 0 where
 
 -- There is one.
 
-built_due : (r : Request) (c : Contents) (program : List Declaration) (is : Bool) → is_runnable program ≡ is → r.mode ≡ mode.Run → Spells c program → IsWellTyped r.decimals program → IsDue r c (built_answer r program is)
-built_due r c program true e run spells typed = runs program run spells typed e
-built_due r c program false e run spells typed = not_built program run spells typed (λ h. let both : false ≡ true = sym e ∙ h in cc both)
+fed_due : (r : Request) (c : Contents) (program : List Declaration) (s : Scene) (inputs : List Variable) → s.inputs ≡ inputs → r.mode ≡ mode.Run → Spells c program → IsSceneOf r program s → is_plain s ≡ true → IsDue r c (fed_answer r s inputs)
+fed_due r c program s [] e run spells is plain = runs program s run spells is plain e
+fed_due r c program s (v ∷ vs) e run spells is plain = no_controller program s run spells is plain (λ none. let both : v ∷ vs ≡ [] = sym e ∙ none in cc both)
+
+built_due : (r : Request) (c : Contents) (program : List Declaration) (s : Scene) (plain : Bool) → is_plain s ≡ plain → r.mode ≡ mode.Run → Spells c program → IsSceneOf r program s → IsDue r c (built_answer r s plain)
+built_due r c program s true e run spells is = fed_due r c program s s.inputs refl run spells is e
+built_due r c program s false e run spells is = not_built program s run spells is e
+
+node_due : (r : Request) (c : Contents) (program : List Declaration) (asked : Option Node) (rs : List ExpandRefusal) → expanded_node r.decimals r.node program ≡ asked → refusals_of r.decimals asked ≡ rs → r.mode ≡ mode.Run → Spells c program → IsWellTyped r.decimals program → IsDue r c (node_answer r asked rs)
+node_due r c program asked (reason ∷ others) e f run spells typed = not_expanded program reason run spells typed (others, ap (refusals_of r.decimals) e ∙ f)
+node_due r c program (Some node) [] e f run spells typed = built_due r c program (scene_of r.decimals node) (is_plain (scene_of r.decimals node)) refl run spells (typed, ap (refusals_of r.decimals) e ∙ f, (node, e, refl))
+node_due r c program None [] e f run spells typed = absurd (cc)
 
 typed_due : WellTypedIsUnrefused → (r : Request) (c : Contents) (program : List Declaration) (rs : List TypeRefusal) → type_refusals r.decimals program ≡ rs → r.mode ≡ mode.Run → Spells c program → IsDue r c (typed_answer r program rs)
-typed_due law r c program [] e run spells = built_due r c program (is_runnable program) refl run spells ((law r.decimals program).1 e)
+typed_due law r c program [] e run spells =
+    let asked : Option Node = expanded_node r.decimals r.node program in
+    node_due r c program asked (refusals_of r.decimals asked) refl refl run spells ((law r.decimals program).1 e)
 typed_due law r c program (reason ∷ others) e run spells = ill_typed program reason run spells (others, e)
 
 mode_due : WellTypedIsUnrefused → (r : Request) (c : Contents) (program : List Declaration) (m : Mode) → r.mode ≡ m → Spells c program → IsDue r c (mode_answer m r program)
@@ -66,23 +83,38 @@ data Row (r : Request) (c : Contents) (answer : Answer) : Type 0 where
   unread : (reason : ParseRefusal) → length c.scenario ≤ longest_text → IsRefusal c.scenario reason → answer ≡ refused (refusal.Text reason) → Row r c answer
   read : (program : List Declaration) → Spells c program → answer ≡ program_answer r program → Row r c answer
 
-not_true : (b : Bool) → (b ≡ true → ⊥) → b ≡ false
-not_true true h = absurd (h refl)
-not_true false h = refl
-
 -- the answer of a program in the mode `run`
 in_run : (r : Request) (program : List Declaration) (rs : List TypeRefusal) → r.mode ≡ mode.Run → type_refusals r.decimals program ≡ rs → typed_answer r program rs ≡ program_answer r program
 in_run r program rs run e = sym (ap (λ m. mode_answer m r program) run ∙ ap (typed_answer r program) e)
 
-well_typed : WellTypedIsUnrefused → (r : Request) (program : List Declaration) (is : Bool) → r.mode ≡ mode.Run → IsWellTyped r.decimals program → is_runnable program ≡ is → built_answer r program is ≡ program_answer r program
-well_typed law r program is run typed e = sym (ap (built_answer r program) e) ∙ in_run r program [] run ((law r.decimals program).0 typed)
+-- that of one which is well typed
+expanded_read : WellTypedIsUnrefused → (r : Request) (program : List Declaration) → r.mode ≡ mode.Run → IsWellTyped r.decimals program → expanded_answer r program ≡ program_answer r program
+expanded_read law r program run typed = in_run r program [] run ((law r.decimals program).0 typed)
+
+-- that of one whose node has a scenario
+scene_read : WellTypedIsUnrefused → (r : Request) (program : List Declaration) (s : Scene) → r.mode ≡ mode.Run → IsSceneOf r program s → scene_answer r s ≡ program_answer r program
+scene_read law r program s run is =
+    ap (scene_answer r) is.2.2
+    ∙ sym (ap (λ asked. node_answer r asked []) is.2.1)
+    ∙ sym (ap (node_answer r (expanded_node r.decimals r.node program)) is.1)
+    ∙ expanded_read law r program run is.0
+
+-- and inputs
+fed_some : (r : Request) (s : Scene) (inputs : List Variable) → inputs ≢ [] → fed_answer r s inputs ≡ refused refusal.NeedsController
+fed_some r s [] some = absurd (some refl)
+fed_some r s (v ∷ vs) some = refl
 
 row : WellTypedIsUnrefused → (r : Request) (c : Contents) (answer : Answer) → IsDue r c answer → Row r c answer
 row law r c answer (too_long l) = long l refl
 row law r c answer (no_program reason short is) = unread reason short is refl
 row law r c answer (ill_typed program reason run spells first) = read program spells (in_run r program (reason ∷ first.0) run first.1)
-row law r c answer (not_built program run spells typed never) = read program spells (well_typed law r program false run typed (not_true (is_runnable program) never))
-row law r c answer (runs program run spells typed can) = read program spells (well_typed law r program true run typed can)
+row law r c answer (not_expanded program reason run spells typed first) =
+    read program spells (sym (ap (node_answer r (expanded_node r.decimals r.node program)) first.1) ∙ expanded_read law r program run typed)
+row law r c answer (not_built program s run spells is plain) = read program spells (sym (ap (built_answer r s) plain) ∙ scene_read law r program s run is)
+row law r c answer (no_controller program s run spells is plain some) =
+    read program spells (sym (fed_some r s s.inputs some) ∙ sym (ap (built_answer r s) plain) ∙ scene_read law r program s run is)
+row law r c answer (runs program s run spells is plain none) =
+    read program spells (sym (ap (fed_answer r s) none) ∙ sym (ap (built_answer r s) plain) ∙ scene_read law r program s run is)
 row law r c answer (prints program print spells) = read program spells (sym (ap (λ m. mode_answer m r program) print))
 
 rows_agree : OneAnswer → (r : Request) (c : Contents) (answer other : Answer) → Row r c answer → Row r c other → answer ≡ other

@@ -6,7 +6,6 @@ use Rattle.std.proofs.lemmas.List.{length-replicate}
 use Rattle.std.specs.Io.KnownBytes.{Appends, Keeps}
 use Rattle.std.specs.declared.option.Option.{Option}
 use Rattle.std.specs.declared.result.Result.{Result}
-use Rattle.lt_ast.specs.Syntax as s
 use Rattle.lt_ast.specs.Syntax.{Declaration}
 use Rattle.lt_io.specs.Causes.{HasCause, WhereTold}
 use Rattle.lt_parser.specs.Text.{IsProgramOf, IsRefusal}
@@ -25,7 +24,6 @@ use Rattle.lt_call.specs.Cut.{IsCut, by_file, by_trace, by_memory, Gives}
 use Rattle.lt_call.specs.Due.{Answer, no_program, too_long, refused, done}
 use Rattle.lt_call.specs.Laws.{ContentsHaveOneDueAnswer}
 use Rattle.lt_call.specs.Outside.{Sink, Outside, faults_of}
-use Rattle.lt_call.specs.Prepared.{scene_of}
 use Rattle.lt_call.specs.Settings.{longest_text}
 use Rattle.lt_call.specs.Words.{Request}
 use Rattle.lt_io.specs.Sending.{AppendsPart}
@@ -88,13 +86,6 @@ well_typed law r program other runs old new s e typed h =
     let P : List Declaration → Type 0 = λ p. Gives (typed_answer r p []) old new s in
     let Q : List TypeRefusal → Type 0 = λ rs. Gives (typed_answer r program rs) old new s in
     subst Q (sym ((law r.decimals program).0 typed)) (subst P e h)
-
--- a scene that programs are given has no inputs
-pub no_inputs : (decimals : ℕ) (program : List Declaration) → (scene_of decimals program).inputs ≡ []
-no_inputs decimals [] = refl
-no_inputs decimals (s.node name inputs outputs t ∷ more) = refl
-no_inputs decimals (s.macro_declaration m ∷ more) = refl
-no_inputs decimals (s.exception_declaration names ∷ more) = refl
 
 -- A text.
 

@@ -4,8 +4,8 @@ pub mod Gives
 pub mod Limits
 pub mod Numbers
 pub mod Options
-pub mod Prepared
 pub mod Rooms
 pub mod Runs
 pub mod Texts
 pub mod Wholes
+pub mod Expansions

@@ -2,8 +2,7 @@
 use Rattle.std.proofs.Common.{◌≡◌, ℕ, ◌-◌, ◌≤◌, List, [], ◌∷◌, length, map, take, drop, get_or, Some, ap, sym, ◌∙◌, arith}
 use Rattle.std.proofs.lemmas.List.{take_rest}
 use Rattle.std.specs.Option.{option_and_then}
-use Rattle.lt_call.specs.Words.{with_option, with_options}
-use Rattle.lt_call.specs.declared.words.Options.{Options}
+use Rattle.lt_call.specs.Words.{Options, with_option, with_options}
 
 -- behind an option that may be given, the further words go on from the options that there are then
 pub one_more : {X : Type 0} (text : X → List ℕ) (given more : Options) (words : List X) (option word : X) → 2 ≤ length words → option ≡ get_or words 0 option → word ≡ get_or words 1 word → with_option given (text option) (text word) ≡ Some more → with_options given (map text words) ≡ with_options more (map text (take (length words - 2) (drop 2 words)))

@@ -8,15 +8,17 @@ use Rattle.std.specs.declared.result.Result.{Result}
 use Rattle.lt_rif.specs.Trace.{end_text}
 use Rattle.lt_rif.specs.declared.end.End.{End}
 use Rattle.lt_rif.specs.declared.end.End.TheVariants as end
-use Rattle.lt_term.specs.Expression.{Expression}
+use Rattle.lt_formula.specs.Expression.{Expression}
 use Rattle.lt_term.specs.Process.{Process}
-use Rattle.lt_term.specs.Offers.{Leaf, vanish, nothing, go, offers_of}
-use Rattle.lt_term.specs.Solution.{first_solution}
-use Rattle.lt_term.specs.Scene.{Scene, Configuration, output_domains}
+use Rattle.lt_term.specs.Configuration.{Configuration}
+use Rattle.lt_term.specs.Offers.{TermLeaf}
+use Rattle.lt_term.specs.Scene.{Scene}
+use Rattle.lt_term.specs.Tree.{vanish, nothing, raised, go}
 use Rattle.lt_step.specs.Drawn.{drawn_leaf}
+use Rattle.lt_step.specs.Solved.{solution_of}
 use Rattle.lt_num.specs.declared.value.Value.{Value}
-use Rattle.lt_step.specs.Instant.{Instant, values, normal, deadlock, instant_of, go_instant, leaf_instant}
-use Rattle.lt_step.specs.Machine.{Phase, running, finished, State, Step, outputs_in, answered, step_of, step_in}
+use Rattle.lt_step.specs.Instant.{Instant, values, normal, deadlock, instant_of, go_instant, leaf_instant, offered}
+use Rattle.lt_step.specs.Machine.{Phase, running, finished, State, Step, outputs_in, outputs_of, answered, step_of, step_in}
 use Rattle.lt_step.specs.declared.machine.Outcome.{Outcome}
 use Rattle.lt_step.specs.declared.machine.Outcome.TheVariants as outcome
 use Rattle.lt_call.specs.Call.{blames}
@@ -44,18 +46,18 @@ deadlock_next s c (values vs next) new left h = let e = ap (λ (step : Step). st
 deadlock_next s c normal new left h = let e = ap (λ (step : Step). step.outcome) h in cc
 deadlock_next s c deadlock new left h = refl
 
-normal_in : (s : Scene) (p : Phase) (step : ℕ) (new : State) → IsAt step p → record { outcome = outcome.Normal; state = new } ≡ step_in s p → (left : ℕ) → rest_in s (suc left) p ≡ ended s end.Normal (step - 1)
-normal_in s (running c) step new at h left = normal_next s c (instant_of s c) new left h ∙ ap (λ n. ended s end.Normal (n - 1)) at
+normal_in : (s : Scene) (p : Phase) (step : ℕ) (new : State) → IsAt step p → record { outcome = outcome.Normal; state = new } ≡ step_in s p [] → (left : ℕ) → rest_in s (suc left) p ≡ ended s end.Normal (step - 1)
+normal_in s (running c) step new at h left = normal_next s c (instant_of s c []) new left h ∙ ap (λ n. ended s end.Normal (n - 1)) at
 normal_in s finished step new at h left = absurd at
 
-deadlock_in : (s : Scene) (p : Phase) (step : ℕ) (new : State) → IsAt step p → record { outcome = outcome.Deadlock; state = new } ≡ step_in s p → (left : ℕ) → rest_in s (suc left) p ≡ ended s end.Deadlock step
-deadlock_in s (running c) step new at h left = deadlock_next s c (instant_of s c) new left h ∙ ap (λ n. ended s end.Deadlock n) at
+deadlock_in : (s : Scene) (p : Phase) (step : ℕ) (new : State) → IsAt step p → record { outcome = outcome.Deadlock; state = new } ≡ step_in s p [] → (left : ℕ) → rest_in s (suc left) p ≡ ended s end.Deadlock step
+deadlock_in s (running c) step new at h left = deadlock_next s c (instant_of s c []) new left h ∙ ap (λ n. ended s end.Deadlock n) at
 deadlock_in s finished step new at h left = absurd at
 
-pub rest_normal : (m new : State) (step : ℕ) → IsAt step m.phase → record { outcome = outcome.Normal; state = new } ≡ step_of m → (left : ℕ) → rest_of m (suc left) ≡ ended m.scene end.Normal (step - 1)
+pub rest_normal : (m new : State) (step : ℕ) → IsAt step m.phase → record { outcome = outcome.Normal; state = new } ≡ step_of m [] → (left : ℕ) → rest_of m (suc left) ≡ ended m.scene end.Normal (step - 1)
 rest_normal m new step at h left = normal_in m.scene m.phase step new at h left
 
-pub rest_deadlock : (m new : State) (step : ℕ) → IsAt step m.phase → record { outcome = outcome.Deadlock; state = new } ≡ step_of m → (left : ℕ) → rest_of m (suc left) ≡ ended m.scene end.Deadlock step
+pub rest_deadlock : (m new : State) (step : ℕ) → IsAt step m.phase → record { outcome = outcome.Deadlock; state = new } ≡ step_of m [] → (left : ℕ) → rest_of m (suc left) ≡ ended m.scene end.Deadlock step
 rest_deadlock m new step at h left = deadlock_in m.scene m.phase step new at h left
 
 limit_in : (s : Scene) (p : Phase) (k : ℕ) → IsAt (k + 1) p → rest_in s 0 p ≡ ended s end.Limit k
@@ -70,19 +72,20 @@ rest_limit m k at = limit_in m.scene m.phase k at
 
 -- what an instant leads to is the next one, and has its outputs
 abbrev Leads : Configuration → Instant → Type 0
-Leads c (values vs next) = (next.step ≡ c.step + 1) × (next.outputs ≡ vs)
+Leads c (values vs next) = (next.step ≡ c.step + 1) × (outputs_of next.previous ≡ vs)
 Leads c normal = Unit {0}
 Leads c deadlock = Unit {0}
 
-leads_go : (c : Configuration) (n : Process Expression) (o : Option (List Value)) → Leads c (go_instant c n o)
-leads_go c n None = tt
-leads_go c n (Some vs) = (refl, refl)
+leads_go : (c : Configuration) (inputs : List Value) (n : Process Expression) (o : Option (List Value)) → Leads c (go_instant c inputs n o)
+leads_go c inputs n None = tt
+leads_go c inputs n (Some vs) = (refl, refl)
 
-leads_leaf : (s : Scene) (c : Configuration) (l : Option (Leaf Expression)) → Leads c (leaf_instant s c l)
-leads_leaf s c None = tt
-leads_leaf s c (Some vanish) = tt
-leads_leaf s c (Some nothing) = tt
-leads_leaf s c (Some (go es n)) = leads_go c n (first_solution es (output_domains s))
+leads_leaf : (s : Scene) (c : Configuration) (inputs : List Value) (l : Option (TermLeaf Expression)) → Leads c (leaf_instant s c inputs l)
+leads_leaf s c inputs None = tt
+leads_leaf s c inputs (Some vanish) = tt
+leads_leaf s c inputs (Some nothing) = tt
+leads_leaf s c inputs (Some (raised z)) = tt
+leads_leaf s c inputs (Some (go es ls n)) = leads_go c inputs n (solution_of s es)
 
 -- what is known after a step of this number that answered values
 abbrev LeavesRest : Scene → ℕ → Play → State → ℕ → Type 0
@@ -97,13 +100,13 @@ values_next s c (values vs next) new left l h =
 values_next s c normal new left l h = absurd (let e = ap (λ (step : Step). step.outcome) h in cc)
 values_next s c deadlock new left l h = absurd (let e = ap (λ (step : Step). step.outcome) h in cc)
 
-values_in : (s : Scene) (p : Phase) (step : ℕ) (new : State) → IsAt step p → record { outcome = outcome.Values; state = new } ≡ step_in s p → (left : ℕ) → LeavesRest s step (rest_in s (suc left) p) new left
+values_in : (s : Scene) (p : Phase) (step : ℕ) (new : State) → IsAt step p → record { outcome = outcome.Values; state = new } ≡ step_in s p [] → (left : ℕ) → LeavesRest s step (rest_in s (suc left) p) new left
 values_in s (running c) step new at h left =
     let P : ℕ → Type 0 = λ k. LeavesRest s k (rest_in s (suc left) (running c)) new left in
-    subst P at (values_next s c (instant_of s c) new left (leads_leaf s c (drawn_leaf (output_domains s) (offers_of c.process))) h)
+    subst P at (values_next s c (instant_of s c []) new left (leads_leaf s c [] (drawn_leaf s (offered s c))) h)
 values_in s finished step new at h left = absurd at
 
-pub rest_values : (m new : State) (step : ℕ) → IsAt step m.phase → record { outcome = outcome.Values; state = new } ≡ step_of m → (left : ℕ) → LeavesRest m.scene step (rest_of m (suc left)) new left
+pub rest_values : (m new : State) (step : ℕ) → IsAt step m.phase → record { outcome = outcome.Values; state = new } ≡ step_of m [] → (left : ℕ) → LeavesRest m.scene step (rest_of m (suc left)) new left
 rest_values m new step at h left = values_in m.scene m.phase step new at h left
 
 -- A step keeps the scene.
@@ -113,15 +116,15 @@ answered_there s (values vs next) = refl
 answered_there s normal = refl
 answered_there s deadlock = refl
 
-stepped_there : (s : Scene) (p : Phase) → (step_in s p).state.scene ≡ s
-stepped_there s (running c) = answered_there s (instant_of s c)
+stepped_there : (s : Scene) (p : Phase) → (step_in s p []).state.scene ≡ s
+stepped_there s (running c) = answered_there s (instant_of s c [])
 stepped_there s finished = refl
 
-pub same_scene : (m new : State) (o : Outcome) → record { outcome = o; state = new } ≡ step_of m → new.scene ≡ m.scene
+pub same_scene : (m new : State) (o : Outcome) → record { outcome = o; state = new } ≡ step_of m [] → new.scene ≡ m.scene
 same_scene m new o h = ap (λ (step : Step). step.state.scene) h ∙ stepped_there m.scene m.phase
 
 -- so its writer is the same
-pub is_next : (m new : State) (o : Outcome) (writer : Writer) → record { outcome = o; state = new } ≡ step_of m → IsFor m.scene writer → IsFor new.scene writer
+pub is_next : (m new : State) (o : Outcome) (writer : Writer) → record { outcome = o; state = new } ≡ step_of m [] → IsFor m.scene writer → IsFor new.scene writer
 is_next m new o writer h is = let P : Scene → Type 0 = λ s. IsFor s writer in subst P (sym (same_scene m new o h)) is
 
 -- Whichever instant comes next, a text is put out.
@@ -136,7 +139,7 @@ first_next s c normal left = (end_text end.Normal s.exceptions (c.step - 1), [],
 first_next s c deadlock left = (end_text end.Deadlock s.exceptions c.step, [], refl)
 
 first_in : (s : Scene) (p : Phase) (step left : ℕ) → IsAt step p → HasFirst (rest_in s (suc left) p)
-first_in s (running c) step left at = first_next s c (instant_of s c) left
+first_in s (running c) step left at = first_next s c (instant_of s c []) left
 first_in s finished step left at = absurd at
 
 -- memory ran out before the next instant was made

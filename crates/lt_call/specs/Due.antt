@@ -1,16 +1,21 @@
 -- What is due to a request.
-use Rattle.std.specs.Prelude.{◌≡◌, ℕ, ◌<◌, ◌≤◌, List, [], ◌∷◌, length}
+use Rattle.std.specs.Prelude.{◌≡◌, ◌≢◌, ℕ, ◌<◌, ◌≤◌, false, IsTrue, List, [], ◌∷◌, length, Some}
 use Rattle.lt_ast.specs.Syntax.{Declaration}
 use Rattle.lt_ast.specs.Printed.{printed}
+use Rattle.lt_expand.specs.Refusals.{expand_refusals}
+use Rattle.lt_expand.specs.Scenes.{scene_of}
+use Rattle.lt_expand.specs.declared.refusal.ExpandRefusal.{ExpandRefusal}
+use Rattle.lt_macros.specs.Expanded.{Node}
+use Rattle.lt_macros.specs.Expansion.{expanded_node}
 use Rattle.lt_parser.specs.Text.{IsProgramOf, IsRefusal}
 use Rattle.lt_parser.specs.declared.refusal.ParseRefusal.{ParseRefusal}
+use Rattle.lt_step.specs.Plain.{is_plain}
+use Rattle.lt_term.specs.Scene.{Scene}
 use Rattle.lt_types.specs.Refusals.{type_refusals}
 use Rattle.lt_types.specs.Typing.{IsWellTyped}
 use Rattle.lt_types.specs.declared.refusal.TypeRefusal.{TypeRefusal}
-use Rattle.lt_call.specs.Form.{IsRunnable}
 use Rattle.lt_call.specs.Pieces.{Piece, trace_piece}
 use Rattle.lt_call.specs.Play.{Play, play_of}
-use Rattle.lt_call.specs.Prepared.{scene_of}
 use Rattle.lt_call.specs.Settings.{longest_text, default_seed}
 use Rattle.lt_call.specs.Words.{Request}
 use Rattle.lt_call.specs.declared.status.Status.{Status}
@@ -49,9 +54,19 @@ Spells contents program = (length contents.scenario ≤ longest_text) × IsProgr
 abbrev pub IsTypeRefusal : ℕ → List Declaration → TypeRefusal → Type 0
 IsTypeRefusal decimals program reason = (others : List TypeRefusal) × (type_refusals decimals program ≡ reason ∷ others)
 
--- the run of a program that can be run
-abbrev pub play_of_program : Request → List Declaration → Play
-play_of_program request program = play_of (scene_of request.decimals program) (record { seed = default_seed; limit = request.limit })
+-- this is what is refused first of the node that is asked for
+abbrev pub IsExpandRefusal : Request → List Declaration → ExpandRefusal → Type 0
+IsExpandRefusal request program reason = (others : List ExpandRefusal) × (expand_refusals request.decimals request.node program ≡ reason ∷ others)
+
+-- The program is well typed, nothing is refused of the node that is asked for, and this is its scenario.
+abbrev pub IsSceneOf : Request → List Declaration → Scene → Type 0
+IsSceneOf request program scene =
+    IsWellTyped request.decimals program × (expand_refusals request.decimals request.node program ≡ [])
+    × ((node : Node) × (expanded_node request.decimals request.node program ≡ Some node) × (scene ≡ scene_of request.decimals node))
+
+-- the run of a scenario
+abbrev pub play_of_scene : Request → Scene → Play
+play_of_scene request scene = play_of scene (record { seed = default_seed; limit = request.limit })
 
 -- The answer that is due to a request where the files have these contents: a row a cause, in the order in which the
 -- causes are tried.
@@ -62,9 +77,13 @@ pub data IsDue (request : Request) (contents : Contents) : Answer → Type 0 whe
   no_program : (reason : ParseRefusal) → length contents.scenario ≤ longest_text → IsRefusal contents.scenario reason → IsDue request contents (refused (refusal.Text reason))
   -- in the mode `run`: the program isn't well typed, for this reason
   ill_typed : (program : List Declaration) (reason : TypeRefusal) → request.mode ≡ mode.Run → Spells contents program → IsTypeRefusal request.decimals program reason → IsDue request contents (refused (refusal.Types reason))
-  -- it is well typed, and can't be run
-  not_built : (program : List Declaration) → request.mode ≡ mode.Run → Spells contents program → IsWellTyped request.decimals program → (IsRunnable program → ⊥) → IsDue request contents (refused refusal.NotBuilt)
-  -- it is well typed, and is run
-  runs : (program : List Declaration) → request.mode ≡ mode.Run → Spells contents program → IsWellTyped request.decimals program → IsRunnable program → IsDue request contents (ran (play_of_program request program))
+  -- it is well typed, and its node has no scenario, for this reason
+  not_expanded : (program : List Declaration) (reason : ExpandRefusal) → request.mode ≡ mode.Run → Spells contents program → IsWellTyped request.decimals program → IsExpandRefusal request program reason → IsDue request contents (refused (refusal.Expand reason))
+  -- the scenario can't be run
+  not_built : (program : List Declaration) (scene : Scene) → request.mode ≡ mode.Run → Spells contents program → IsSceneOf request program scene → is_plain scene ≡ false → IsDue request contents (refused refusal.NotBuilt)
+  -- it can, and has inputs, which nobody gives values
+  no_controller : (program : List Declaration) (scene : Scene) → request.mode ≡ mode.Run → Spells contents program → IsSceneOf request program scene → IsTrue (is_plain scene) → scene.inputs ≢ [] → IsDue request contents (refused refusal.NeedsController)
+  -- it can, and is run
+  runs : (program : List Declaration) (scene : Scene) → request.mode ≡ mode.Run → Spells contents program → IsSceneOf request program scene → IsTrue (is_plain scene) → scene.inputs ≡ [] → IsDue request contents (ran (play_of_scene request scene))
   -- in the mode `print`: the program is printed
   prints : (program : List Declaration) → request.mode ≡ mode.Print → Spells contents program → IsDue request contents (done (printed program))

@@ -5,10 +5,6 @@ pub mod Settings
 pub mod Words
 -- the request that the code makes of them
 pub mod Asked
--- which programs can be run
-pub mod Form
--- the scene of such a program
-pub mod Prepared
 -- what is put out, piece by piece
 pub mod Pieces
 -- a run, and how it ends

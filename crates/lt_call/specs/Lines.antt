@@ -1,6 +1,7 @@
 -- What a call says on standard error.
 use Rattle.std.specs.Prelude.{ℕ, List, [], ◌∷◌, ◌++◌, None, Some, codes, decimal}
 use Rattle.std.specs.declared.option.Option.{Option}
+use Rattle.lt_expand.specs.Codes.{expand_code, expand_place}
 use Rattle.lt_parser.specs.Refusals.{parse_code, parse_place}
 use Rattle.lt_rif.specs.Trace.{line, spaced, end_words}
 use Rattle.lt_rif.specs.declared.end.End.{End}
@@ -25,14 +26,18 @@ abbrev pub refusal_code : Refusal → List ℕ
 refusal_code refusal.TooLong = codes "file.TooLong"
 refusal_code (refusal.Text reason) = parse_code reason
 refusal_code (refusal.Types reason) = type_code reason
+refusal_code (refusal.Expand reason) = expand_code reason
 refusal_code refusal.NotBuilt = codes "early.NotBuilt"
+refusal_code refusal.NeedsController = codes "run.NeedsController"
 
 -- its place in the text, where it has one
 abbrev pub refusal_place : Refusal → Option ℕ
 refusal_place refusal.TooLong = None
 refusal_place (refusal.Text reason) = parse_place reason
 refusal_place (refusal.Types reason) = type_place reason
+refusal_place (refusal.Expand reason) = expand_place reason
 refusal_place refusal.NotBuilt = None
+refusal_place refusal.NeedsController = None
 
 -- a place after a code, where there is one
 abbrev pub at_place : Option ℕ → List ℕ

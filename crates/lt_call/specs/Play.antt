@@ -5,7 +5,8 @@ use Rattle.lt_num.specs.declared.value.Value.{Value}
 use Rattle.lt_rif.specs.Trace.{DeclaredVariable, header_text, step_text, end_text}
 use Rattle.lt_rif.specs.declared.end.End.{End}
 use Rattle.lt_rif.specs.declared.end.End.TheVariants.{Normal, Limit, Deadlock}
-use Rattle.lt_term.specs.Scene.{Variable, Scene, Configuration, first_configuration}
+use Rattle.lt_term.specs.Configuration.{Configuration, first_configuration}
+use Rattle.lt_term.specs.Scene.{Variable, Scene}
 use Rattle.lt_step.specs.Instant as instant
 use Rattle.lt_step.specs.Instant.{Instant, instant_of}
 use Rattle.lt_call.specs.Pieces.{Piece, trace_piece}
@@ -55,7 +56,7 @@ with_instant s c instant.deadlock rest = ended s Deadlock c.step
 -- a run of at most so many further steps from here
 abbrev pub play_from : Scene → ℕ → Configuration → Play
 play_from s zero c = ended s Limit (c.step - 1)
-play_from s (suc left) c = with_instant s c (instant_of s c) (play_from s left)
+play_from s (suc left) c = with_instant s c (instant_of s c []) (play_from s left)
 
 -- the run of a scenario with nobody beside the tester
 abbrev pub play_of : Scene → Setup → Play

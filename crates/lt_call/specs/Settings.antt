@@ -23,10 +23,6 @@ most_decimals = numbers.most_decimals
 abbrev pub default_decimals : ℕ
 default_decimals = 2
 
--- the most outputs of a program that runs
-abbrev pub most_outputs : ℕ
-most_outputs = 8
-
 -- the seed of a run, for which no words ask
 abbrev pub default_seed : ℕ
 default_seed = 0

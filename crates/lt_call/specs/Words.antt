@@ -8,7 +8,6 @@ use Rattle.std.specs.declared.result.Result.{Result}
 use Rattle.lt_call.specs.Settings.{most_steps, default_steps, most_decimals, default_decimals}
 use Rattle.lt_call.specs.declared.status.UsageKind.{UsageKind}
 use Rattle.lt_call.specs.declared.status.UsageKind.TheVariants as usage
-use Rattle.lt_call.specs.declared.words.Options.{Options}
 use Rattle.lt_call.specs.declared.words.Mode.{Mode}
 use Rattle.lt_call.specs.declared.words.Mode.TheVariants.{Run, Print}
 
@@ -21,6 +20,8 @@ pub record Request : Type 0 where
   pub limit : ℕ
   -- how many decimals a real has
   pub decimals : ℕ
+  -- the name of the node, where one is given
+  pub node : Option (List ℕ)
 
 -- its numbers are no greater than words may ask for
 abbrev pub IsWithin : Request → Type 0
@@ -64,27 +65,39 @@ precision_of word = as_decimals (limit_of word)
 
 -- Options, one after another.
 
+-- the options that words give
+pub record Options : Type 0 where
+  pub limit : Option ℕ
+  pub decimals : Option ℕ
+  pub node : Option (List ℕ)
+
 -- the same of options
 abbrev pub AreWithin : Options → Type 0
 AreWithin given = IfSome given.limit (λ n. n ≤ most_steps) × IfSome given.decimals (λ n. n ≤ most_decimals)
 
 -- a limit, where there is none before
 abbrev pub with_limit : Options → Option ℕ → Option ℕ → Option Options
-with_limit given None (Some n) = Some (record { limit = Some n; decimals = given.decimals })
+with_limit given None (Some n) = Some (record given { limit = Some n })
 with_limit given None None = None
 with_limit given (Some before) word = None
 
 -- a number of decimals, where there is none before
 abbrev pub with_decimals : Options → Option ℕ → Option ℕ → Option Options
-with_decimals given None (Some n) = Some (record { limit = given.limit; decimals = Some n })
+with_decimals given None (Some n) = Some (record given { decimals = Some n })
 with_decimals given None None = None
 with_decimals given (Some before) word = None
+
+-- the name of a node, where there is none before
+abbrev pub with_node : Options → Option (List ℕ) → List ℕ → Option Options
+with_node given None name = Some (record given { node = Some name })
+with_node given (Some before) name = None
 
 -- one more option with its word
 abbrev pub with_option : Options → List ℕ → List ℕ → Option Options
 with_option given option word =
     if bytes_eq option (codes "-l") then with_limit given given.limit (limit_of word)
     else if bytes_eq option (codes "--precision") then with_decimals given given.decimals (precision_of word)
+    else if bytes_eq option (codes "--node") then with_node given given.node word
     else None
 
 -- these options, and those that words give after them; None where the words are no further options
@@ -95,7 +108,7 @@ with_options given (option ∷ word ∷ words) = option_and_then (λ more. with_
 
 -- no option
 abbrev pub no_options : Options
-no_options = record { limit = None; decimals = None }
+no_options = record { limit = None; decimals = None; node = None }
 
 -- the mode that a word is
 abbrev pub mode_of : List ℕ → Option Mode
@@ -105,7 +118,7 @@ mode_of word = if bytes_eq word (codes "run") then Some Run else if bytes_eq wor
 abbrev pub in_mode : Option Mode → List ℕ → Option Options → Result Request UsageKind
 in_mode mode file None = Err usage.Words
 in_mode None file (Some given) = Err usage.Mode
-in_mode (Some mode) file (Some given) = Ok (record { mode = mode; file = file; limit = unwrap_or given.limit default_steps; decimals = unwrap_or given.decimals default_decimals })
+in_mode (Some mode) file (Some given) = Ok (record { mode = mode; file = file; limit = unwrap_or given.limit default_steps; decimals = unwrap_or given.decimals default_decimals; node = given.node })
 
 -- what the words ask for, or what is wrong with them
 abbrev pub requested : List (List ℕ) → Result Request UsageKind

@@ -3,8 +3,6 @@
 pub mod Statuses
 -- the answer that is due to a program
 pub mod Programs
--- the functions that prepare a scenario
-pub mod Preparing
 -- the writer of a run
 pub mod Writer
 -- a run that is under way

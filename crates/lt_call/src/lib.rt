@@ -6,7 +6,6 @@
 #![tactic(auto)]
 
 mod laws;
-mod prepare;
 mod put;
 mod run;
 mod say;

@@ -138,7 +138,9 @@ fn refusal_code(reason: Refusal) -> &'static [u8]
         Refusal::TooLong => b"file.TooLong",
         Refusal::Text(refusal) => refusal.code().as_bytes(),
         Refusal::Types(refusal) => refusal.code().as_bytes(),
+        Refusal::Expand(refusal) => refusal.code().as_bytes(),
         Refusal::NotBuilt => b"early.NotBuilt",
+        Refusal::NeedsController => b"run.NeedsController",
     }
 }
 
@@ -148,7 +150,8 @@ fn refusal_place(reason: Refusal) -> Option<usize>
     match reason {
         Refusal::Text(refusal) => refusal.place(),
         Refusal::Types(refusal) => refusal.place(),
-        Refusal::TooLong | Refusal::NotBuilt => None,
+        Refusal::Expand(refusal) => refusal.place(),
+        Refusal::TooLong | Refusal::NotBuilt | Refusal::NeedsController => None,
     }
 }
 

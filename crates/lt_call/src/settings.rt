@@ -1,7 +1,7 @@
 //! Numbers that a call goes by: `docs/COMMAND.md` has them.
 
 ghost use Rattle.std.specs.Prelude.{◌≡◌};
-ghost use Rattle.lt_call.specs.Settings.{longest_text, most_steps, default_steps, most_decimals, default_decimals, most_outputs, default_seed, default_budget};
+ghost use Rattle.lt_call.specs.Settings.{longest_text, most_steps, default_steps, most_decimals, default_decimals, default_seed, default_budget};
 
 /// The longest text of a scenario, in bytes.
 pub const LONGEST_TEXT: usize = 1_048_576;
@@ -18,9 +18,6 @@ pub const MOST_DECIMALS: u32 = 6;
 /// How many decimals a real has where words don't say.
 pub const DEFAULT_DECIMALS: u32 = 2;
 
-/// The most outputs of a program that runs.
-pub const MOST_OUTPUTS: usize = 8;
-
 /// The seed of every run.
 pub const DEFAULT_SEED: u64 = 0;
 
@@ -34,7 +31,6 @@ pub fn settings_are_as_defined()
     ensures default_steps { DEFAULT_STEPS ≡ default_steps }
     ensures most_decimals { MOST_DECIMALS ≡ most_decimals }
     ensures default_decimals { DEFAULT_DECIMALS ≡ default_decimals }
-    ensures most_outputs { MOST_OUTPUTS ≡ most_outputs }
     ensures default_seed { DEFAULT_SEED ≡ default_seed }
     ensures default_budget { DEFAULT_BUDGET ≡ default_budget }
 {}

@@ -3,6 +3,7 @@
 ghost use Rattle.std.specs.Prelude.{◌≡◌};
 ghost use Rattle.lt_call.specs.Lines.{end_code, status_code};
 
+use lt_expand::ExpandRefusal;
 use lt_parser::ParseRefusal;
 use lt_rif::End;
 use lt_types::TypeRefusal;
@@ -70,8 +71,14 @@ pub enum Refusal {
     /// Its program isn't well typed.
     Types(TypeRefusal),
 
-    /// Its program is none that can be run.
+    /// Its node has no scenario.
+    Expand(ExpandRefusal),
+
+    /// Its scenario is none that can be run.
     NotBuilt,
+
+    /// Its scenario has inputs, and there is no controller to give them values.
+    NeedsController,
 }
 
 /// What failed outside.
@@ -151,6 +158,19 @@ impl From<TypeRefusal> for Status {
         match refusal {
             TypeRefusal::Memory => Status::Memory,
             other => Status::Refused(Refusal::Types(other)),
+        }
+    }
+}
+
+impl From<ExpandRefusal> for Status {
+    ghost use Rattle.lt_call.specs.inner.Statuses.{IsExpandStatus};
+
+    ghost from_gives = { λ refusal status. IsExpandStatus refusal status };
+
+    fn from(refusal: ExpandRefusal) -> Status {
+        match refusal {
+            ExpandRefusal::Memory => Status::Memory,
+            other => Status::Refused(Refusal::Expand(other)),
         }
     }
 }

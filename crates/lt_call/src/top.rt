@@ -9,13 +9,12 @@ ghost use Rattle.lt_call.specs.Asked.{request as request_of};
 ghost use Rattle.lt_call.specs.Call.{Asks, Counts, GivesDue, IsCall, asks_of, blames};
 ghost use Rattle.lt_call.specs.Cut.{Gives};
 ghost use Rattle.lt_call.specs.Due.{done};
-ghost use Rattle.lt_call.specs.Form.{is_runnable};
 ghost use Rattle.lt_call.specs.Settings.{longest_text};
 ghost use Rattle.lt_call.specs.Words.{IsWithin, requested};
-ghost use Rattle.lt_call.specs.inner.Programs.{GivesForText, built_answer, typed_answer};
+ghost use Rattle.lt_term.specs.SceneView.{scene};
+ghost use Rattle.lt_call.specs.inner.Programs.{GivesForText, expanded_answer, scene_answer, typed_answer};
 
 use crate::laws::contents_have_one_due_answer;
-use crate::prepare::{Unprepared, scenario_of};
 use crate::put::put_text;
 use crate::run::run;
 use crate::say::say;
@@ -23,16 +22,18 @@ use crate::settings::{DEFAULT_BUDGET, DEFAULT_SEED, LONGEST_TEXT};
 use crate::status::{Device, Refusal, Status, UsageKind};
 use crate::words::{Mode, Request, requested};
 use lt_ast::{Program, print};
+use lt_expand::expand;
 use lt_io::{FileRefusal, Files, Sink};
 use lt_parser::parse;
-use lt_step::Machine;
-use lt_types::{check, well_typed_is_unrefused};
+use lt_step::{Machine, is_plain};
+use lt_term::Scenario;
+use lt_types::{Typed, check, well_typed_is_unrefused};
 use std::alloc::Global;
 
 /// Does what the words after the program's name ask for: `run FILE` reads the scenario FILE, runs it for at
 /// most as many steps as `-l N` says, 100 where it isn't given, and writes the trace; `print FILE` writes the
-/// program that FILE spells as text. With `--precision N` a real has N decimals, else 2. What went wrong is
-/// said in a line.
+/// program that FILE spells as text. With `--precision N` a real has N decimals, else 2, and `--node NAME` names
+/// the node that is run, else the first one. What went wrong is said in a line.
 pub fn lurette<F: Files, S: Sink, M: Sink>(
     alloc: Global,
     words: &[String],
@@ -136,28 +137,43 @@ fn run_program<S: Sink>(
     // A law that the proof needs: a program that is well typed breaks no rule.
     well_typed_is_unrefused();
     match check(alloc, program, request.decimals) {
-        Ok(typed) => run_typed(alloc, request, typed.program(), trace),
+        Ok(typed) => run_typed(alloc, request, &typed, trace),
         Err(refusal) => Status::from(refusal),
     }
 }
 
-// Runs a program that is well typed.
-fn run_typed<S: Sink>(
-    alloc: Global,
-    request: &Request<'_>,
-    program: &Program,
-    trace: &mut S,
-) -> Status
-    requires { IsWithin (request_of request.now) }
-    ensures gives { Gives (built_answer (request_of request.now) (declarations program.now) (is_runnable (declarations program.now))) (S.written trace.old) (S.written trace.new) result }
+// Runs the node of a program that is asked for.
+fn run_typed<S: Sink>(alloc: Global, request: &Request<'_>, typed: &Typed, trace: &mut S) -> Status
+    requires within { IsWithin (request_of request.now) }
+    requires decimals { typed.now.decimals ≡ request.now.decimals }
+    ensures gives { Gives (expanded_answer (request_of request.now) (declarations typed.now.program)) (S.written trace.old) (S.written trace.new) result }
     ensures no_file { blames result Device.File ≡ false }
     ensures trace { Counts (blames result Device.Trace) (S.faults trace.old) (S.faults trace.new) }
 {
-    let scenario = match scenario_of(alloc, program, request.decimals) {
-        Ok(scenario) => scenario,
-        Err(Unprepared::NotBuilt) => return Status::Refused(Refusal::NotBuilt),
-        Err(Unprepared::Memory) => return Status::Memory,
-    };
+    match expand(alloc, typed, request.node) {
+        Ok(scenario) => run_scenario(alloc, request, scenario, trace),
+        Err(refusal) => Status::from(refusal),
+    }
+}
+
+// Runs a scenario, where it is one that runs and has no inputs.
+fn run_scenario<S: Sink>(
+    alloc: Global,
+    request: &Request<'_>,
+    scenario: Scenario,
+    trace: &mut S,
+) -> Status
+    requires { IsWithin (request_of request.now) }
+    ensures gives { Gives (scene_answer (request_of request.now) (scene scenario)) (S.written trace.old) (S.written trace.new) result }
+    ensures no_file { blames result Device.File ≡ false }
+    ensures trace { Counts (blames result Device.Trace) (S.faults trace.old) (S.faults trace.new) }
+{
+    if !is_plain(&scenario) {
+        return Status::Refused(Refusal::NotBuilt);
+    }
+    if !scenario.inputs.is_empty() {
+        return Status::Refused(Refusal::NeedsController);
+    }
     match Machine::make(alloc, scenario, DEFAULT_SEED, DEFAULT_BUDGET) {
         Ok(mut machine) => run(alloc, &mut machine, request.limit, trace),
         Err(_) => Status::Memory,

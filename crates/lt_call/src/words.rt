@@ -1,9 +1,9 @@
 //! The words of a call: `docs/COMMAND.md` has their rules.
 
-ghost use Rattle.std.specs.Prelude.{◌≡◌, ◌≤◌, map, string_bytes, Ok, Err, MatchResult, IfOk, IfSome};
+ghost use Rattle.std.specs.Prelude.{◌≡◌, ◌≤◌, map, option_map, string_bytes, Ok, Err, MatchResult, IfOk, IfSome};
 ghost use Rattle.lt_call.specs.Words.{AreWithin, IsWithin, requested, mode_of, with_options, with_option, precision_of, limit_of, up_to_most, LimitsArePrinted};
 ghost use Rattle.lt_call.specs.Settings.{most_steps, most_decimals};
-ghost use Rattle.lt_call.specs.Asked.{request};
+ghost use Rattle.lt_call.specs.Asked.{given_by, request};
 
 use crate::settings::{DEFAULT_DECIMALS, DEFAULT_STEPS, MOST_DECIMALS, MOST_STEPS};
 use crate::status::UsageKind;
@@ -32,20 +32,26 @@ pub struct Request<'a> {
 
     /// How many decimals a real has.
     pub decimals: u32,
+
+    /// The name of the node, where one is given.
+    pub node: Option<&'a str>,
 }
 
 // The options that words give.
 #[derive(Clone, Copy)]
-struct Options {
+struct Options<'a> {
     // The most steps.
     limit: Option<u64>,
 
     // How many decimals a real has.
     decimals: Option<u32>,
+
+    // The name of the node.
+    node: Option<&'a str>,
 }
 
-/// What the words ask for: `run FILE` or `print FILE`, and then `-l N` and `--precision N`, in any order and each
-/// at most once.
+/// What the words ask for: `run FILE` or `print FILE`, and then `-l N`, `--precision N` and `--node NAME`, in any
+/// order and each at most once.
 pub fn requested(words: &[String]) -> Result<Request<'_>, UsageKind>
     ensures reads { MatchResult result
         (λ asked. requested (map string_bytes words.now) ≡ Ok (request asked))
@@ -58,6 +64,7 @@ pub fn requested(words: &[String]) -> Result<Request<'_>, UsageKind>
     let none = Options {
         limit: None,
         decimals: None,
+        node: None,
     };
     let Some(given) = with_options(none, options) else {
         return Err(UsageKind::Words);
@@ -68,6 +75,7 @@ pub fn requested(words: &[String]) -> Result<Request<'_>, UsageKind>
             file,
             limit: given.limit.unwrap_or(DEFAULT_STEPS),
             decimals: given.decimals.unwrap_or(DEFAULT_DECIMALS),
+            node: given.node,
         }),
         None => Err(UsageKind::Mode),
     }
@@ -85,10 +93,10 @@ fn mode_named(word: &str) -> Option<Mode>
 }
 
 // These options, and those that words give after them; none where the words are no further options.
-fn with_options(given: Options, words: &[String]) -> Option<Options>
-    requires few { AreWithin given }
-    ensures reads { result ≡ with_options given (map string_bytes words.now) }
-    ensures few { IfSome result AreWithin }
+fn with_options<'a>(given: Options<'a>, words: &'a [String]) -> Option<Options<'a>>
+    requires few { AreWithin (given_by given) }
+    ensures reads { option_map given_by result ≡ with_options (given_by given.entry) (map string_bytes words.now) }
+    ensures few { IfSome result (λ more. AreWithin (given_by more)) }
 {
     match words {
         [] => Some(given),
@@ -99,30 +107,42 @@ fn with_options(given: Options, words: &[String]) -> Option<Options>
 
 // These options and a further one with its word; none where there is no such option, it was given before, or
 // the word is none for it.
-fn with_option(given: Options, option: &str, word: &str) -> Option<Options>
-    requires few { AreWithin given }
-    ensures reads { result ≡ with_option given option.now word.now }
-    ensures few { IfSome result AreWithin }
+fn with_option<'a>(given: Options<'a>, option: &str, word: &'a str) -> Option<Options<'a>>
+    requires few { AreWithin (given_by given) }
+    ensures reads { option_map given_by result ≡ with_option (given_by given.entry) option.now word.now }
+    ensures few { IfSome result (λ more. AreWithin (given_by more)) }
 {
-    match (option, given.limit, given.decimals) {
-        ("-l", None, decimals) => Some(Options {
-            limit: Some(limit(word)?),
+    let Options {
+        limit,
+        decimals,
+        node,
+    } = given;
+    match (option, limit, decimals, node) {
+        ("-l", None, _, _) => Some(Options {
+            limit: Some(limit_in(word)?),
             decimals,
+            node,
         }),
-        ("--precision", limit, None) => Some(Options {
+        ("--precision", _, None, _) => Some(Options {
             limit,
-            decimals: Some(decimals(word)?),
+            decimals: Some(decimals_in(word)?),
+            node,
+        }),
+        ("--node", _, _, None) => Some(Options {
+            limit,
+            decimals,
+            node: Some(word),
         }),
         _ => None,
     }
 }
 
 // The number of decimals that a word is; none where it isn't one.
-fn decimals(word: &str) -> Option<u32>
+fn decimals_in(word: &str) -> Option<u32>
     ensures reads { result ≡ precision_of word.now }
     ensures few { IfSome result (λ n. n ≤ most_decimals) }
 {
-    let number = u32::try_from(limit(word)?).ok()?;
+    let number = u32::try_from(limit_in(word)?).ok()?;
     if number > MOST_DECIMALS {
         return None;
     }
@@ -130,7 +150,7 @@ fn decimals(word: &str) -> Option<u32>
 }
 
 // The limit that a word is; none where it isn't one.
-fn limit(word: &str) -> Option<u64>
+fn limit_in(word: &str) -> Option<u64>
     ensures reads { result ≡ limit_of word.now }
     ensures few { IfSome result (λ n. n ≤ most_steps) }
 {

@@ -1,5 +1,5 @@
 //! Tests of what a run is made of: files and sinks, links to other programs, numbers, replies and traces, drawing,
-//! expressions, the machine of instants, and plants.
+//! expressions, and plants.
 //!
 //! They stand in a crate of their own, so that the crates below are proved without them. What a test
 //! expects follows from the rules of `docs/LANGUAGE.md`, and of `docs/TRACE.md`.
@@ -13,8 +13,6 @@ mod files_and_sinks;
 mod formulas;
 #[cfg(test)]
 mod links;
-#[cfg(test)]
-mod machine;
 #[cfg(test)]
 mod numbers;
 #[cfg(test)]

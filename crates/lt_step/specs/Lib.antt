@@ -1,3 +1,7 @@
+-- which scenarios a machine runs
+pub mod Plain
+-- the first outputs that make constraints true
+pub mod Solved
 -- which leaf of a tree an instant takes
 pub mod Drawn
 -- the rules of one instant

@@ -2,13 +2,16 @@
 
 ghost use Rattle.std.specs.Prelude.{◌≡◌, ◌≢◌, ◌≤◌, ℕ, IsTrue, IfOk, length, map, string_bytes};
 ghost use Rattle.lt_num.specs.Bounds.{most_decimals};
-ghost use Rattle.lt_term.specs.Process.{is_within};
-ghost use Rattle.lt_term.specs.View.{process, table_len};
+ghost use Rattle.lt_term.specs.SceneView.{numbers_of};
+ghost use Rattle.lt_term.specs.View.{process, process_over};
+ghost use Rattle.lt_term.specs.Within.{passes};
 ghost use Rattle.lt_step.specs.Machine.{finished, most_steps, started, step_of, outputs_in, IfRunning, IsRunning};
+ghost use Rattle.lt_step.specs.Plain.{is_plain, is_plain_process};
 
 use crate::drawing::{Taken, drawn};
+use crate::reaction::Reaction;
 use lt_num::Value;
-use lt_term::{Memory, Scenario, Term, Var};
+use lt_term::{Memory, Scenario, Term, Var, body_is_valid};
 use std::alloc::Global;
 
 /// What a step of a machine answers.
@@ -36,9 +39,10 @@ pub struct Machine {
     scenario: Scenario,
     term: Term,
     step: u64,
-    outputs: Vec<Value>,
+    previous: Option<Reaction>,
     is_finished: bool,
-    ghost within: { IsTrue (is_within (table_len scenario.table) (process term)) },
+    ghost within: { IsTrue (passes (numbers_of scenario) (process term)) },
+    ghost plain: { IsTrue (is_plain_process (process_over scenario.table term)) },
 }
 
 impl Machine {
@@ -46,22 +50,25 @@ impl Machine {
     ghost use Rattle.lt_term.specs.SceneView.{scene, variable};
     ghost use Rattle.lt_step.specs.View.{machine_state};
 
-    /// A machine that has not stepped. `_seed` names the words that drawing takes, and `_budget` the
-    /// greatest search; every word is 0 and every search tries all values, so neither has an effect.
+    /// A machine that has not stepped, of a scenario that passes [`is_plain`](crate::is_plain). `_seed` names
+    /// the words that drawing takes, and `_budget` the greatest search; every word is 0 and every search
+    /// tries all values, so neither has an effect.
     pub fn make(
         alloc: Global,
         scenario: Scenario,
         _seed: u64,
         _budget: u64,
     ) -> Result<Machine, Memory>
+        requires { IsTrue (is_plain (scene scenario)) }
         ensures { IfOk result (λ m. machine_state m ≡ started (scene scenario)) }
     {
+        body_is_valid(&scenario);
         let term = scenario.body.clone()?;
         Ok(Machine {
             scenario,
             term,
             step: 1,
-            outputs: Vec::new(alloc),
+            previous: None,
             is_finished: false,
         })
     }
@@ -73,16 +80,17 @@ impl Machine {
     pub fn step(&mut self, alloc: Global, inputs: &[Value]) -> Outcome
         requires inputs { length inputs.now ≡ length (machine_state self.old).scene.inputs }
         requires few { IfRunning (machine_state self.old).phase (λ c. c.step ≤ most_steps) }
-        ensures steps { result ≢ Outcome.Memory → record { outcome = result; state = machine_state self.new } ≡ step_of (machine_state self.old) }
+        ensures steps { result ≢ Outcome.Memory → record { outcome = result; state = machine_state self.new } ≡ step_of (machine_state self.old) inputs.now }
         ensures memory { result ≡ Outcome.Memory → IsRunning (machine_state self.old).phase × (machine_state self.new ≡ record (machine_state self.old) { phase = finished }) }
     {
         if self.is_finished {
             return Outcome::Ended;
         }
-        match drawn(alloc, &self.scenario, &self.term, &mut self.outputs) {
-            Ok(Taken::Go(next)) => {
+        match drawn(alloc, &self.scenario, &self.term, inputs) {
+            Ok(Taken::Go { reaction, next }) => {
                 self.term = next;
                 self.step += 1;
+                self.previous = Some(reaction);
                 Outcome::Values
             }
             Ok(Taken::Vanish) => {
@@ -105,7 +113,10 @@ impl Machine {
     pub fn outputs(&self) -> &[Value]
         ensures { result.now ≡ outputs_in (machine_state self.now).phase }
     {
-        if self.is_finished { &[] } else { &self.outputs }
+        match &self.previous {
+            Some(reaction) if !self.is_finished => &reaction.outputs,
+            _ => &[],
+        }
     }
 
     /// The inputs of the scenario.

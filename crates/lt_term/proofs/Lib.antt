@@ -1,6 +1,9 @@
-pub mod Public
-pub mod Needs
-pub mod Solutions
-pub mod Tables
+pub mod Bodies
+pub mod Natural
+pub mod Passing
+pub mod Sizes
+pub mod Tallies
 pub mod Tests
 pub mod Trees
+pub mod Views
+pub mod Public

@@ -1,146 +1,129 @@
--- Trees as lists of nodes, and trees with other constraints.
-use Rattle.std.proofs.Common.{◌≡◌, ℕ, List, [], ◌∷◌, ◌++◌, refl, ap, sym, ◌∙◌, append-nil, append_assoc, map, Bool, true, ◌&&◌, nat_lt, IsTrue}
+-- Trees as lists of nodes.
+use Rattle.std.proofs.Common.{◌≡◌, ◌<◌, ℕ, suc, length, Ok, Err, OnOk, List, [], ◌∷◌, ◌++◌, refl, ap, sym, ◌∙◌, append-nil, append_assoc, map, All, Vec, Global, subst}
+use Rattle.std.specs.Prelude.{slice_index_or}
 use Rattle.std.proofs.lemmas.Grind.{flat_map-append}
-use Rattle.std.proofs.lemmas.List.{map-append}
-use Rattle.std.proofs.lemmas.List.Folds.{list_all-append}
-use Rattle.std.specs.List.{flat_map, list_all}
-use Rattle.lt_term.specs.Expression.{Expression}
-use Rattle.lt_term.specs.inner.Grafts.{grafted}
-use Rattle.lt_term.proofs.Tests.{both, left_of, right_of}
-use Rattle.lt_term.specs.Process.{Process, eps, con, seq, loop, with_constraints, is_within}
-use Rattle.lt_term.specs.Offers.{vanish, nothing, go, Tree, leaf, pri, with_leaves, followed_by, instant_before, offers_of, Node, leaf_node, pri_node, flattened, leaf_with_constraints, node_with_constraints, leaf_is_within, node_is_within}
+use Rattle.std.proofs.lemmas.List.{get_or-map, map-append}
+use Rattle.std.proofs.lemmas.List.Elements.{All-cons, All-nil}
+use Rattle.std.specs.List.{flat_map}
+use Rattle.std.specs.declared.result.Result.{Result}
+use Rattle.lt_term.specs.declared.last.Last.{Last}
+use Rattle.lt_num.specs.declared.kind.Kind.{Kind}
+use Rattle.lt_num.specs.declared.kind.Kind.TheVariants as kind
+use Rattle.lt_term.specs.Counted.{IsCounted, AreCounted}
+use Rattle.lt_term.specs.Process.{Process, loop, count, any, try}
+use Rattle.lt_term.specs.Offers.{TermLeaf, TermTree, in_turn, in_par, in_try, joined, offers_of, offers_of_each}
+use Rattle.lt_term.specs.Replaced.{replaced, node_with_local}
+use Rattle.lt_term.specs.Tree.{Lasts, Leaf, vanish, go, Weight, expression, more, stop, Tree, leaf, ordered, weighted, Branches, no_branch, branch, with_leaves, branches_with_leaves, with_local, branches_with_local, Node, leaf_node, ordered_node, weighted_node, weights_of, flattened, flattened_each}
+use Rattle.lt_term.specs.TreeView.{tree_node, tree_nodes}
+use Rattle.lt_term.specs.declared.tree.TreeNode.{TreeNode}
+use Rattle.lt_term.specs.View.{process, choices, kinds_of}
+use Rattle.lt_term.specs.declared.variable.Var.{Var}
+use Rattle.lt_term.specs.declared.term.Term.{Term, Any}
+use Rattle.lt_term.proofs.Views.{process_any}
 
--- one instant, as nodes
-abbrev on : {C : Type 0} → Process C → List C → Process C → List (Node C)
-on b cs n = flattened (instant_before b cs n)
+weights-with_leaves : {C N M : Type 0} (f : Leaf C N → Tree C M) (bs : Branches C N) → weights_of (branches_with_leaves f bs) ≡ weights_of bs
+weights-with_leaves f no_branch = refl
+weights-with_leaves f (branch w t bs) = ap (λ ws. w ∷ ws) (weights-with_leaves f bs)
 
--- the nodes of a tree whose leaves are replaced
-flattened-with_leaves : {C : Type 0} (b : Process C) (v t : Tree C) → flattened (with_leaves (instant_before b) v t) ≡ flat_map (grafted (on b) (flattened v)) (flattened t)
-flattened-with_leaves b v (leaf vanish) = sym (append-nil _)
-flattened-with_leaves b v (leaf nothing) = refl
-flattened-with_leaves b v (leaf (go cs n)) = refl
-flattened-with_leaves b v (pri s t) =
-    ap (λ ns. pri_node ∷ ns)
-    (ap (λ ns. ns ++ flattened (with_leaves (instant_before b) v t)) (flattened-with_leaves b v s)
-    ∙ ap (λ ns. flat_map (grafted (on b) (flattened v)) (flattened s) ++ ns) (flattened-with_leaves b v t)
-    ∙ sym (flat_map-append (grafted (on b) (flattened v)) (flattened s) (flattened t)))
+mutual
+  -- the nodes of a tree whose leaves are replaced
+  pub flattened-with_leaves : {C N M : Type 0} (f : Leaf C N → Tree C M) (t : Tree C N) → flattened (with_leaves f t) ≡ flat_map (replaced f) (flattened t)
+  flattened-with_leaves f (leaf l) = sym (append-nil _)
+  flattened-with_leaves f (ordered a b) =
+      ap (λ ns. ordered_node ∷ ns) ((λ i. flattened-with_leaves f a i ++ flattened-with_leaves f b i) ∙ sym (flat_map-append (replaced f) (flattened a) (flattened b)))
+  flattened-with_leaves f (weighted ls bs) = λ i. weighted_node ls (weights-with_leaves f bs i) ∷ flattened_each-with_leaves f bs i
 
--- the nodes of a sequence
-flattened-seq : (a b : Process ℕ) → flattened (offers_of (seq a b)) ≡ flat_map (grafted (λ cs n. flattened (instant_before b cs n)) (flattened (offers_of b))) (flattened (offers_of a))
-flattened-seq a b = flattened-with_leaves b (offers_of b) (offers_of a)
+  flattened_each-with_leaves : {C N M : Type 0} (f : Leaf C N → Tree C M) (bs : Branches C N) → flattened_each (branches_with_leaves f bs) ≡ flat_map (replaced f) (flattened_each bs)
+  flattened_each-with_leaves f no_branch = refl
+  flattened_each-with_leaves f (branch w t bs) =
+      (λ i. flattened-with_leaves f t i ++ flattened_each-with_leaves f bs i) ∙ sym (flat_map-append (replaced f) (flattened t) (flattened_each bs))
 
--- a sequence's nodes, put out where the first part's nodes don't end in vanish
-pub seq-other : (whole a b : Process ℕ) (old new inner front : List (Node ℕ)) → whole ≡ seq a b → inner ≡ flattened (offers_of a) → inner ≡ front ++ []
-    → new ≡ old ++ flat_map (grafted (λ cs n. flattened (instant_before b cs n)) (flattened (offers_of b))) front → new ≡ old ++ flattened (offers_of whole)
-seq-other whole a b old new inner front w i f e =
-    e
-    ∙ ap (λ ns. old ++ flat_map (grafted (on b) (flattened (offers_of b))) ns) (sym (append-nil front) ∙ sym f ∙ i)
-    ∙ ap (λ ns. old ++ ns) (sym (flattened-seq a b))
-    ∙ ap (λ p. old ++ flattened (offers_of p)) (sym w)
+weights-with_local : {C N : Type 0} (l : ℕ × Last) (bs : Branches C N) → weights_of (branches_with_local l bs) ≡ weights_of bs
+weights-with_local l no_branch = refl
+weights-with_local l (branch w t bs) = ap (λ ws. w ∷ ws) (weights-with_local l bs)
 
--- a sequence's nodes, put out up to those of the second part, which come in place of a last vanish
-pub seq-vanishing : (whole a b : Process ℕ) (old new inner front : List (Node ℕ)) → whole ≡ seq a b → inner ≡ flattened (offers_of a) → inner ≡ front ++ leaf_node vanish ∷ []
-    → new ≡ old ++ flat_map (grafted (λ cs n. flattened (instant_before b cs n)) (flattened (offers_of b))) front
-    → new ++ flattened (offers_of b) ≡ old ++ flattened (offers_of whole)
-seq-vanishing whole a b old new inner front w i f e =
-    let put : List (Node ℕ) → List (Node ℕ) = flat_map (grafted (on b) (flattened (offers_of b))) in
-    ap (λ ns. ns ++ flattened (offers_of b)) e
-    ∙ append_assoc old (put front) (flattened (offers_of b))
-    ∙ ap (λ ns. old ++ (put front ++ ns)) (sym (append-nil (flattened (offers_of b))))
-    ∙ ap (λ ns. old ++ ns) (sym (flat_map-append (grafted (on b) (flattened (offers_of b))) front (leaf_node vanish ∷ [])))
-    ∙ ap (λ ns. old ++ put ns) (sym f ∙ i)
-    ∙ ap (λ ns. old ++ ns) (sym (flattened-seq a b))
-    ∙ ap (λ p. old ++ flattened (offers_of p)) (sym w)
+mutual
+  -- the nodes of a tree with a local, whose leaves are then replaced
+  pub flattened-with_local : {C N M : Type 0} (f : Leaf C N → Tree C M) (l : ℕ × Last) (t : Tree C N) → flattened (with_leaves f (with_local l t)) ≡ flat_map (λ n. replaced f (node_with_local l n)) (flattened t)
+  flattened-with_local f l (leaf k) = sym (append-nil _)
+  flattened-with_local f l (ordered a b) =
+      ap (λ ns. ordered_node ∷ ns) ((λ i. flattened-with_local f l a i ++ flattened-with_local f l b i) ∙ sym (flat_map-append (λ n. replaced f (node_with_local l n)) (flattened a) (flattened b)))
+  flattened-with_local f l (weighted ls bs) = λ i. weighted_node (l ∷ ls) ((weights-with_leaves f (branches_with_local l bs) ∙ weights-with_local l bs) i) ∷ flattened_each-with_local f l bs i
 
--- the nodes of a loop
-flattened-loop : (t : Process ℕ) → flattened (offers_of (loop t)) ≡ pri_node ∷ (flat_map (grafted (λ cs n. flattened (instant_before (loop t) cs n)) (leaf_node nothing ∷ [])) (flattened (offers_of t)) ++ (leaf_node vanish ∷ []))
-flattened-loop t = ap (λ ns. pri_node ∷ (ns ++ (leaf_node vanish ∷ []))) (flattened-with_leaves (loop t) (leaf nothing) (offers_of t))
+  flattened_each-with_local : {C N M : Type 0} (f : Leaf C N → Tree C M) (l : ℕ × Last) (bs : Branches C N) → flattened_each (branches_with_leaves f (branches_with_local l bs)) ≡ flat_map (λ n. replaced f (node_with_local l n)) (flattened_each bs)
+  flattened_each-with_local f l no_branch = refl
+  flattened_each-with_local f l (branch w t bs) =
+      (λ i. flattened-with_local f l t i ++ flattened_each-with_local f l bs i) ∙ sym (flat_map-append (λ n. replaced f (node_with_local l n)) (flattened t) (flattened_each bs))
 
-between : (old ns : List (Node ℕ)) (first last : Node ℕ) → ((old ++ first ∷ []) ++ ns) ++ last ∷ [] ≡ old ++ (first ∷ (ns ++ last ∷ []))
-between old ns first last = append_assoc (old ++ first ∷ []) ns (last ∷ []) ∙ append_assoc old (first ∷ []) (ns ++ last ∷ [])
+weights_of-choices : (kinds : List Kind) (parts : List (ℕ × Term)) → weights_of (offers_of_each kinds (choices parts)) ≡ map (λ p. expression p.0) parts
+weights_of-choices kinds [] = refl
+weights_of-choices kinds (p ∷ parts) = ap (λ ws. expression p.0 ∷ ws) (weights_of-choices kinds parts)
 
--- a loop's nodes, put out one after another
-pub loop_nodes : (whole t : Process ℕ) (old before after inner : List (Node ℕ)) → whole ≡ loop t → inner ≡ flattened (offers_of t) → before ≡ old ++ pri_node ∷ []
-    → after ≡ before ++ flat_map (grafted (λ cs n. flattened (instant_before whole cs n)) (leaf_node nothing ∷ [])) inner → after ++ leaf_node vanish ∷ [] ≡ old ++ flattened (offers_of whole)
-loop_nodes whole t old before after inner w i b e =
-    rw (e, b, i, w) (between old _ pri_node (leaf_node vanish) ∙ ap (λ ns. old ++ ns) (sym (flattened-loop t)))
+flattened-choices : (kinds : List Kind) (parts : List (ℕ × Term)) → flattened_each (offers_of_each kinds (choices parts)) ≡ flat_map (λ p. flattened (offers_of kinds (process p.1))) parts
+flattened-choices kinds [] = refl
+flattened-choices kinds (p ∷ parts) = ap (λ ns. flattened (offers_of kinds (process p.1)) ++ ns) (flattened-choices kinds parts)
 
--- a tree with other constraints
-abbrev tree_with_constraints : {C D : Type 0} → (C → D) → Tree C → Tree D
-tree_with_constraints f (leaf l) = leaf (leaf_with_constraints f l)
-tree_with_constraints f (pri a b) = pri (tree_with_constraints f a) (tree_with_constraints f b)
+-- the nodes of a weighted choice, put out one after another
+pub any_nodes : (kinds : List Kind) (old before new : List (Node ℕ (Process ℕ))) (ws : List (Weight ℕ)) (v : Vec (ℕ × Term) Global) → ws ≡ map (λ p. expression p.0) v.items → before ≡ old ++ weighted_node [] ws ∷ []
+    → new ≡ before ++ flat_map (λ p. flattened (offers_of kinds (process p.1))) v.items → new ≡ old ++ flattened (offers_of kinds (process (Any v)))
+any_nodes kinds old before new ws v w b e =
+    let g : new ≡ old ++ flattened (offers_of kinds (any (choices v.items))) = rw (e, b, w, weights_of-choices kinds v.items, flattened-choices kinds v.items) (simp append_assoc) in
+    g ∙ ap (λ t. old ++ flattened (offers_of kinds t)) (sym (process_any v))
 
-followed_by-natural : {C D : Type 0} (f : C → D) (n b : Process C) → with_constraints f (followed_by n b) ≡ followed_by (with_constraints f n) (with_constraints f b)
-followed_by-natural f eps b = refl
-followed_by-natural f (con c) b = refl
-followed_by-natural f (seq m n) b = refl
-followed_by-natural f (loop t) b = refl
+-- the nodes of a tree whose leaves are replaced, put out
+pub leaves_put : (f : TermLeaf ℕ → TermTree ℕ) (t : TermTree ℕ) (old new ns : List (Node ℕ (Process ℕ))) → ns ≡ flattened t → new ≡ old ++ flat_map (replaced f) ns → new ≡ old ++ flattened (with_leaves f t)
+leaves_put f t old new ns n e = e ∙ ap (λ ms. old ++ flat_map (replaced f) ms) n ∙ ap (λ ms. old ++ ms) (sym (flattened-with_leaves f t))
 
-with_leaves-natural : {C D : Type 0} (f : C → D) (b : Process C) (v t : Tree C) → tree_with_constraints f (with_leaves (instant_before b) v t) ≡ with_leaves (instant_before (with_constraints f b)) (tree_with_constraints f v) (tree_with_constraints f t)
-with_leaves-natural f b v (leaf vanish) = refl
-with_leaves-natural f b v (leaf nothing) = refl
-with_leaves-natural f b v (leaf (go cs n)) = ap (λ m. leaf (go (map f cs) m)) (followed_by-natural f n b)
-with_leaves-natural f b v (pri s t) = λ i. pri (with_leaves-natural f b v s i) (with_leaves-natural f b v t i)
+-- a choice between two trees, put out one after another
+pub ordered_put : (a b : TermTree ℕ) (old before middle new : List (Node ℕ (Process ℕ))) → before ≡ old ++ ordered_node ∷ [] → middle ≡ before ++ flattened a → new ≡ middle ++ flattened b → new ≡ old ++ flattened (ordered a b)
+ordered_put a b old before middle new p m e = rw (e, m, p) (simp append_assoc)
 
--- what a term offers doesn't depend on what its constraints are
-offers_of-natural : {C D : Type 0} (f : C → D) (p : Process C) → tree_with_constraints f (offers_of p) ≡ offers_of (with_constraints f p)
-offers_of-natural f eps = refl
-offers_of-natural f (con c) = refl
-offers_of-natural f (seq a b) =
-    with_leaves-natural f b (offers_of b) (offers_of a)
-    ∙ ap (λ v. with_leaves (instant_before (with_constraints f b)) v (tree_with_constraints f (offers_of a))) (offers_of-natural f b)
-    ∙ ap (λ t. with_leaves (instant_before (with_constraints f b)) (offers_of (with_constraints f b)) t) (offers_of-natural f a)
-offers_of-natural f (loop t) =
-    ap (λ s. pri s (leaf vanish))
-    (with_leaves-natural f (loop t) (leaf nothing) (offers_of t)
-    ∙ ap (λ s. with_leaves (instant_before (with_constraints f (loop t))) (leaf nothing) s) (offers_of-natural f t))
+counted_parts : (parts : List (ℕ × Term)) → AreCounted (choices parts) → All (λ p. IsCounted (process p.1)) parts
+counted_parts [] h = All-nil (λ p. IsCounted (process p.1))
+counted_parts (p ∷ parts) h = All-cons (λ p. IsCounted (process p.1)) p parts h.0 (counted_parts parts h.1)
 
-flattened-natural : {C D : Type 0} (f : C → D) (t : Tree C) → map (node_with_constraints f) (flattened t) ≡ flattened (tree_with_constraints f t)
-flattened-natural f (leaf l) = refl
-flattened-natural f (pri a b) =
-    ap (λ ns. pri_node ∷ ns)
-    (map-append (node_with_constraints f) (flattened a) (flattened b)
-    ∙ ap (λ ns. ns ++ map (node_with_constraints f) (flattened b)) (flattened-natural f a)
-    ∙ ap (λ ns. flattened (tree_with_constraints f a) ++ ns) (flattened-natural f b))
+-- the parts of a weighted choice have no more turns done than it has
+pub any_counted : (v : Vec (ℕ × Term) Global) → IsCounted (process (Any v)) → All (λ p. IsCounted (process p.1)) v.items
+any_counted v h = let P : Process ℕ → Type 0 = IsCounted in counted_parts v.items (subst P (process_any v) h)
 
--- the nodes that a term offers, with other constraints
-pub nodes-natural : (f : ℕ → Expression) (p : Process ℕ) → map (node_with_constraints f) (flattened (offers_of p)) ≡ flattened (offers_of (with_constraints f p))
-nodes-natural f p = flattened-natural f (offers_of p) ∙ ap flattened (offers_of-natural f p)
+pub ruleset nodes = (flattened-with_leaves, flattened-with_local, any_nodes)
 
--- a tree whose constraints are among so many
-abbrev tree_is_within : ℕ → Tree ℕ → Bool
-tree_is_within n (leaf l) = leaf_is_within n l
-tree_is_within n (pri a b) = tree_is_within n a && tree_is_within n b
+-- What is put out of a term, arm by arm: what was put out for its parts is what was put out for it.
 
-followed_by-within : (n : ℕ) (a b : Process ℕ) → IsTrue (is_within n a) → IsTrue (is_within n b) → IsTrue (is_within n (followed_by a b))
-followed_by-within n eps b h k = k
-followed_by-within n (con c) b h k = both _ _ h k
-followed_by-within n (seq a c) b h k = both _ _ h k
-followed_by-within n (loop t) b h k = both _ _ h k
+on_ok : {T E A B : Type 0} (r : Result T E) → (A → B) → OnOk r A → OnOk r B
+on_ok (Ok x) f h = f h
+on_ok (Err e) f h = tt
 
-with_leaves-within : (n : ℕ) (b : Process ℕ) (v t : Tree ℕ) → IsTrue (is_within n b) → IsTrue (tree_is_within n v) → IsTrue (tree_is_within n t) → IsTrue (tree_is_within n (with_leaves (instant_before b) v t))
-with_leaves-within n b v (leaf vanish) h k m = k
-with_leaves-within n b v (leaf nothing) h k m = refl
-with_leaves-within n b v (leaf (go cs p)) h k m =
-    both _ _ (left_of _ _ m) (followed_by-within n p b (right_of (list_all (λ c. nat_lt c n) cs) _ m) h)
-with_leaves-within n b v (pri s t) h k m =
-    both _ _ (with_leaves-within n b v s h k (left_of _ _ m)) (with_leaves-within n b v t h k (right_of (tree_is_within n s) _ m))
+pub loop_put : {T E : Type 0} (kinds : List Kind) (r : Result T E) (whole t : Process ℕ) (old before behind new ns : List (Node ℕ (Process ℕ))) → whole ≡ loop t → ns ≡ flattened (offers_of kinds t) → before ≡ old ++ ordered_node ∷ []
+    → behind ≡ before ++ flat_map (replaced (in_turn whole)) ns → OnOk r (new ≡ behind ++ leaf_node vanish ∷ []) → OnOk r (new ≡ old ++ flattened (offers_of kinds whole))
+loop_put kinds r whole t old before behind new ns w n b e = on_ok r (λ l.
+    let middle : behind ≡ before ++ flattened (with_leaves (in_turn (loop t)) (offers_of kinds t)) = leaves_put (in_turn (loop t)) (offers_of kinds t) before behind ns n (e ∙ ap (λ u. before ++ flat_map (replaced (in_turn u)) ns) w) in
+    rw w (rw (l, middle, b) (simp append_assoc)))
 
-offers_of-within : (n : ℕ) (p : Process ℕ) → IsTrue (is_within n p) → IsTrue (tree_is_within n (offers_of p))
-offers_of-within n eps h = refl
-offers_of-within n (con c) h = both _ _ (both _ true h refl) refl
-offers_of-within n (seq a b) h =
-    with_leaves-within n b (offers_of b) (offers_of a) (right_of (is_within n a) _ h) (offers_of-within n b (right_of (is_within n a) _ h)) (offers_of-within n a (left_of _ _ h))
-offers_of-within n (loop t) h = both _ true (with_leaves-within n (loop t) (leaf nothing) (offers_of t) h refl (offers_of-within n t h)) refl
+pub count_put : {T E : Type 0} (kinds : List Kind) (r : Result T E) (whole again t : Process ℕ) (i done : ℕ) (old before behind new ns : List (Node ℕ (Process ℕ))) → whole ≡ count i done t → again ≡ count i (suc done) t → ns ≡ flattened (offers_of kinds t)
+    → before ≡ old ++ weighted_node [] (more i done ∷ stop i done ∷ []) ∷ [] → behind ≡ before ++ flat_map (replaced (in_turn again)) ns → OnOk r (new ≡ behind ++ leaf_node vanish ∷ []) → OnOk r (new ≡ old ++ flattened (offers_of kinds whole))
+count_put kinds r whole again t i done old before behind new ns w a n b e = on_ok r (λ l.
+    let middle : behind ≡ before ++ flattened (with_leaves (in_turn (count i (suc done) t)) (offers_of kinds t)) = leaves_put (in_turn (count i (suc done) t)) (offers_of kinds t) before behind ns n (e ∙ ap (λ u. before ++ flat_map (replaced (in_turn u)) ns) a) in
+    rw w (rw (l, middle, b) (simp append_assoc)))
 
-flattened-within : (n : ℕ) (t : Tree ℕ) → IsTrue (tree_is_within n t) → IsTrue (list_all (node_is_within n) (flattened t))
-flattened-within n (leaf l) h = both _ true h refl
-flattened-within n (pri a b) h =
-    list_all-append (node_is_within n) (flattened a) (flattened b)
-    ∙ both _ _ (flattened-within n a (left_of _ _ h)) (flattened-within n b (right_of (tree_is_within n a) _ h))
+-- an instant of the first side, among those that were put out
+pub par_go : (kinds : List Kind) (b n : Process ℕ) (cs : List ℕ) (ls : Lasts) (x : TreeNode) (xs : List TreeNode) (old before new ns : List (Node ℕ (Process ℕ))) → tree_node x ≡ leaf_node (go cs ls n) → ns ≡ flattened (offers_of kinds b)
+    → before ≡ old ++ flat_map (replaced (in_par (offers_of kinds b))) (tree_nodes xs) → new ≡ before ++ flat_map (replaced (joined cs ls n)) ns
+    → new ≡ old ++ flat_map (replaced (in_par (offers_of kinds b))) (tree_nodes (xs ++ x ∷ []))
+par_go kinds b n cs ls x xs old before new ns is e h k =
+    let f : Node ℕ (Process ℕ) → List (Node ℕ (Process ℕ)) = replaced (in_par (offers_of kinds b)) in
+    leaves_put (joined cs ls n) (offers_of kinds b) before new ns e k
+    ∙ ap (λ ms. ms ++ flattened (with_leaves (joined cs ls n) (offers_of kinds b))) h
+    ∙ append_assoc old (flat_map f (tree_nodes xs)) (flattened (with_leaves (joined cs ls n) (offers_of kinds b)))
+    ∙ ap (λ ms. old ++ ms)
+    (ap (λ ms. flat_map f (tree_nodes xs) ++ ms) (sym (append-nil (f (leaf_node (go cs ls n)))) ∙ ap (λ y. flat_map f (y ∷ [])) (sym is))
+    ∙ sym (flat_map-append f (tree_nodes xs) (tree_node x ∷ [])) ∙ ap (flat_map f) (sym (map-append tree_node xs (x ∷ []))))
 
--- the nodes that a term offers have its constraints alone
-pub nodes-within : (n : ℕ) (p : Process ℕ) → IsTrue (is_within n p) → IsTrue (list_all (node_is_within n) (flattened (offers_of p)))
-nodes-within n p h = flattened-within n (offers_of p) (offers_of-within n p h)
+pub try_put : {T E : Type 0} (kinds : List Kind) (r : Result T E) (whole a h again : Process ℕ) (old before behind new ns : List (Node ℕ (Process ℕ))) → whole ≡ try a h → ns ≡ flattened (offers_of kinds a) → before ≡ old ++ ordered_node ∷ []
+    → behind ≡ before ++ flat_map (replaced (in_try h)) ns → again ≡ h → OnOk r (new ≡ behind ++ flattened (offers_of kinds again)) → OnOk r (new ≡ old ++ flattened (offers_of kinds whole))
+try_put kinds r whole a h again old before behind new ns w n b e g = on_ok r (λ l.
+    ordered_put (with_leaves (in_try h) (offers_of kinds a)) (offers_of kinds h) old before behind new b (leaves_put (in_try h) (offers_of kinds a) before behind ns n e) (l ∙ ap (λ u. behind ++ flattened (offers_of kinds u)) g) ∙ ap (λ u. old ++ flattened (offers_of kinds u)) (sym w))
 
-pub ruleset nodes = (nodes-natural, nodes-within)
+-- the kind of a local
+pub kind_at : (locals : List Var) (x : ℕ) (v : Var) → x < length locals → slice_index_or (kinds_of locals) x kind.Bool ≡ (slice_index_or locals x v).kind
+kind_at locals x v l = get_or-map (λ u. u.kind) locals x v kind.Bool l

@@ -1,22 +1,44 @@
--- the values that a variable may take
-pub mod Domain
--- Boolean expressions, and their truth
-pub mod Expression
--- the expressions that a table spells
-pub mod Table
--- values that make constraints true, and the first ones that do
-pub mod Solution
--- terms as contracts see them
+-- Terms as contracts see them.
 pub mod Process
--- what a term offers in one instant
-pub mod Offers
--- the leaves that an instant may take
-pub mod Live
--- a scenario as contracts see it, and where a run of it stands
+-- A scenario as contracts see it.
 pub mod Scene
--- the expressions, terms and trees that values of the code stand for
+-- How large a scenario may be.
+pub mod Limits
+-- Whether a value may be one of a variable.
+pub mod Fitting
+-- The parts of a term, and what of them is told once for all.
+pub mod Subterms
+-- Terms whose numbers are those of a scenario.
+pub mod Within
+-- Where locals are named.
+pub mod Scope
+-- How many turns of counted loops are done.
+pub mod Counted
+-- Trees of what can be done in one instant.
+pub mod Tree
+-- What comes after an instant.
+pub mod Next
+-- What a term offers in one instant.
+pub mod Offers
+-- What rules make of the nodes of a tree, one by one.
+pub mod Replaced
+-- Trees with other constraints, and trees whose numbers pass a test.
+pub mod Mapped
+-- The last values of locals behind an instant.
+pub mod Advanced
+-- Trees whose constraints and weights are evaluated.
+pub mod Evaluated
+-- Which leaves of an evaluated tree are live, and which of them an instant may take.
+pub mod Live
+-- Where a run stands between two instants, and what is known when the next one begins.
+pub mod Configuration
+-- What terms of the code stand for.
 pub mod View
--- the scene that a scenario of the code stands for
+-- What trees of the code stand for.
+pub mod TreeView
+-- The scene that a scenario of the code stands for.
 pub mod SceneView
--- words of the private functions alone
+-- How many nodes the tree of a term has, without the tree.
+pub mod Size
+-- Words of private contracts.
 pub mod inner

@@ -1,45 +1,60 @@
--- The expressions, terms and trees that values of the code stand for.
-use Rattle.std.specs.Prelude.{ℕ, List, map, length}
-use Rattle.lt_term.specs.Expression.{Expression}
-use Rattle.lt_term.specs.Table.{spelled, expressions_of, nodes_of}
-use Rattle.lt_term.specs.Process.{Process, eps, con, seq, loop, with_constraints}
-use Rattle.lt_term.specs.Offers.{vanish, nothing, go, Node, leaf_node, pri_node}
-use Rattle.lt_term.specs.declared.table.Table.{Table}
-use Rattle.lt_term.specs.declared.term.Term.{Term}
-use Rattle.lt_term.specs.declared.term.Term.TheVariants.{Eps, Con, Seq', Loop'}
-use Rattle.lt_term.specs.declared.tree.TreeNode.{TreeNode}
-use Rattle.lt_term.specs.declared.tree.TreeNode.TheVariants.{Vanish, None, Go, Pri}
+-- What terms of the code stand for.
+use Rattle.std.specs.Prelude.{ℕ, List, [], ◌∷◌, map}
+use Rattle.lt_num.specs.declared.kind.Kind.{Kind}
+use Rattle.lt_formula.specs.Expression.{Expression}
+use Rattle.lt_formula.specs.Kinds.{Kinds}
+use Rattle.lt_formula.specs.Table.{spelled}
+use Rattle.lt_formula.specs.View.{table_expressions}
+use Rattle.lt_formula.specs.declared.table.Table.{Table}
+use Rattle.lt_term.specs.Process.{Process, eps, dead, con, raise, seq, loop, count, any, pri, par, assert, exist, catch, try, Choices, no_choice, choice, with_constraints}
+use Rattle.lt_term.specs.declared.term.Term.{Term, Row_of-Term-Any-0-2, end_of-Term-Any-0-2, more_of-Term-Any-0-2}
+use Rattle.lt_term.specs.declared.term.Term.TheVariants.{Eps, Dead, Con, Raise, Seq', Loop', Count', Any', Pri', Par', Assert', Exist', Catch', Try'}
+use Rattle.lt_term.specs.declared.variable.Var.{Var}
 
--- how many expressions a table has
-abbrev pub table_len : Table → ℕ
-table_len t = length t.entries.items
+-- a term, whose constraints and weights are numbers of a table
+abbrev mutual
+  pub process : Term → Process ℕ
+  process Eps = eps
+  process Dead = dead
+  process (Con c) = con c
+  process (Raise z) = raise z
+  process (Seq' p a q b) = seq (process a) (process b)
+  process (Loop' p t) = loop (process t)
+  process (Count' i done p t) = count i done (process t)
+  process (Any' shape parts) = any (row_choices parts)
+  process (Pri' p a q b) = pri (process a) (process b)
+  process (Par' p a q b) = par (process a) (process b)
+  process (Assert' c p t) = assert c (process t)
+  process (Exist' x v p t) = exist x v (process t)
+  process (Catch' z p t q h) = catch z (process t) (process h)
+  process (Try' p t q h) = try (process t) (process h)
 
--- how many outputs its expressions may name
-abbrev pub table_outputs : Table → ℕ
-table_outputs t = t.outputs
+  -- the parts of a weighted choice, as they lie in memory
+  pub row_choices : {m : _} → Row_of-Term-Any-0-2 m → Choices ℕ
+  row_choices end_of-Term-Any-0-2 = no_choice
+  row_choices (more_of-Term-Any-0-2 w t rest) = choice w (process t) (row_choices rest)
 
--- the expressions of a table
-abbrev pub table_expressions : Table → List Expression
-table_expressions t = expressions_of (nodes_of t.entries.items)
+-- terms to choose from
+abbrev pub choices_from : List (ℕ × Process ℕ) → Choices ℕ
+choices_from [] = no_choice
+choices_from (c ∷ cs) = choice c.0 c.1 (choices_from cs)
 
--- a term, whose constraints are numbers of a table
-abbrev pub process : Term → Process ℕ
-process Eps = eps
-process (Con c) = con c
-process (Seq' p a q b) = seq (process a) (process b)
-process (Loop' p t) = loop (process t)
+-- a part of a weighted choice
+abbrev pub part : ℕ × Term → ℕ × Process ℕ
+part c = (c.0, process c.1)
 
--- a term with the expressions of this table in place of their numbers
+-- the parts of a weighted choice
+abbrev pub choices : List (ℕ × Term) → Choices ℕ
+choices parts = choices_from (map part parts)
+
+-- a term over a table, with expressions in place of their numbers
 abbrev pub process_over : Table → Term → Process Expression
 process_over table term = with_constraints (spelled (table_expressions table)) (process term)
 
--- a node of a tree
-abbrev pub tree_node : TreeNode → Node ℕ
-tree_node Vanish = leaf_node vanish
-tree_node None = leaf_node nothing
-tree_node (Go constraints next) = leaf_node (go constraints.items (process next))
-tree_node Pri = pri_node
+-- the kinds of some variables
+abbrev pub kinds_of : List Var → List Kind
+kinds_of vars = map (λ v. v.kind) vars
 
--- the nodes of a tree
-abbrev pub tree_nodes : List TreeNode → List (Node ℕ)
-tree_nodes nodes = map tree_node nodes
+-- the kinds of a scenario's variables
+abbrev pub all_kinds : List Var → List Var → List Var → Kinds
+all_kinds inputs outputs locals = record { inputs = kinds_of inputs; outputs = kinds_of outputs; locals = kinds_of locals }

@@ -1,5 +1,6 @@
--- Words of the private functions alone.
--- what the entries of a table keep
-pub mod Entries
--- trees as lists of nodes, with other nodes in place of some leaves
-pub mod Grafts
+-- Words of private contracts.
+
+-- Numbers that count alike where a tree is large.
+pub mod Alike
+-- What a tally weighs.
+pub mod TallyView

@@ -1,23 +1,40 @@
 //! Terms: what a scenario still has to do, and what it offers in one instant.
 //!
-//! A [`Scenario`] has a table of expressions and a [`Term`], whose constraints are numbers of that
-//! table. [`offers`] gives the tree of a term: what it can do in one instant.
+//! A [`Scenario`] has its variables, a table of expressions, and a [`Term`] whose constraints and weights are
+//! numbers of that table; it keeps what the rules say of scenarios. [`offers`] gives the tree of a term: what
+//! it can do in one instant, with its choices by priority and by weight. [`size`] tells how many nodes that
+//! tree has, without making it.
 //!
 //! Contracts see a term through its pure twin, a `Process` of `specs/Process.antt`, and a scenario as a
-//! `Scene` of `specs/Scene.antt`, in which expressions stand in place of numbers. `specs/View.antt` has
-//! the functions that lead there.
+//! `Scene` of `specs/Scene.antt`, in which expressions stand in place of numbers. `specs/View.antt`,
+//! `specs/SceneView.antt` and `specs/TreeView.antt` have the functions that lead there.
+//!
+//! The rules are `specs/Offers.antt`, a line a term, over the trees of `specs/Tree.antt`. What a tree is worth
+//! in an instant, which of its leaves may be taken, and what is left to be done afterwards is defined in
+//! `specs/Evaluated.antt`, `specs/Live.antt`, `specs/Configuration.antt` and `specs/Advanced.antt`, for the
+//! layers above.
 #![tactic(auto)]
 
+mod counter;
+mod last;
+mod laws;
 mod memory;
+mod next;
+mod offering;
+mod rules;
 mod scenario;
-mod solution;
-mod table;
+mod tally;
 mod term;
 mod tree;
+mod variable;
 
+pub use counter::Counter;
+pub use last::Last;
+pub use laws::{body_is_valid, size_is_weight};
 pub use memory::Memory;
-pub use scenario::{Scenario, Var};
-pub use solution::first_solution_is_first;
-pub use table::{ExpNode, Table, truth_needs_no_more};
+pub use offering::offers;
+pub use scenario::Scenario;
+pub use tally::size;
 pub use term::Term;
-pub use tree::{Tree, TreeNode, offers};
+pub use tree::{Tree, TreeNode, Weight};
+pub use variable::Var;

@@ -1,33 +1,22 @@
 //! Scenarios.
 
-ghost use Rattle.std.specs.Prelude.{◌≡◌, ◌≤◌, IsTrue, length};
+ghost use Rattle.std.specs.Prelude.{◌≡◌, ◌≤◌, ◌+◌, [], IsTrue, length};
 ghost use Rattle.lt_num.specs.Bounds.{most_decimals};
-ghost use Rattle.lt_term.specs.Domain.{IsDomain};
-ghost use Rattle.lt_term.specs.Process.{is_within};
-ghost use Rattle.lt_term.specs.View.{process, table_len, table_outputs};
+ghost use Rattle.lt_formula.specs.View.{table_kinds, table_len};
+ghost use Rattle.lt_term.specs.Limits.{most_variables};
+ghost use Rattle.lt_term.specs.Scope.{are_named_inside};
+ghost use Rattle.lt_term.specs.Subterms.{counters_in, is_at_start, is_narrow, locals_in, numbers_from};
+ghost use Rattle.lt_term.specs.View.{all_kinds, process, process_over};
+ghost use Rattle.lt_term.specs.Within.{is_within};
 
-use crate::table::Table;
+use crate::counter::Counter;
 use crate::term::Term;
-use lt_num::{Kind, Range};
+use crate::variable::Var;
+use lt_formula::Table;
 
-/// A variable.
-#[derive(Debug, Drop)]
-pub struct Var {
-    /// Its name in the text.
-    pub name: String,
-
-    /// The kind of its values.
-    pub kind: Kind,
-
-    /// The raw numbers of its values, which are at most 10^12 in size: an int itself, a real number in
-    /// units of its last decimal, and 0 and 1 for false and true.
-    pub range: Range,
-
-    pub ghost sound: { IsDomain kind range },
-}
-
-/// A scenario: its variables, and what it does. Its expressions name its own outputs alone, and its
-/// body has no other expressions.
+/// A scenario: its variables, and what it does.
+///
+/// Whoever makes one shows what the ghost fields say, each by itself.
 #[derive(Debug, Drop)]
 pub struct Scenario {
     /// The name of its node.
@@ -36,13 +25,20 @@ pub struct Scenario {
     /// How many decimals a real number has: 0 to 6.
     pub decimals: u32,
 
-    /// What the controller answers in each instant.
+    /// What the controller answers in each instant; at most 128.
     pub inputs: Vec<Var>,
 
-    /// What the scenario draws in each instant.
+    /// What the scenario draws in each instant, and the controller is told. There are at most 128 outputs
+    /// and locals.
     pub outputs: Vec<Var>,
 
-    /// The names of its exceptions.
+    /// What it draws for itself in the instants of a scope, each local by its number.
+    pub locals: Vec<Var>,
+
+    /// How often its counted loops turn, each counter by its number.
+    pub counters: Vec<Counter>,
+
+    /// The names of its exceptions, by their numbers.
     pub exceptions: Vec<String>,
 
     /// Its expressions.
@@ -51,7 +47,24 @@ pub struct Scenario {
     /// What it does, over the expressions of the table.
     pub body: Term,
 
-    pub ghost few: { decimals ≤ most_decimals },
-    pub ghost whole: { table_outputs table ≡ length outputs.items },
-    pub ghost within: { IsTrue (is_within (table_len table) (process body)) },
+    pub ghost few_decimals: { decimals ≤ most_decimals },
+    pub ghost few_inputs: { length inputs.items ≤ most_variables },
+    pub ghost few_drawn: { length outputs.items + length locals.items ≤ most_variables },
+
+    // The table's variables are the scenario's.
+    pub ghost kinds: { table_kinds table ≡ all_kinds inputs.items outputs.items locals.items },
+
+    // Its expressions and exceptions are those of the scenario.
+    pub ghost within: { IsTrue (is_within (table_len table) (length exceptions.items) (process body)) },
+
+    // Locals and counters are numbered in preorder: so each local has one scope, and each counter one loop.
+    pub ghost scopes: { locals_in (process_over table body) ≡ numbers_from 0 (length locals.items) },
+    pub ghost loops: { counters_in (process_over table body) ≡ numbers_from 0 (length counters.items) },
+
+    // A local is named in its scope alone.
+    pub ghost inside: { IsTrue (are_named_inside [] (process_over table body)) },
+
+    // Nothing of the body is done yet, and each of its choices has at most 64 alternatives.
+    pub ghost at_start: { IsTrue (is_at_start (process_over table body)) },
+    pub ghost narrow: { IsTrue (is_narrow (process_over table body)) },
 }

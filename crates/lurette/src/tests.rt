@@ -267,7 +267,7 @@ node n ( p : real [ - 1.5 ; 2 ] ; q : bool = false ) returns ( a , b : bool ; i 
 #[test]
 fn words_are_refused(rt: HostRuntime) -> Result<(), Fail> {
     let alloc = rt.alloc();
-    let usages: [(&[&str], &str); 23] = [
+    let usages: [(&[&str], &str); 26] = [
         (&[], "words"),
         (&["walk"], "words"),
         (&["print"], "words"),
@@ -296,6 +296,9 @@ fn words_are_refused(rt: HostRuntime) -> Result<(), Fail> {
             &["run", "f", "-l", "5", "--precision", "2", "-l", "5"],
             "words",
         ),
+        (&["run", "f", "--node"], "words"),
+        (&["run", "f", "--node", "n", "--node", "n"], "words"),
+        (&["walk", "f", "--node", "n"], "mode"),
         (&["prints", "f"], "mode"),
     ];
     for (words, kind) in usages {
@@ -341,8 +344,10 @@ fn texts_are_refused_with_their_places(rt: HostRuntime) -> Result<(), Fail> {
 fn options_stand_in_any_order(rt: HostRuntime) -> Result<(), Fail> {
     let alloc = rt.alloc();
     let trace = format!(in alloc; "{HEADER}#step 1\nt #outs\n#end limit 1\n")?;
-    let words: [&[&str]; 4] = [
+    let words: [&[&str]; 6] = [
         &["run", "f", "-l", "1"],
+        &["run", "f", "-l", "1", "--node", "n"],
+        &["run", "f", "--node", "n", "--precision", "2", "-l", "1"],
         &["run", "f", "-l", "1", "--precision", "0"],
         &["run", "f", "--precision", "6", "-l", "1"],
         &["run", "f", "--precision", "2", "-l", "1"],
@@ -415,12 +420,12 @@ fn programs_that_break_a_rule_of_types_are_refused(rt: HostRuntime) -> Result<()
 #[test]
 fn programs_that_cannot_run_are_refused_and_printed(rt: HostRuntime) -> Result<(), Fail> {
     let texts = [
-        "node n() returns (b: bool) = b exception e",
         "node n(y: int) returns (x: int [0;3]) = loop x = 1",
-        "node n() returns () = true",
+        "node n(y: bool) returns (x: int [0;3]) = loop true",
+        "node n(y: bool) returns (b: bool) = b and y",
         "node n() returns (a, b, c, d, e, f, g, h, i: bool) = a",
-        "node n() returns (a: bool; b: bool) = a",
-        "node n() returns (b: bool = true) = b",
+        "node n() returns (b: bool) = exist c: bool in b",
+        "let both (c, d: trace): trace = { &> c &> d } node n() returns (b: bool) = both({b}, {b})",
         "node n() returns (b: bool) = loop [0,1] b",
         "node n() returns (b: bool) = { b |> not b }",
         "node n() returns (b: bool) = pre b",
@@ -435,6 +440,78 @@ fn programs_that_cannot_run_are_refused_and_printed(rt: HostRuntime) -> Result<(
             &Outside::sound(text.as_bytes()),
         )?;
         assert_eq!(rt; print.status.code(), 0);
+    }
+    Ok(())
+}
+
+#[test]
+fn nodes_without_a_scenario_are_refused(rt: HostRuntime) -> Result<(), Fail> {
+    let alloc = rt.alloc();
+    let refusals = [
+        (TOGGLE, "m", "expand.UnknownNode"),
+        (
+            "let m: bool = true node n() returns (b: bool) = b",
+            "m",
+            "expand.UnknownNode",
+        ),
+        (
+            "node n() returns (b: bool) = loop [2,1] b",
+            "n",
+            "expand.BadStatic at 35",
+        ),
+        (
+            "node n() returns (x, y: int [0;3]) = x * y = 2",
+            "n",
+            "expand.NonLinear at 37",
+        ),
+        (
+            "node n() returns (b: bool; x: int [0;3]) = (if b then x else 1) = 2",
+            "n",
+            "expand.ControllableCondition at 44",
+        ),
+        (
+            "node n() returns (x: int [0;3]) = { |x: x = 1 |1: x = 2 }",
+            "n",
+            "expand.ControllableWeight at 37",
+        ),
+        // It has inputs, and there is no controller.
+        (
+            "node n(y: bool) returns (b: bool) = b",
+            "n",
+            "run.NeedsController",
+        ),
+    ];
+    for (text, node, refusal) in refusals {
+        let outside = Outside::sound(text.as_bytes());
+        let run = call_of(alloc, &["run", "f", "--node", node], &outside)?;
+        let says = format!(in alloc; "lurette: refused {refusal}\n")?;
+        check(&rt, &run, 3, b"", &says);
+        let print = call_of(alloc, &["print", "f", "--node", node], &outside)?;
+        assert_eq!(rt; print.status.code(), 0);
+    }
+    Ok(())
+}
+
+// A program of two nodes, macros and an exception that nobody raises.
+#[test]
+fn a_node_is_run_with_its_macros_away(rt: HostRuntime) -> Result<(), Fail> {
+    let alloc = rt.alloc();
+    let text = "exception e
+let twice (c: bool): trace = { c fby c }
+node n() returns (b: bool = false) = twice(b)
+node m() returns (a: bool; b: bool) = let other: bool = not a in let a: bool = true in twice(other and a) fby b";
+    let one = format!(in alloc; "{HEADER}#step 1\nt #outs\n#step 2\nt #outs\n#end normal 2\n")?;
+    let two = format!(in alloc;
+        "{TWO_OUTPUTS}#step 1\nf f #outs\n#step 2\nf f #outs\n#step 3\nf t #outs\n#end normal 3\n"
+    )?;
+    let calls: [(&[&str], &str); 3] = [
+        (&["run", "f"], &one),
+        (&["run", "f", "--node", "n"], &one),
+        (&["run", "f", "--node", "m"], &two),
+    ];
+    for (words, trace) in calls {
+        let call = call_of(alloc, words, &Outside::sound(text.as_bytes()))?;
+        check(&rt, &call, 0, trace.as_bytes(), "");
     }
     Ok(())
 }
@@ -507,8 +584,18 @@ fn each_write_may_fail(rt: HostRuntime) -> Result<(), Fail> {
         };
         let call = call_of(rt.alloc(), &["run", "f"], &outside)?;
         let says = format!(in rt.alloc(); "lurette: device trace {failing}\n")?;
-        assert_eq!(rt; call.status.code(), 9);
-        assert_eq!(rt; call.says.written(), says.as_bytes());
+        // The texts before it are there, and nothing of it or of those behind it.
+        let whole = format!(in rt.alloc();
+            "{HEADER}#step 1\nt #outs\n#step 2\nf #outs\n#end normal 2\n"
+        )?;
+        let ends = [0, 34, 50, 66];
+        check(
+            &rt,
+            &call,
+            9,
+            &whole.as_bytes()[..ends[failing as usize]],
+            &says,
+        );
     }
     Ok(())
 }

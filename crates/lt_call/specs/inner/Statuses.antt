@@ -1,5 +1,7 @@
 -- The status of a call whose text or program isn't taken. Want of memory is no refusal.
 use Rattle.std.specs.Prelude.{◌≡◌, ◌≢◌, ◌⊎◌}
+use Rattle.lt_expand.specs.declared.refusal.ExpandRefusal.{ExpandRefusal}
+use Rattle.lt_expand.specs.declared.refusal.ExpandRefusal.TheVariants as expand
 use Rattle.lt_parser.specs.declared.refusal.ParseRefusal.{ParseRefusal}
 use Rattle.lt_parser.specs.declared.refusal.ParseRefusal.TheVariants as parse
 use Rattle.lt_types.specs.declared.refusal.TypeRefusal.{TypeRefusal}
@@ -15,3 +17,7 @@ IsTextStatus reason s = ((reason ≡ parse.Memory) × (s ≡ status.Memory)) ⊎
 -- where a program isn't well typed
 abbrev pub IsTypeStatus : TypeRefusal → Status → Type 0
 IsTypeStatus reason s = ((reason ≡ types.Memory) × (s ≡ status.Memory)) ⊎ ((reason ≢ types.Memory) × (s ≡ status.Refused (refusal.Types reason)))
+
+-- where a node has no scenario
+abbrev pub IsExpandStatus : ExpandRefusal → Status → Type 0
+IsExpandStatus reason s = ((reason ≡ expand.Memory) × (s ≡ status.Memory)) ⊎ ((reason ≢ expand.Memory) × (s ≡ status.Refused (refusal.Expand reason)))

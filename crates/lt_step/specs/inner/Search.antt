@@ -1,16 +1,19 @@
 -- What a search for the first solution finds.
-use Rattle.std.specs.Prelude.{◌≡◌, ◌<◌, ℕ, Bool, true, false, IsTrue, nat_eq, if◌then◌else◌, List, ◌∷◌, ◌++◌, [], None, Some, map, length}
-use Rattle.std.specs.List.{list_all}
+use Rattle.std.specs.Prelude.{◌≡◌, ℕ, Bool, true, false, if◌then◌else◌, List, ◌∷◌, ◌++◌, [], None, Some, map}
+use Rattle.std.specs.declared.option.Option.{Option}
+use Rattle.lt_num.specs.Range.{raws_of}
+use Rattle.lt_num.specs.Value.{value_of}
 use Rattle.lt_num.specs.declared.value.Value.{Value}
-use Rattle.lt_term.specs.Domain.{Domain}
-use Rattle.lt_term.specs.Expression.{Expression, truth_of, outputs_needed}
-use Rattle.lt_term.specs.Table.{spelled}
-use Rattle.lt_term.specs.Solution.{first_solution_from}
-use Rattle.lt_term.specs.View.{table_expressions}
-use Rattle.lt_term.specs.Scene.{domain_of}
-use Rattle.lt_term.specs.SceneView.{variable}
-use Rattle.lt_term.specs.declared.scenario.Var.{Var}
-use Rattle.lt_term.specs.declared.table.Table.{Table}
+use Rattle.lt_formula.specs.Domain.{Domain}
+use Rattle.lt_formula.specs.Expression.{Expression}
+use Rattle.lt_formula.specs.Solution.{first_some}
+use Rattle.lt_formula.specs.Table.{spelled}
+use Rattle.lt_formula.specs.View.{table_expressions}
+use Rattle.lt_formula.specs.declared.table.Table.{Table}
+use Rattle.lt_term.specs.SceneView.{scene, variable}
+use Rattle.lt_term.specs.declared.scenario.Scenario.{Scenario}
+use Rattle.lt_term.specs.declared.variable.Var.{Var}
+use Rattle.lt_step.specs.Solved.{all_hold, domain_of}
 
 -- the domain of a variable
 abbrev pub domain : Var → Domain
@@ -24,26 +27,28 @@ domains_of vars = map domain vars
 abbrev pub expressions_at : Table → List ℕ → List Expression
 expressions_at table numbers = map (spelled (table_expressions table)) numbers
 
--- those expressions hold that need fewer outputs than these
-abbrev pub EarlierHold : List Expression → List Value → Type 0
-EarlierHold [] outputs = Unit {0}
-EarlierHold (e ∷ es) outputs = (outputs_needed e < length outputs → IsTrue (truth_of outputs e)) × EarlierHold es outputs
+-- whether some constraints of a scenario hold, by the values of the outputs
+abbrev pub test_of : Scenario → List ℕ → List Value → Bool
+test_of s constraints outputs = all_hold (scene s) (expressions_at s.table constraints) outputs
 
--- whether an expression holds, where it needs all of these outputs and no more
-abbrev pub holds_newly : List Value → Expression → Bool
-holds_newly outputs e = if nat_eq (outputs_needed e) (length outputs) then truth_of outputs e else true
+-- a value before others, where there are some
+abbrev pub with_value : Value → Option (List Value) → Option (List Value)
+with_value v None = None
+with_value v (Some vs) = Some (v ∷ vs)
 
--- whether those expressions hold that need all of these outputs and no more
-abbrev pub all_hold_newly : List Expression → List Value → Bool
-all_hold_newly es outputs = list_all (holds_newly outputs) es
+-- The first further values that pass a test behind these: in turn each domain gives its first value, from the low end up,
+-- with which those so far extend to ones that do.
+abbrev pub first_further : (List Value → Bool) → List Value → List Domain → Option (List Value)
+first_further test fixed [] = if test fixed then Some [] else None
+first_further test fixed (d ∷ ds) = first_some (λ raw. with_value (value_of d.kind raw) (first_further test (fixed ++ value_of d.kind raw ∷ []) ds)) (raws_of d.range)
 
--- Where something was found, the new values are the old ones and the first solution after them; else there is
+-- Where something was found, the new values are the old ones and the first further ones behind them; else there are
 -- none, and they are as before.
-abbrev pub Finds : List Expression → List Domain → List Value → List Value → Bool → Type 0
-Finds es domains old new true = (further : List Value) × (first_solution_from es old domains ≡ Some further) × (new ≡ old ++ further)
-Finds es domains old new false = (first_solution_from es old domains ≡ None) × (new ≡ old)
+abbrev pub Finds : (List Value → Bool) → List Domain → List Value → List Value → Bool → Type 0
+Finds test domains old new true = (further : List Value) × (first_further test old domains ≡ Some further) × (new ≡ old ++ further)
+Finds test domains old new false = (first_further test old domains ≡ None) × (new ≡ old)
 
 -- the same where the further values begin with this one
-abbrev pub FindsWith : Value → List Expression → List Domain → List Value → List Value → Bool → Type 0
-FindsWith v es domains old new true = (further : List Value) × (first_solution_from es (old ++ v ∷ []) domains ≡ Some further) × (new ≡ old ++ v ∷ further)
-FindsWith v es domains old new false = (first_solution_from es (old ++ v ∷ []) domains ≡ None) × (new ≡ old)
+abbrev pub FindsWith : Value → (List Value → Bool) → List Domain → List Value → List Value → Bool → Type 0
+FindsWith v test domains old new true = (further : List Value) × (first_further test (old ++ v ∷ []) domains ≡ Some further) × (new ≡ old ++ v ∷ further)
+FindsWith v test domains old new false = (first_further test (old ++ v ∷ []) domains ≡ None) × (new ≡ old)

@@ -2,7 +2,7 @@ use Rattle.std.proofs.Common.{◌≡◌, ◌+◌, ◌-◌, ℕ, Err, suc, arith,
 use Rattle.lt_rif.specs.declared.end.End.TheVariants.{Limit}
 use Rattle.lt_step.specs.Machine.{outputs_in}
 use Rattle.lt_step.specs.View.{machine_state}
-use Rattle.lt_term.specs.Scene.{first_configuration}
+use Rattle.lt_term.specs.Configuration.{first_configuration}
 use Rattle.lt_call.specs.Play.{header_of, instant_text, play_from, play_of}
 use Rattle.lt_call.specs.Settings.{default_seed}
 use Rattle.lt_call.specs.inner.Running.{rest_of, IsAt, Follows}

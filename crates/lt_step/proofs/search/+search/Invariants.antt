@@ -1,6 +1,5 @@
 use Rattle.std.proofs.Common.{◌≡◌, ◌+◌, ◌*◌, ◌∷◌, length}
-use Rattle.lt_term.specs.Solution.{first_solution_from}
-use Rattle.lt_step.specs.inner.Search.{domain, domains_of, expressions_at}
+use Rattle.lt_step.specs.inner.Search.{domain, domains_of, first_further, test_of}
 use Rattle.lt_step.proofs.Searches.{domain_from}
 use Rattle.lt_step.proofs.search.+search.Given as goal
 
@@ -18,7 +17,7 @@ decreases-extend_by l = 3 * length l.further.now + 1
 abbrev pub invariant-extend_within-loop-raw : goal.invariant-extend_within-loop-raw
 invariant-extend_within-loop-raw l =
     record {
-      left : first_solution_from (expressions_at l.table l.constraints) l.fn.outputs.items (domain l.first ∷ domains_of l.further)
-          ≡ first_solution_from (expressions_at l.table l.constraints) l.fn.outputs.items (domain_from l.first l.raw l.raw-end ∷ domains_of l.further);
+      left : first_further (test_of l.scenario l.constraints) l.fn.outputs.items (domain l.first ∷ domains_of l.further)
+          ≡ first_further (test_of l.scenario l.constraints) l.fn.outputs.items (domain_from l.first l.raw l.raw-end ∷ domains_of l.further);
       same : l.outputs.items ≡ l.fn.outputs.items;
     }

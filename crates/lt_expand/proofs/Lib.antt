@@ -1,0 +1,15 @@
+pub mod Firsts
+pub mod Ranks
+pub mod Preorders
+pub mod Refused
+pub mod Worths
+pub mod Turning
+pub mod Terms
+pub mod Spelled
+pub mod Shapes
+pub mod Grown
+pub mod Declares
+pub mod There
+pub mod Prepared
+pub mod Made
+pub mod Sizes

@@ -1,0 +1,156 @@
+-- What a scenario keeps, where it is made of a node's tree.
+use Rattle.std.proofs.Common.{◌≡◌, ℕ, zero, suc, ◌+◌, ◌≤◌, IsTrue, List, [], ◌∷◌, map, length, refl, sym, ap, ◌∙◌, subst, arith}
+use Rattle.std.specs.List.{flat_map}
+use Rattle.std.proofs.lemmas.List.{length-map}
+use Rattle.lt_num.specs.declared.kind.Kind.{Kind}
+use Rattle.lt_expand.proofs.Sizes.{length-entries}
+use Rattle.lt_formula.specs.Kinds.{Kinds}
+use Rattle.lt_formula.specs.View.{table_expressions, table_len}
+use Rattle.lt_formula.specs.declared.table.Table.{Table}
+use Rattle.lt_macros.specs.Expanded.{Declared, Exception, Node}
+use Rattle.lt_macros.specs.Limits.{most_variables}
+use Rattle.lt_macros.specs.Numbering.{Follow, IsNumbered, counter_numbers, local_numbers}
+use Rattle.lt_macros.specs.Preorder.{Item, counter_at, counters_in, items, local_at, locals_in}
+use Rattle.lt_macros.specs.Scoping.{AreInside}
+use Rattle.lt_term.specs.Process.{Process}
+use Rattle.lt_formula.specs.Expression.{Expression}
+use Rattle.lt_term.specs.Scene.{Variable}
+use Rattle.lt_term.specs.SceneView.{turns, variable}
+use Rattle.lt_term.specs.Scope.{are_named_inside}
+use Rattle.lt_term.specs.Subterms as subterms
+use Rattle.lt_term.specs.Subterms.{is_at_start, is_narrow, numbers_from}
+use Rattle.lt_term.specs.View.{all_kinds, process, process_over}
+use Rattle.lt_term.specs.Within.{is_within}
+use Rattle.lt_term.specs.declared.counter.Counter.{Counter}
+use Rattle.lt_term.specs.declared.term.Term.{Term}
+use Rattle.lt_term.specs.declared.variable.Var.{Var}
+use Rattle.lt_expand.specs.Classes.{kinds_of}
+use Rattle.lt_expand.specs.Exceptions.{exception_names, numbered}
+use Rattle.lt_expand.specs.Scenes.{locals_of, process_of, variable_of}
+use Rattle.lt_expand.specs.Static.{least_and_most}
+use Rattle.lt_expand.specs.inner.Put.{IsTerm}
+use Rattle.lt_expand.specs.inner.Ready.{AreReady}
+use Rattle.lt_expand.proofs.Declares.{locals_many}
+use Rattle.lt_expand.proofs.Prepared.{IsLimited, follow_up}
+use Rattle.lt_expand.proofs.Terms.{term_counters, term_inside, term_locals, term_narrow, term_unbegun}
+
+-- what is ready of a node is ready where its kinds and exceptions are these
+pub put_ready : (ks : Kinds) (zs : List Exception) (node : Node) → ks ≡ kinds_of node → zs ≡ numbered node.body → AreReady (kinds_of node) (numbered node.body) node.body → AreReady ks zs node.body
+put_ready ks zs node e f h = subst (λ k. AreReady k zs node.body) (sym e) (subst (λ ys. AreReady (kinds_of node) ys node.body) (sym f) h)
+
+-- VARIABLES
+
+-- what a scenario has of a node: its variables and counters
+pub record IsMade (n : ℕ) (node : Node) (inputs outputs locals : List Var) (counters : List Counter) : Type 0 where
+  pub inputs_made : map variable inputs ≡ map (variable_of n) node.inputs
+  pub outputs_made : map variable outputs ≡ map (variable_of n) node.outputs
+  pub locals_made : map variable locals ≡ locals_of n 0 (locals_in node)
+  pub counters_made : map turns counters ≡ map (least_and_most n) (counters_in node)
+
+-- the locals of the parts of a node are its own
+pub own_locals : (n : ℕ) (node : Node) (is : List Item) (vs : List Variable) → is ≡ items node.body → vs ≡ locals_of n 0 (flat_map local_at is) → vs ≡ locals_of n 0 (locals_in node)
+own_locals n node is vs e h = h ∙ ap (λ js. locals_of n 0 (flat_map local_at js)) e
+
+-- and so are its counters
+pub own_counters : (n : ℕ) (node : Node) (is : List Item) (cs : List (ℕ × ℕ)) → is ≡ items node.body → cs ≡ map (least_and_most n) (flat_map counter_at is)
+    → cs ≡ map (least_and_most n) (counters_in node)
+own_counters n node is cs e h = h ∙ ap (λ js. map (least_and_most n) (flat_map counter_at js)) e
+
+as_many : {X Y Z : Type 0} (f : X → Z) (g : Y → Z) (xs : List X) (ys : List Y) → map f xs ≡ map g ys → length xs ≡ length ys
+as_many f g xs ys h = sym (length-map xs f) ∙ ap length h ∙ length-map ys g
+
+as_many_locals : (n : ℕ) (vs : List Var) (ds : List Declared) → map variable vs ≡ locals_of n 0 ds → length vs ≡ length ds
+as_many_locals n vs ds h = sym (length-map vs variable) ∙ ap length h ∙ locals_many n 0 ds
+
+pub inputs_few : (n : ℕ) (node : Node) (inputs outputs locals : List Var) (counters : List Counter) → IsLimited node → IsMade n node inputs outputs locals counters → length inputs ≤ most_variables
+inputs_few n node inputs outputs locals counters few made =
+    let many = as_many variable (variable_of n) inputs node.inputs made.inputs_made in let l = few.inputs in omega (arith, many, l)
+
+pub drawn_few : (n : ℕ) (node : Node) (inputs outputs locals : List Var) (counters : List Counter) → IsLimited node → IsMade n node inputs outputs locals counters
+    → length outputs + length locals ≤ most_variables
+drawn_few n node inputs outputs locals counters few made =
+    let many = as_many variable (variable_of n) outputs node.outputs made.outputs_made in
+    let more = as_many_locals n locals (locals_in node) made.locals_made in
+    let l = few.drawn in
+    omega (arith, many, more, l)
+
+-- Kinds.
+
+abbrev kinds : List Variable → List Kind
+kinds vs = map (λ v. v.kind) vs
+
+var_kinds : (vs : List Var) → kinds (map variable vs) ≡ map (λ v. v.kind) vs
+var_kinds [] = refl
+var_kinds (v ∷ vs) = ap (λ ks. v.kind ∷ ks) (var_kinds vs)
+
+declared_kinds : (n : ℕ) (ds : List Declared) → kinds (map (variable_of n) ds) ≡ map (λ d. d.kind) ds
+declared_kinds n [] = refl
+declared_kinds n (d ∷ ds) = ap (λ ks. d.kind ∷ ks) (declared_kinds n ds)
+
+local_kinds : (n k : ℕ) (ds : List Declared) → kinds (locals_of n k ds) ≡ map (λ d. d.kind) ds
+local_kinds n k [] = refl
+local_kinds n k (d ∷ ds) = ap (λ ks. d.kind ∷ ks) (local_kinds n (suc k) ds)
+
+-- the kinds of its variables are those of the node's
+pub made_kinds : (n : ℕ) (node : Node) (inputs outputs locals : List Var) (counters : List Counter) (ks : Kinds) → ks ≡ kinds_of node → IsMade n node inputs outputs locals counters
+    → ks ≡ all_kinds inputs outputs locals
+made_kinds n node inputs outputs locals counters ks e made =
+    let ins : map (λ (v : Var). v.kind) inputs ≡ map (λ (d : Declared). d.kind) node.inputs = sym (var_kinds inputs) ∙ ap kinds made.inputs_made ∙ declared_kinds n node.inputs in
+    let outs : map (λ (v : Var). v.kind) outputs ≡ map (λ (d : Declared). d.kind) node.outputs = sym (var_kinds outputs) ∙ ap kinds made.outputs_made ∙ declared_kinds n node.outputs in
+    let ls : map (λ (v : Var). v.kind) locals ≡ map (λ (d : Declared). d.kind) (locals_in node) = sym (var_kinds locals) ∙ ap kinds made.locals_made ∙ local_kinds n 0 (locals_in node) in
+    e ∙ (λ i. record { inputs = sym ins i; outputs = sym outs i; locals = sym ls i })
+
+-- BODIES
+
+-- numbers that follow one another are the numbers from the first on
+numbers_follow : (i : ℕ) (ks : List ℕ) (j m : ℕ) → Follow i ks j → i + m ≡ j → ks ≡ numbers_from i m
+numbers_follow i [] j zero f e = refl
+numbers_follow i [] j (suc m) f e = absurd (omega (arith, f, e))
+numbers_follow i (k ∷ ks) j zero f e = absurd (let l = follow_up (suc i) ks j f.1 in omega (arith, l, e))
+numbers_follow i (k ∷ ks) j (suc m) f e = (λ d. f.0 d ∷ ks) ∙ ap (λ ls. i ∷ ls) (numbers_follow (suc i) ks j m f.1 (omega (arith, e)))
+
+from_zero : (ks : List ℕ) (j : ℕ) → Follow 0 ks j → ks ≡ numbers_from 0 j
+from_zero ks j f = numbers_follow 0 ks j j f (omega arith)
+
+-- a body of a scenario is what a node does
+pub record IsBody (node : Node) (table : Table) (body : Term) (names : ℕ) : Type 0 where
+  pub is : process_over table body ≡ process_of (numbered node.body) node.body
+  pub within : IsTrue (is_within (table_len table) names (process body))
+
+-- a term that is put is one, where exceptions have so many names
+pub body_made : (node : Node) (table : Table) (body : Term) (zs : List Exception) (names : List (List ℕ)) → zs ≡ numbered node.body → names ≡ exception_names zs
+    → IsTerm (table_expressions table) zs node.body (process body)
+    → IsBody node table body (length names)
+body_made node table body zs names e f h =
+    let many : length zs ≡ length names = sym (ap length f ∙ length-map zs (λ (z : Exception). z.name)) in
+    record {
+      is = h.spells ∙ ap (λ ys. process_of ys node.body) e;
+      within = subst (λ k. IsTrue (is_within (table_len table) k (process body))) many (subst (λ k. IsTrue (is_within k (length zs) (process body))) (length-entries table.nodes.entries) h.within);
+    }
+
+pub scopes_made : (n : ℕ) (node : Node) (inputs outputs locals : List Var) (counters : List Counter) (p : Process Expression) → p ≡ process_of (numbered node.body) node.body → IsNumbered node
+    → IsMade n node inputs outputs locals counters
+    → subterms.locals_in p ≡ numbers_from 0 (length locals)
+scopes_made n node inputs outputs locals counters p e numbers made =
+    ap subterms.locals_in e
+    ∙ term_locals (numbered node.body) node.body
+    ∙ from_zero (local_numbers node.body) (length (locals_in node)) numbers.locals
+    ∙ sym (ap (numbers_from 0) (as_many_locals n locals (locals_in node) made.locals_made))
+
+pub loops_made : (n : ℕ) (node : Node) (inputs outputs locals : List Var) (counters : List Counter) (p : Process Expression) → p ≡ process_of (numbered node.body) node.body → IsNumbered node
+    → IsMade n node inputs outputs locals counters
+    → subterms.counters_in p ≡ numbers_from 0 (length counters)
+loops_made n node inputs outputs locals counters p e numbers made =
+    ap subterms.counters_in e
+    ∙ term_counters (numbered node.body) node.body
+    ∙ from_zero (counter_numbers node.body) (length (counters_in node)) numbers.counters
+    ∙ sym (ap (numbers_from 0) (as_many turns (least_and_most n) counters (counters_in node) made.counters_made))
+
+pub inside_made : (node : Node) (p : Process Expression) → p ≡ process_of (numbered node.body) node.body → AreInside [] node.body → IsTrue (are_named_inside [] p)
+inside_made node p e h = ap (are_named_inside []) e ∙ term_inside (numbered node.body) [] node.body h
+
+pub start_made : (node : Node) (p : Process Expression) → p ≡ process_of (numbered node.body) node.body → IsTrue (is_at_start p)
+start_made node p e = ap is_at_start e ∙ term_unbegun (numbered node.body) node.body
+
+pub narrow_made : (node : Node) (p : Process Expression) → p ≡ process_of (numbered node.body) node.body → IsLimited node → IsTrue (is_narrow p)
+narrow_made node p e few = ap is_narrow e ∙ term_narrow (numbered node.body) node.body few.narrow

@@ -1,0 +1,16 @@
+use Rattle.lt_ast.specs.View.{program as declarations}
+use Rattle.lt_macros.specs.Answer.{asked_name}
+use Rattle.lt_macros.specs.Tree.{node}
+use Rattle.lt_expand.proofs.expander.expand.Goals as goal
+
+pub judged_scenario-requires-clause-named : goal.judged_scenario-requires-clause-named
+judged_scenario-requires-clause-named c =
+    c.names_are_there.ensures c.args.typed.now.decimals (asked_name c.args.node) (declarations c.args.typed.now.program) (node c.in_ok-asked.asked) c.in_ok-asked.ensures.0
+
+pub judged_scenario-requires-clause-numbered : goal.judged_scenario-requires-clause-numbered
+judged_scenario-requires-clause-numbered c =
+    c.parts_are_numbered.ensures c.args.typed.now.decimals (asked_name c.args.node) (declarations c.args.typed.now.program) (node c.in_ok-asked.asked) c.in_ok-asked.ensures.0
+
+pub judged_scenario-requires-clause-inside : goal.judged_scenario-requires-clause-inside
+judged_scenario-requires-clause-inside c =
+    c.locals_are_inside.ensures c.args.typed.now.decimals (asked_name c.args.node) (declarations c.args.typed.now.program) (node c.in_ok-asked.asked) c.in_ok-asked.ensures.0

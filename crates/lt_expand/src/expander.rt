@@ -1,0 +1,51 @@
+//! From a program to its scenario.
+
+ghost use Rattle.std.specs.Prelude.{◌≡◌, ◌≤◌, []};
+ghost use Rattle.lt_ast.specs.View.{program as declarations};
+ghost use Rattle.lt_num.specs.Bounds.{most_decimals};
+ghost use Rattle.lt_macros.specs.Answer.{asked_name};
+ghost use Rattle.lt_macros.specs.Expansion.{expanded_node};
+ghost use Rattle.lt_macros.specs.Limits.{passed_limits};
+ghost use Rattle.lt_macros.specs.Naming.{NamesWhatIsThere};
+ghost use Rattle.lt_macros.specs.Numbering.{IsNumbered};
+ghost use Rattle.lt_macros.specs.Scoping.{AreInside};
+ghost use Rattle.lt_macros.specs.Tree.{expanded, node};
+ghost use Rattle.lt_expand.specs.Answer.{IsAnswer};
+
+use crate::judging::judge;
+use crate::refusal::ExpandRefusal;
+use crate::scenario::scenario;
+use lt_macros::{Node, expanded_node, locals_are_inside, names_are_there, parts_are_numbered};
+use lt_term::Scenario;
+use lt_types::Typed;
+use std::alloc::Global;
+
+/// The scenario of the node that is asked for, or of the first one where no name is given.
+///
+/// # Errors
+///
+/// The first refusal: [`ExpandRefusal::UnknownNode`] where no node has the name; then, over the whole expanded node,
+/// the first limit that it is past, and the first place in preorder of each other cause, in the order of the causes.
+/// [`ExpandRefusal::Memory`] where memory ran out.
+pub fn expand(alloc: Global, typed: &Typed, node: Option<&str>) -> Result<Scenario, ExpandRefusal>
+    ensures { IsAnswer typed.now.decimals (expanded_node typed.now.decimals (asked_name node.entry) (declarations typed.now.program)) result }
+{
+    let asked = expanded_node(alloc, typed, node)?;
+    parts_are_numbered();
+    locals_are_inside();
+    names_are_there();
+    judged_scenario(alloc, &asked, typed.decimals())
+}
+
+// The scenario of a node that is within the limits, or what is refused of it first.
+fn judged_scenario(alloc: Global, asked: &Node, decimals: u32) -> Result<Scenario, ExpandRefusal>
+    requires few { decimals ≤ most_decimals }
+    requires limits { passed_limits (node asked.now) ≡ [] }
+    requires named { NamesWhatIsThere (node asked.now) }
+    requires numbered { IsNumbered (node asked.now) }
+    requires inside { AreInside [] (expanded asked.now.body) }
+    ensures { IsAnswer decimals (Some (node asked.now)) result }
+{
+    judge(alloc, asked, decimals)?;
+    Ok(scenario(alloc, asked, decimals)?)
+}

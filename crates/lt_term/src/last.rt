@@ -1,0 +1,13 @@
+//! What a local variable had in the instant before.
+
+use lt_num::Value;
+
+/// The value that a local variable had in the instant before.
+#[derive(Clone, Copy, Debug, PartialEq, Eq)]
+pub enum Last {
+    /// It had none: its scope is entered in this instant.
+    First,
+
+    /// This one.
+    Kept(Value),
+}

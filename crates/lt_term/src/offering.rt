@@ -1,0 +1,303 @@
+//! What a term offers in one instant.
+
+ghost use Rattle.std.specs.Prelude.{◌≡◌, ◌≤◌, ℕ, IsTrue, ◌++◌, suc, [], ◌∷◌, map, All, IfOk, OnOk};
+ghost use Rattle.std.specs.List.{flat_map, list_all};
+ghost use Rattle.lt_formula.specs.Expression.{Expression};
+ghost use Rattle.lt_term.specs.Counted.{IsCounted};
+ghost use Rattle.lt_term.specs.Limits.{most_turns};
+ghost use Rattle.lt_term.specs.Mapped.{node_passes, node_with_constraints};
+ghost use Rattle.lt_term.specs.Offers.{in_catch, in_par, in_seq, offers_of};
+ghost use Rattle.lt_term.specs.Process.{count, with_constraints};
+ghost use Rattle.lt_term.specs.Replaced.{replaced};
+ghost use Rattle.lt_term.specs.Tree.{expression, flattened, more, stop, weighted_node};
+ghost use Rattle.lt_term.specs.TreeView.{tree_nodes, weight};
+ghost use Rattle.lt_term.specs.View.{kinds_of, process};
+ghost use Rattle.lt_term.specs.Within.{Tests, passes};
+
+use crate::memory::Memory;
+use crate::next::{caught, sequence};
+use crate::rules::{put, put_assert, put_exist, put_joined, put_try, put_turn, start_of};
+use crate::scenario::Scenario;
+use crate::term::Term;
+use crate::tree::{Tree, TreeNode, Weight};
+use crate::variable::Var;
+use std::alloc::{AllocError, Global};
+
+/// What a term of a scenario offers.
+#[tactic(auto, using(crate::proofs::Natural::nodes_natural, crate::proofs::Passing::nodes_pass))]
+pub fn offers(alloc: Global, scenario: &Scenario, term: &Term) -> Result<Tree, Memory>
+    requires { IsCounted (process term.now) }
+    // The tree of the rules, with the numbers of the constraints ..
+    ensures numbers { IfOk result (λ t. tree_nodes t.nodes.items ≡ flattened (offers_of (kinds_of scenario.now.locals.items) (process term.now))) }
+    // .. and so with whatever stands behind these numbers.
+    ensures expressions { IfOk result (λ t. (meaning : ℕ → Expression) →
+        map (node_with_constraints meaning) (tree_nodes t.nodes.items) ≡ flattened (offers_of (kinds_of scenario.now.locals.items) (with_constraints meaning (process term.now)))) }
+    // Its numbers are those of the term.
+    ensures passes { IfOk result (λ t. (tests : Tests ℕ) → IsTrue (passes tests (process term.now)) → IsTrue (list_all (node_passes tests) (tree_nodes t.nodes.items))) }
+{
+    let nodes = nodes_of(alloc, &scenario.locals, term)?;
+    Ok(Tree { nodes })
+}
+
+// The nodes of a term.
+#[cycle(emit)]
+fn nodes_of(alloc: Global, locals: &[Var], term: &Term) -> Result<Vec<TreeNode>, AllocError>
+    requires { IsCounted (process term.now) }
+    ensures { IfOk result (λ nodes. tree_nodes nodes.items ≡ flattened (offers_of (kinds_of locals.now) (process term.now))) }
+{
+    let mut nodes = Vec::new(alloc);
+    emit(alloc, locals, &mut nodes, term)?;
+    Ok(nodes)
+}
+
+// Puts the nodes of a term at the end of a list.
+#[cycle(emit)]
+#[tactic(auto, using(crate::proofs::Trees::nodes))]
+fn emit(
+    alloc: Global,
+    locals: &[Var],
+    out: &mut Vec<TreeNode>,
+    term: &Term,
+) -> Result<(), AllocError>
+    requires { IsCounted (process term.now) }
+    ensures { OnOk result (tree_nodes out.new.items ≡ tree_nodes out.old.items ++ flattened (offers_of (kinds_of locals.now) (process term.now))) }
+{
+    match term {
+        Term::Eps => put(out, TreeNode::Vanish),
+        Term::Dead => put(out, TreeNode::None),
+        Term::Con(constraint) => {
+            let constraints = vec![in alloc; *constraint]?;
+            let lasts = Vec::new(alloc);
+            let next = Term::Eps;
+            put(
+                out,
+                TreeNode::Go {
+                    constraints,
+                    lasts,
+                    next,
+                },
+            )
+        }
+        Term::Raise(exception) => put(out, TreeNode::Raise(*exception)),
+        Term::Seq(first, second) => {
+            let nodes = nodes_of(alloc, locals, first)?;
+            put_seq(alloc, locals, out, nodes, second)
+        }
+        Term::Loop(body) => {
+            let nodes = nodes_of(alloc, locals, body)?;
+            put(out, TreeNode::Pri)?;
+            put_turn(alloc, out, nodes, term)?;
+            put(out, TreeNode::Vanish)
+        }
+        Term::Count {
+            counter,
+            done,
+            body,
+        } => {
+            let nodes = nodes_of(alloc, locals, body)?;
+            let again = one_more_done(alloc, *counter, *done, body)?;
+            put_count(alloc, out, *counter, *done)?;
+            put_turn(alloc, out, nodes, &again)?;
+            put(out, TreeNode::Vanish)
+        }
+        Term::Any(parts) => {
+            let weights = weights_of(alloc, parts)?;
+            let lasts = Vec::new(alloc);
+            put(out, TreeNode::Any { weights, lasts })?;
+            emit_parts(alloc, locals, out, parts)
+        }
+        Term::Pri(first, second) => {
+            put(out, TreeNode::Pri)?;
+            emit(alloc, locals, out, first)?;
+            emit(alloc, locals, out, second)
+        }
+        Term::Par(first, second) => {
+            let first_nodes = nodes_of(alloc, locals, first)?;
+            put_par(alloc, locals, out, first_nodes, second)
+        }
+        Term::Assert(constraint, body) => {
+            let nodes = nodes_of(alloc, locals, body)?;
+            put_assert(alloc, out, nodes, *constraint)
+        }
+        Term::Exist { local, last, body } => {
+            let nodes = nodes_of(alloc, locals, body)?;
+            let start = start_of(locals, *local);
+            put_exist(alloc, out, nodes, start, *local, *last)
+        }
+        Term::Catch {
+            exception,
+            body,
+            otherwise,
+        } => {
+            let nodes = nodes_of(alloc, locals, body)?;
+            put_catch(alloc, locals, out, nodes, *exception, otherwise)
+        }
+        Term::Try { body, otherwise } => {
+            let nodes = nodes_of(alloc, locals, body)?;
+            put(out, TreeNode::Pri)?;
+            put_try(alloc, out, nodes, otherwise)?;
+            emit(alloc, locals, out, otherwise)
+        }
+    }
+}
+
+// The nodes of the parts of a choice.
+#[cycle(emit)]
+fn emit_parts(
+    alloc: Global,
+    locals: &[Var],
+    out: &mut Vec<TreeNode>,
+    parts: &Vec<(u32, Term)>,
+) -> Result<(), AllocError>
+    requires counted { All (λ p. IsCounted (process p.1)) parts.now.items }
+    ensures { OnOk result (tree_nodes out.new.items ≡ tree_nodes out.old.items ++ flat_map (λ p. flattened (offers_of (kinds_of locals.now) (process p.1))) parts.now.items) }
+{
+    for (_, part) in parts {
+        emit(alloc, locals, out, part)?;
+    }
+    Ok(())
+}
+
+// The weights of the parts of a choice.
+fn weights_of(alloc: Global, parts: &Vec<(u32, Term)>) -> Result<Vec<Weight>, AllocError>
+    ensures { IfOk result (λ ws. map weight ws.items ≡ map (λ p. expression p.0) parts.now.items) }
+{
+    let mut weights = Vec::new(alloc);
+    for (number, _) in parts {
+        weights.push(Weight::Exp(*number))?;
+    }
+    Ok(weights)
+}
+
+// The root of a counted loop: one more turn, or the end.
+fn put_count(
+    alloc: Global,
+    out: &mut Vec<TreeNode>,
+    counter: u32,
+    done: u64,
+) -> Result<(), AllocError>
+    ensures { OnOk result (tree_nodes out.new.items ≡ tree_nodes out.old.items ++ weighted_node [] (more counter done ∷ stop counter done ∷ []) ∷ []) }
+{
+    let mut weights = Vec::new(alloc);
+    weights.push(Weight::More { counter, done })?;
+    weights.push(Weight::Stop { counter, done })?;
+    let lasts = Vec::new(alloc);
+    put(out, TreeNode::Any { weights, lasts })
+}
+
+// A counted loop of which one more turn is done.
+fn one_more_done(alloc: Global, counter: u32, done: u64, body: &Term) -> Result<Term, AllocError>
+    requires { done ≤ most_turns }
+    ensures { IfOk result (λ t. process t ≡ count counter (suc done) (process body.now)) }
+{
+    let body = Box::new(alloc, body.clone()?)?;
+    let done = done + 1;
+    Ok(Term::Count {
+        counter,
+        done,
+        body,
+    })
+}
+
+// The nodes of a first part for a sequence: those of the second part where the first is over.
+#[cycle(emit)]
+fn put_seq(
+    alloc: Global,
+    locals: &[Var],
+    out: &mut Vec<TreeNode>,
+    nodes: Vec<TreeNode>,
+    second: &Term,
+) -> Result<(), AllocError>
+    requires { IsCounted (process second.now) }
+    ensures { OnOk result (tree_nodes out.new.items ≡ tree_nodes out.old.items ++ flat_map (replaced (in_seq (process second.now) (offers_of (kinds_of locals.now) (process second.now)))) (tree_nodes nodes.items)) }
+{
+    for node in nodes {
+        match node {
+            TreeNode::Vanish => emit(alloc, locals, out, second)?,
+            TreeNode::Go {
+                constraints,
+                lasts,
+                next,
+            } => {
+                let next = sequence(alloc, next, second)?;
+                put(
+                    out,
+                    TreeNode::Go {
+                        constraints,
+                        lasts,
+                        next,
+                    },
+                )?
+            }
+            other => put(out, other)?,
+        }
+    }
+    Ok(())
+}
+
+// The nodes of a first side for two at once: those of the second side where the first takes part in an
+// instant or is over, and so anew for each such leaf.
+#[cycle(emit)]
+fn put_par(
+    alloc: Global,
+    locals: &[Var],
+    out: &mut Vec<TreeNode>,
+    nodes: Vec<TreeNode>,
+    second: &Term,
+) -> Result<(), AllocError>
+    requires { IsCounted (process second.now) }
+    ensures { OnOk result (tree_nodes out.new.items ≡ tree_nodes out.old.items ++ flat_map (replaced (in_par (offers_of (kinds_of locals.now) (process second.now)))) (tree_nodes nodes.items)) }
+{
+    for node in nodes {
+        match node {
+            TreeNode::Vanish => emit(alloc, locals, out, second)?,
+            TreeNode::Go {
+                constraints,
+                lasts,
+                next,
+            } => {
+                let others = nodes_of(alloc, locals, second)?;
+                put_joined(alloc, out, &constraints, &lasts, &next, others)?
+            }
+            other => put(out, other)?,
+        }
+    }
+    Ok(())
+}
+
+// The nodes of a part with a handler: those of the handler where the part raises its exception.
+#[cycle(emit)]
+fn put_catch(
+    alloc: Global,
+    locals: &[Var],
+    out: &mut Vec<TreeNode>,
+    nodes: Vec<TreeNode>,
+    exception: u32,
+    handler: &Term,
+) -> Result<(), AllocError>
+    requires { IsCounted (process handler.now) }
+    ensures { OnOk result (tree_nodes out.new.items ≡ tree_nodes out.old.items ++ flat_map (replaced (in_catch exception (process handler.now) (offers_of (kinds_of locals.now) (process handler.now)))) (tree_nodes nodes.items)) }
+{
+    for node in nodes {
+        match node {
+            TreeNode::Raise(raised) if raised == exception => emit(alloc, locals, out, handler)?,
+            TreeNode::Go {
+                constraints,
+                lasts,
+                next,
+            } => {
+                let next = caught(alloc, exception, next, handler)?;
+                put(
+                    out,
+                    TreeNode::Go {
+                        constraints,
+                        lasts,
+                        next,
+                    },
+                )?
+            }
+            other => put(out, other)?,
+        }
+    }
+    Ok(())
+}
