@@ -1,10 +1,6 @@
 -- A pick by weight.
-use Rattle.std.specs.Prelude.{◌≡◌, ℕ, suc, ◌-◌, ◌%◌, ◌^◌, ◌<◌, ◌≤◌, ◌==◌, nat_lt, if◌then◌else◌, List, [], ◌∷◌, length, sum, take, count_by, slice_index}
+use Rattle.std.specs.Prelude.{◌≡◌, ℕ, suc, ◌-◌, ◌%◌, ◌<◌, ◌≤◌, ◌==◌, nat_lt, if◌then◌else◌, List, [], ◌∷◌, length, sum, take, count_by, slice_index}
 use Rattle.std.specs.List.{range_with_len}
-
--- the greatest sum of weights that a pick is made of
-abbrev pub most_weight : ℕ
-most_weight = 2 ^ 63
 
 -- the first place whose cumulated weight is greater than a remainder
 abbrev pub place_over : List ℕ → ℕ → ℕ

@@ -18,5 +18,5 @@ pub use laws::{
     each_is_a_target, picks_by_weight, picks_the_first_over, places_are_apart, words_are_answers,
 };
 pub use targets::target;
-pub use weights::pick;
+pub use weights::{pick, sum_of};
 pub use words::{SlotWords, StepWords, word};

@@ -1,22 +1,32 @@
 //! Picks by weight.
 
-ghost use Rattle.std.specs.Prelude.{◌≡◌, ◌<◌, ◌≤◌, length, slice_index, sum};
-ghost use Rattle.lt_draw.specs.Pick.{most_weight, picked};
+ghost use Rattle.std.specs.Prelude.{◌≡◌, ◌<◌, length, slice_index, sum};
+ghost use Rattle.lt_draw.specs.Pick.{picked};
 
 /// The place that a word picks: the first one whose cumulated weight is greater than the remainder of the word
 /// by the sum of the weights.
 pub fn pick(weights: &[u64], word: u64) -> usize
-    requires some { 0 < sum weights.now }
-    requires few { sum weights.now ≤ most_weight }
+    requires { 0 < sum weights.now }
     ensures place { result ≡ picked weights.now word }
     ensures within { result < length weights.now }
     ensures positive { 0 < slice_index weights.now result }
 {
-    let mut rest = word % weights.iter().sum::<u64>();
+    let mut rest = u128::from(word) % sum_of(weights);
     let mut place = 0;
-    while rest >= weights[place] {
-        rest -= weights[place];
+    while rest >= u128::from(weights[place]) {
+        rest -= u128::from(weights[place]);
         place += 1;
     }
     place
+}
+
+/// The sum of some weights, which may be more than 64 bits can tell.
+pub fn sum_of(weights: &[u64]) -> u128
+    ensures { result ≡ sum weights.now }
+{
+    let mut total = 0;
+    for weight in weights {
+        total += u128::from(*weight);
+    }
+    total
 }
