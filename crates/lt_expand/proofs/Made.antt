@@ -8,7 +8,7 @@ use Rattle.lt_formula.specs.Kinds.{Kinds}
 use Rattle.lt_formula.specs.View.{table_expressions, table_len}
 use Rattle.lt_formula.specs.declared.table.Table.{Table}
 use Rattle.lt_macros.specs.Expanded.{Declared, Exception, Node}
-use Rattle.lt_macros.specs.Limits.{most_variables}
+use Rattle.lt_formula.specs.Limits.{most_variables}
 use Rattle.lt_macros.specs.Numbering.{Follow, IsNumbered, counter_numbers, local_numbers}
 use Rattle.lt_macros.specs.Preorder.{Item, counter_at, counters_in, items, local_at, locals_in}
 use Rattle.lt_macros.specs.Scoping.{AreInside}

@@ -11,7 +11,8 @@ use Rattle.lt_formula.specs.declared.role.Role.{Role}
 use Rattle.lt_formula.specs.declared.role.Role.TheVariants as role
 use Rattle.lt_macros.specs.Expanded.{Declared, Exception, Expanded, Node, eps, dead, con, raise, seq, loop, count, any, pri, par, assert, exist, catch, try, Parts, no_part, part}
 use Rattle.lt_macros.specs.Failing.{unless}
-use Rattle.lt_macros.specs.Limits.{most_expression_depth, most_nodes, most_term_depth, most_variables, passed_limits}
+use Rattle.lt_formula.specs.Limits.{most_variables}
+use Rattle.lt_macros.specs.Limits.{most_expression_depth, most_nodes, most_term_depth, passed_limits}
 use Rattle.lt_macros.specs.Naming.{AreEachNamed, AreNamed, HaveDomains, IsNamed, IsOneOf, NamesWhatIsThere}
 use Rattle.lt_macros.specs.Nodes.{drawn_count, expression_depth, node_count, term_depth}
 use Rattle.lt_macros.specs.Numbering.{Follow, IsNumbered, local_numbers, local_numbers_in}

@@ -7,7 +7,7 @@ use Rattle.lt_formula.specs.Expression.{Expression}
 use Rattle.lt_formula.specs.declared.role.Role.{Role}
 use Rattle.lt_formula.specs.declared.role.Role.TheVariants as role
 use Rattle.lt_term.proofs.Public.{both, left_of, right_of}
-use Rattle.lt_term.specs.Limits.{most_alternatives}
+use Rattle.lt_formula.specs.Limits.{most_alternatives}
 use Rattle.lt_term.specs.Process.{Process}
 use Rattle.lt_term.specs.Scope.{is_open, names_only, are_named_inside, are_each_named_inside}
 use Rattle.lt_term.specs.Subterms.{alternatives, counter_at, counters_in, is_at_start, is_narrow, is_narrow_choice, is_unbegun, local_at, locals_in, subterms, subterms_of_each}

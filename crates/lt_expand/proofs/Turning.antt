@@ -7,7 +7,7 @@ use Rattle.std.proofs.lemmas.Float.{T_from_true}
 use Rattle.std.proofs.lemmas.Int.{ints, clamps}
 use Rattle.lt_macros.specs.Expanded.{Bounds, between, around}
 use Rattle.lt_macros.specs.Failing.{unless}
-use Rattle.lt_macros.specs.Limits.{most_turns}
+use Rattle.lt_formula.specs.Limits.{most_turns}
 use Rattle.lt_macros.specs.Placed.{place_of}
 use Rattle.lt_expand.specs.Static.{Turns, bad_bounds, fit_together, least_and_most, numbers_of, passes, static_raw, turns_around, turns_between, turns_by, turns_of}
 use Rattle.lt_term.proofs.Public.{left_of, right_of}

@@ -16,7 +16,7 @@ use Rattle.lt_macros.specs.Placed.{Placed, bare, place_of}
 use Rattle.lt_macros.specs.Expanded.{Declared, Bounds, between, around, count, exist, Node}
 use Rattle.lt_macros.specs.Failing.{unless}
 use Rattle.lt_macros.specs.Preorder.{Item, term, items, in_first}
-use Rattle.lt_macros.specs.Limits.{most_turns}
+use Rattle.lt_formula.specs.Limits.{most_turns}
 
 -- the kinds of no variables
 abbrev pub no_kinds : Kinds

@@ -21,7 +21,7 @@ pub enum ExpandRefusal {
     #[error("what stands at byte {} can't be a bound or a first value", .0.start)]
     BadStatic(Span),
 
-    /// A product or a quotient of what is drawn in the same instant.
+    /// A product, a quotient or a rest that isn't linear in what is drawn in the same instant.
     #[error("what stands at byte {} isn't linear in what is drawn", .0.start)]
     NonLinear(Span),
 

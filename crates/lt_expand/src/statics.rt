@@ -6,7 +6,7 @@ ghost use Rattle.lt_formula.specs.Facts.{binary_facts, choice_facts, unary_facts
 ghost use Rattle.lt_formula.specs.Operators.{and_then, unary_value};
 ghost use Rattle.lt_macros.specs.Expanded as x;
 ghost use Rattle.lt_macros.specs.Failing.{unless};
-ghost use Rattle.lt_macros.specs.Limits.{most_turns};
+ghost use Rattle.lt_formula.specs.Limits.{most_turns};
 ghost use Rattle.lt_expand.specs.Static.{bad_bounds, bad_first, is_in, passes, static_raw, static_value, turns_of};
 ghost use Rattle.lt_expand.specs.inner.Firsts.{first};
 ghost use Rattle.lt_macros.specs.Tree.{bounds as bounds_view, declared, placed};

@@ -18,5 +18,7 @@ pub mod View
 pub mod Domain
 -- The first values that pass a test.
 pub mod Solution
+-- How large a scenario may be.
+pub mod Limits
 -- Words of private contracts and of what types keep.
 pub mod inner

@@ -5,9 +5,9 @@ ghost use Rattle.std.specs.List.{IsDistinct};
 ghost use Rattle.std.proofs.Props.{props};
 ghost use Rattle.lt_formula.specs.contracts.node.ExpNodePartialEq.TheImpl.{eq-value};
 ghost use Rattle.lt_formula.specs.Facts.{facts_of};
-ghost use Rattle.lt_formula.specs.Kinds.{kind_of_variable};
+ghost use Rattle.lt_formula.specs.Kinds.{HasFewVariables, kind_of_variable, number_of};
 ghost use Rattle.lt_formula.specs.Shape.{built, shape_of};
-ghost use Rattle.lt_formula.specs.Table.{HasEachOnce, IsNumber, Keeps, expression_at, expressions_of, fits, nodes_of, spelled};
+ghost use Rattle.lt_formula.specs.Table.{HasEachOnce, IsNumber, Keeps, expression_at, expressions_of, fits, names_variable, nodes_of, spelled};
 ghost use Rattle.lt_formula.specs.inner.Ordered.{are_ordered};
 
 use crate::facts::Facts;
@@ -97,6 +97,18 @@ impl Table {
         ensures { result ≡ facts_of (table_kinds self.now) (spelled (table_expressions self.now) number) }
     {
         self.nodes[number as usize]
+    }
+
+    /// The number of an output or local among these, in which the outputs stand first. There are at most 2^32.
+    pub fn number_of(&self, role: Role, place: u32) -> u32
+        requires few { HasFewVariables (table_kinds self.now) }
+        requires fits { IsTrue (names_variable (table_kinds self.now) (Shape.Variable role place)) }
+        ensures { result ≡ number_of (table_kinds self.now) role place }
+    {
+        match role {
+            Role::Local => (self.outputs.len() + place as usize) as u32,
+            Role::Input | Role::Output => place,
+        }
     }
 
     // The facts of a shape over the expressions that are there.

@@ -9,7 +9,8 @@ use Rattle.lt_macros.specs.Expanded.{Declared, Bounds, between, around, Expanded
 use Rattle.lt_macros.specs.Failing.{unless}
 use Rattle.lt_macros.specs.Preorder.{Item, term, weight, items, items_in, in_first, expressions_at, expressions_in, local_at, locals_in, with_parts}
 use Rattle.lt_macros.specs.Nodes.{term_count, expression_nodes, node_count, term_depth, parts_depth, expression_depth, alternatives_at, drawn_count}
-use Rattle.lt_macros.specs.Limits.{most_nodes, most_term_depth, most_expression_depth, most_alternatives, most_variables, passed_limits}
+use Rattle.lt_formula.specs.Limits.{most_alternatives, most_variables}
+use Rattle.lt_macros.specs.Limits.{most_nodes, most_term_depth, most_expression_depth, passed_limits}
 use Rattle.lt_macros.specs.inner.Figures.{Figure, nodes, deep_terms, deep_expressions, wide_choices, locals, one_if, term_weight, expression_weight, choice_weight, local_weight, expression_figure, bounds_figure, first_figure, expanded_figure, parts_figure, variables_figure, node_figure, limit_by}
 use Rattle.lt_macros.specs.declared.limit.Limit.TheVariants.{Nodes, Depth, Children, Variables}
 

@@ -21,7 +21,8 @@ use Rattle.lt_macros.specs.inner.Counting.{AreWithin, IsLeftWithin, IsTallied, g
 use Rattle.lt_macros.specs.inner.Figures.{Figure, nodes, deep_terms, deep_expressions, wide_choices, locals, expanded_figure, expression_figure, expression_weight, first_figure, limit_by, local_weight, term_weight}
 use Rattle.lt_macros.specs.inner.Seen.{Seen}
 use Rattle.lt_macros.specs.inner.Tallies.{counted}
-use Rattle.lt_macros.specs.Limits.{most_nodes, most_variables}
+use Rattle.lt_formula.specs.Limits.{most_variables}
+use Rattle.lt_macros.specs.Limits.{most_nodes}
 use Rattle.lt_macros.specs.declared.tally.Tally.{Tally}
 use Rattle.lt_macros.specs.declared.limit.Limit.TheVariants.{Nodes, Depth, Children, Variables}
 use Rattle.lt_formula.specs.declared.role.Role.TheVariants as role

@@ -1,6 +1,7 @@
 -- How large a scenario may be.
 use Rattle.std.specs.Prelude.{ℕ, nat_le, ◌&&◌, List, ◌++◌, length}
 use Rattle.std.specs.List.{list_all}
+use Rattle.lt_formula.specs.Limits.{most_alternatives, most_variables}
 use Rattle.lt_macros.specs.Expanded.{Node}
 use Rattle.lt_macros.specs.Failing.{unless}
 use Rattle.lt_macros.specs.Preorder.{items, expressions_in}
@@ -19,18 +20,6 @@ most_term_depth = 1000
 -- how deep an expression may be
 abbrev pub most_expression_depth : ℕ
 most_expression_depth = 5000
-
--- the most alternatives that a choice may have
-abbrev pub most_alternatives : ℕ
-most_alternatives = 64
-
--- the most inputs that there may be, and the most outputs and locals together
-abbrev pub most_variables : ℕ
-most_variables = 128
-
--- the most turns that a counted loop may have
-abbrev pub most_turns : ℕ
-most_turns = 1000000
 
 -- the limits that a node is past, in order
 abbrev pub passed_limits : Node → List Limit

@@ -5,8 +5,7 @@ use Rattle.std.proofs.lemmas.Grind.{flat_map-append}
 use Rattle.std.proofs.lemmas.List.Folds.{list_all-append}
 use Rattle.std.specs.List.{flat_map, list_all}
 use Rattle.lt_term.proofs.Tests.{both, left_of, right_of}
-use Rattle.lt_term.specs.Counted.{IsCounted, AreCounted}
-use Rattle.lt_term.specs.Limits.{most_turns}
+use Rattle.lt_term.specs.Counted.{IsCounted, IsDoneTo, AreDoneTo}
 use Rattle.lt_term.specs.Process.{Process, eps, dead, con, raise, seq, loop, count, any, pri, par, assert, exist, catch, try, Choices, no_choice, choice, with_constraints, choices_with_constraints}
 use Rattle.lt_term.specs.Subterms.{subterms, subterms_of_each, local_at, counter_at, locals_in, counters_in, numbers_from, is_first, is_unbegun, is_at_start}
 use Rattle.lt_term.specs.Within.{Tests, passes, each_passes, is_within, below}
@@ -18,19 +17,19 @@ back : {X : Type 0} (p : X → Bool) (xs ys : List X) → IsTrue (list_all p (xs
 back p xs ys h = right_of (list_all p xs) _ (sym (list_all-append p xs ys) ∙ h)
 
 -- no turn is few turns
-few : (done : ℕ) → IsTrue (nat_eq done 0) → done ≤ most_turns
-few done h = let e : done ≡ 0 = eqb-true done 0 h in omega (arith, e)
+few : (k done : ℕ) → IsTrue (nat_eq done 0) → done ≤ k
+few k done h = let e : done ≡ 0 = eqb-true done 0 h in omega (arith, e)
 
-module _ {C D : Type 0} (f : C → D) where
+module _ {C D : Type 0} (f : C → D) (k : ℕ) where
   mutual
-    counted : (p : Process C) → IsTrue (list_all is_unbegun (subterms (with_constraints f p))) → IsCounted p
+    counted : (p : Process C) → IsTrue (list_all is_unbegun (subterms (with_constraints f p))) → IsDoneTo k p
     counted eps h = tt
     counted dead h = tt
     counted (con c) h = tt
     counted (raise z) h = tt
     counted (seq a b) h = (counted a (front is_unbegun (subterms (with_constraints f a)) _ h), counted b (back is_unbegun (subterms (with_constraints f a)) _ h))
     counted (loop t) h = counted t h
-    counted (count i done t) h = (few done (left_of (nat_eq done 0) _ h), counted t (right_of (nat_eq done 0) _ h))
+    counted (count i done t) h = (few k done (left_of (nat_eq done 0) _ h), counted t (right_of (nat_eq done 0) _ h))
     counted (any cs) h = each_counted cs h
     counted (pri a b) h = (counted a (front is_unbegun (subterms (with_constraints f a)) _ h), counted b (back is_unbegun (subterms (with_constraints f a)) _ h))
     counted (par a b) h = (counted a (front is_unbegun (subterms (with_constraints f a)) _ h), counted b (back is_unbegun (subterms (with_constraints f a)) _ h))
@@ -39,7 +38,7 @@ module _ {C D : Type 0} (f : C → D) where
     counted (catch z t b) h = (counted t (front is_unbegun (subterms (with_constraints f t)) _ h), counted b (back is_unbegun (subterms (with_constraints f t)) _ h))
     counted (try t b) h = (counted t (front is_unbegun (subterms (with_constraints f t)) _ h), counted b (back is_unbegun (subterms (with_constraints f t)) _ h))
 
-    each_counted : (cs : Choices C) → IsTrue (list_all is_unbegun (subterms_of_each (choices_with_constraints f cs))) → AreCounted cs
+    each_counted : (cs : Choices C) → IsTrue (list_all is_unbegun (subterms_of_each (choices_with_constraints f cs))) → AreDoneTo k cs
     each_counted no_choice h = tt
     each_counted (choice w t cs) h = (counted t (front is_unbegun (subterms (with_constraints f t)) _ h), each_counted cs (back is_unbegun (subterms (with_constraints f t)) _ h))
 
@@ -102,12 +101,15 @@ numbers_below : (ks : List ℕ) (n : ℕ) → ks ≡ numbers_from 0 n → IsTrue
 numbers_below ks n e = ap (list_all (λ k. nat_lt k n)) e ∙ all_below 0 n n (omega arith)
 
 -- no counted loop of a body at its start has a turn done
+pub body_unbegun : {C D : Type 0} (f : C → D) (k : ℕ) (p : Process C) → IsTrue (is_at_start (with_constraints f p)) → IsDoneTo k p
+body_unbegun f k p h = counted f k p h
+
 pub body_counted : {C D : Type 0} (f : C → D) (p : Process C) → IsTrue (is_at_start (with_constraints f p)) → IsCounted p
-body_counted f p h = counted f p h
+body_counted f p h = counted f _ p h
 
 -- the numbers of a body are those of its scenario
 pub body_passes : {D : Type 0} (f : ℕ → D) (p : Process ℕ) (expressions exceptions locals counters : ℕ) → IsTrue (is_within expressions exceptions p)
     → locals_in (with_constraints f p) ≡ numbers_from 0 locals → counters_in (with_constraints f p) ≡ numbers_from 0 counters → IsTrue (passes (below expressions exceptions locals counters) p)
 body_passes f p expressions exceptions locals counters h ls cs = all_pass f (below expressions exceptions locals counters) p h (numbers_below _ locals ls) (numbers_below _ counters cs)
 
-pub ruleset bodies = (body_passes, body_counted)
+pub ruleset bodies = (body_passes, body_counted, body_unbegun)

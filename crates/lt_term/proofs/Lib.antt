@@ -1,3 +1,4 @@
+pub mod Advances
 pub mod Bodies
 pub mod Natural
 pub mod Passing
@@ -5,5 +6,6 @@ pub mod Sizes
 pub mod Tallies
 pub mod Tests
 pub mod Trees
+pub mod TurnLemmas
 pub mod Views
 pub mod Public

@@ -14,6 +14,8 @@ pub mod Within
 pub mod Scope
 -- How many turns of counted loops are done.
 pub mod Counted
+-- Counted loops turn at most once in an instant.
+pub mod Turns
 -- Trees of what can be done in one instant.
 pub mod Tree
 -- What comes after an instant.

@@ -1,7 +1,7 @@
 -- The parts of a term, and what of them is told once for all.
 use Rattle.std.specs.Prelude.{ℕ, zero, suc, Bool, true, false, nat_eq, nat_le, List, [], ◌∷◌, ◌++◌}
 use Rattle.std.specs.List.{flat_map, list_all}
-use Rattle.lt_term.specs.Limits.{most_alternatives}
+use Rattle.lt_formula.specs.Limits.{most_alternatives}
 use Rattle.lt_term.specs.Process.{Process, eps, dead, con, raise, seq, loop, count, any, pri, par, assert, exist, catch, try, Choices, no_choice, choice}
 use Rattle.lt_term.specs.declared.last.Last.{Last}
 use Rattle.lt_term.specs.declared.last.Last.TheVariants as last

@@ -1,7 +1,7 @@
 //! Counters.
 
 ghost use Rattle.std.specs.Prelude.{◌≤◌};
-ghost use Rattle.lt_term.specs.Limits.{most_turns};
+ghost use Rattle.lt_formula.specs.Limits.{most_turns};
 
 /// How often a counted loop turns.
 #[derive(Clone, Copy, Debug)]

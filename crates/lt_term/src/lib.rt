@@ -15,6 +15,7 @@
 //! layers above.
 #![tactic(auto)]
 
+mod advancing;
 mod counter;
 mod last;
 mod laws;
@@ -28,9 +29,10 @@ mod term;
 mod tree;
 mod variable;
 
+pub use advancing::advance;
 pub use counter::Counter;
 pub use last::Last;
-pub use laws::{body_is_valid, size_is_weight};
+pub use laws::{body_is_valid, size_is_weight, turns_grow_by_one};
 pub use memory::Memory;
 pub use offering::offers;
 pub use scenario::Scenario;

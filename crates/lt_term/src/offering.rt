@@ -4,7 +4,7 @@ ghost use Rattle.std.specs.Prelude.{◌≡◌, ◌≤◌, ℕ, IsTrue, ◌++◌,
 ghost use Rattle.std.specs.List.{flat_map, list_all};
 ghost use Rattle.lt_formula.specs.Expression.{Expression};
 ghost use Rattle.lt_term.specs.Counted.{IsCounted};
-ghost use Rattle.lt_term.specs.Limits.{most_turns};
+ghost use Rattle.lt_formula.specs.Limits.{most_turns};
 ghost use Rattle.lt_term.specs.Mapped.{node_passes, node_with_constraints};
 ghost use Rattle.lt_term.specs.Offers.{in_catch, in_par, in_seq, offers_of};
 ghost use Rattle.lt_term.specs.Process.{count, with_constraints};

@@ -3,7 +3,7 @@
 ghost use Rattle.std.specs.Prelude.{◌≡◌, ◌≤◌, ◌+◌, [], IsTrue, length};
 ghost use Rattle.lt_num.specs.Bounds.{most_decimals};
 ghost use Rattle.lt_formula.specs.View.{table_kinds, table_len};
-ghost use Rattle.lt_term.specs.Limits.{most_variables};
+ghost use Rattle.lt_formula.specs.Limits.{most_variables};
 ghost use Rattle.lt_term.specs.Scope.{are_named_inside};
 ghost use Rattle.lt_term.specs.Subterms.{counters_in, is_at_start, is_narrow, locals_in, numbers_from};
 ghost use Rattle.lt_term.specs.View.{all_kinds, process, process_over};

@@ -6,7 +6,8 @@ use Rattle.std.specs.declared.option.Option.TheVariants.{None, Some}
 use Rattle.lt_macros.specs.Placed.{Placed, constant, variable, previous, unary, binary, choice}
 use Rattle.lt_macros.specs.Expanded.{Declared, Bounds, between, around, Expanded, eps, dead, con, raise, seq, loop, count, any, pri, par, assert, exist, catch, try, Parts, no_part, part, Node}
 use Rattle.lt_macros.specs.Nodes.{parts_count}
-use Rattle.lt_macros.specs.Limits.{most_nodes, most_term_depth, most_expression_depth, most_alternatives, most_variables}
+use Rattle.lt_formula.specs.Limits.{most_alternatives, most_variables}
+use Rattle.lt_macros.specs.Limits.{most_nodes, most_term_depth, most_expression_depth}
 use Rattle.lt_macros.specs.declared.limit.Limit.{Limit}
 use Rattle.lt_macros.specs.declared.limit.Limit.TheVariants.{Nodes, Depth, Children, Variables}
 

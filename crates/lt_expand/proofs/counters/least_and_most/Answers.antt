@@ -2,7 +2,7 @@ use Rattle.std.proofs.Common.{◌≤◌, ◌≤ℤ◌, arith, pos, sym, to_z, of
 use mir.Syntax.{w128}
 use Rattle.std.specs.Prelude.{unsigned_abs}
 use Rattle.std.proofs.lemmas.Int.{ints}
-use Rattle.lt_macros.specs.Limits.{most_turns}
+use Rattle.lt_formula.specs.Limits.{most_turns}
 use Rattle.lt_macros.specs.Tree.{bounds}
 use Rattle.lt_expand.specs.inner.Worth.{turns}
 use Rattle.lt_expand.proofs.Turning.{do_fit, small_size}
