@@ -27,7 +27,7 @@ GivesDue request told old new s = (contents : Contents) × AreContents request t
 abbrev pub asks_of : Request → List (List ℕ)
 asks_of request = request.file ∷ []
 
--- files were asked for these names in turn: for all of them, or where memory ran out perhaps for the first alone
+-- files were asked for these names in turn: for all of them, or where memory ran out for a front of them, perhaps for none
 abbrev pub Asks : List (List ℕ) → List (List ℕ) → List (List ℕ) → Status → Type 0
 Asks names old new status.Memory = (k : ℕ) × (new ≡ old ++ take k names)
 Asks names old new _ = new ≡ old ++ names

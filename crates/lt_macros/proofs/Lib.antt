@@ -1,4 +1,5 @@
 pub mod Environments
+pub mod Indexes
 pub mod Adding
 pub mod Decimals
 pub mod Uses

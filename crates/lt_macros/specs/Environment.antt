@@ -50,7 +50,7 @@ abbrev pub found : {S : Type 0} → List (Binding S) → List ℕ → Option (En
 found [] name = None
 found (b ∷ bs) name = if bytes_eq name b.name then Some b.entity else found bs name
 
--- what the name of an exception stands for; an unknown one, which no text that is well typed has, is as `Deadlock`
+-- what the name of an exception stands for; an unknown one, which by the rules of types no text has, is as `Deadlock`
 abbrev pub found_exception : List Raisable → List ℕ → Raised
 found_exception [] name = deadlock
 found_exception (z ∷ zs) name = if bytes_eq name z.name then z.raised else found_exception zs name

@@ -68,8 +68,8 @@ most_unranged role.Input = most_raw
 most_unranged role.Output = most_drawn_raw
 most_unranged role.Local = most_drawn_raw
 
--- The raw numbers of a variable's values. A text that is well typed has both ends of a range in order and within the bound, so
--- that these are what is written.
+-- The raw numbers of a variable's values. By the rules of types both ends of a range are in order and within the bound, so that
+-- these are what is written.
 abbrev pub range_of : ℕ → Role → Kind → Option Interval → Range
 range_of decimals r kind.Bool range = from_to (pos 0) (pos 1)
 range_of decimals r k None = from_to (neg_ℤ (pos (most_unranged r))) (pos (most_unranged r))

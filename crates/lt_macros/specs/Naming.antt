@@ -1,5 +1,5 @@
--- What an expansion names is there: inputs and outputs are those of the node, constants are values of their kinds, and the raw
--- numbers of each variable are some that one of its kind may have.
+-- What the constraints and weights of an expansion name is there: inputs and outputs are those of the node, and constants are
+-- values of their kinds. The raw numbers of each variable are some that one of its kind may have.
 use Rattle.std.specs.Prelude.{◌≡◌, ◌<◌, ℕ, List, [], ◌∷◌, length}
 use Rattle.std.specs.declared.option.Option.{Option}
 use Rattle.std.specs.declared.option.Option.TheVariants.{Some}
@@ -55,7 +55,7 @@ abbrev pub HaveDomains : List Declared → Type 0
 HaveDomains [] = Unit {0}
 HaveDomains (d ∷ ds) = IsDomain d.kind d.range × HaveDomains ds
 
--- What a node names is there.
+-- What the constraints and weights of a node name is there.
 pub record NamesWhatIsThere (node : Node) : Type 0 where
   pub inputs : HaveDomains node.inputs
   pub outputs : HaveDomains node.outputs

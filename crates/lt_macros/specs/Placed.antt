@@ -53,6 +53,7 @@ nowhere = record { start = 0; end = 0 }
 abbrev pub unwritten_weight : Placed
 unwritten_weight = constant kind.Int (value.Num (pos 1)) nowhere
 
--- what stands for a name that means nothing, and for a trace in an expression's place: no text that is well typed has either
+-- what stands for a name that means nothing, and for a trace in an expression's place: by the rules of types, which nothing here
+-- rests on, no text that is well typed has either
 abbrev pub meaningless : Placed
 meaningless = constant kind.Bool (value.Bool false) nowhere

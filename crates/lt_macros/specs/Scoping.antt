@@ -1,4 +1,4 @@
--- Where an expansion names its locals: only inside the traces that declare them.
+-- Where the constraints and weights of an expansion name its locals: only inside the traces that declare them.
 use Rattle.std.specs.Prelude.{◌≡◌, ℕ, List, [], ◌∷◌, ◌⊎◌}
 use Rattle.std.specs.declared.option.Option.{Option}
 use Rattle.std.specs.declared.option.Option.TheVariants.{Some}

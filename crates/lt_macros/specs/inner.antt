@@ -6,6 +6,7 @@ pub mod Inside
 pub mod Uses
 pub mod Reading
 pub mod Rows
+pub mod Hidden
 pub mod Numbers
 pub mod Seen
 pub mod Heads

@@ -46,6 +46,7 @@ pub(crate) fn asked_node<'a>(
 {
     let mut environment = 0;
     for decl in decls {
+        scope.index()?;
         match decl {
             Decl::Node(node) => {
                 if is_wanted(wanted, &node.name) {

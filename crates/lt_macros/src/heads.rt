@@ -28,7 +28,7 @@ use lt_formula::{Memory, Role};
 /// An expression or a trace that is no name, with the environment in which its parts are written.
 #[derive(Clone, Copy)]
 pub(crate) enum Head<'a> {
-    /// What means nothing where it stands: no text that is well typed has it.
+    /// What means nothing where it stands: by the rules of types no text has it.
     Meaningless,
 
     /// The variable of a role, by its place, as it is named at this place of the text.

@@ -9,13 +9,13 @@ pub fn parts_are_numbered()
     ensures { PartsAreNumbered }
 {}
 
-/// A local is named only inside the trace that declares it.
+/// A constraint or a weight names a local only inside the trace that declares it.
 pub fn locals_are_inside()
     ensures { LocalsAreInside }
 {}
 
-/// What a node names is there: inputs and outputs are its own, constants are values of their kinds, and a variable of
-/// each one's kind may have its range.
+/// What constraints and weights name is there: inputs and outputs are the node's own, and constants are values of their
+/// kinds. A variable of each one's kind may have its range.
 pub fn names_are_there()
     ensures { NamesAreThere }
 {}

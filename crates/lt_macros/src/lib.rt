@@ -4,7 +4,7 @@
 //! name means what it was declared as where it is written, a parameter means its argument, and a macro is a
 //! function of what its arguments mean. The result is a tree whose parts have their places in the text
 //! (`specs/Expanded.antt`). [`expanded_node`] counts a node against the limits of `specs/Limits.antt` before it
-//! builds the tree, so that a node that is too large takes little memory.
+//! builds the tree.
 #![tactic(auto)]
 
 mod build;

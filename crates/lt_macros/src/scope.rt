@@ -1,12 +1,15 @@
 //! What names stand for while a node is expanded.
 
-ghost use Rattle.std.specs.Prelude.{◌≡◌, ◌≤◌, ◌+◌, ◌-◌, ℕ, drop, IfOk, IfSome, IsTrue, OnOk, [], ◌∷◌, ◌&&◌, bytes_eq, reverse, length};
+ghost use Rattle.std.specs.Prelude.{◌≡◌, ◌<◌, ◌≤◌, Some, suc, slice_get, ◌+◌, ◌-◌, ℕ, drop, IfOk, IfSome, IsTrue, OnErr, OnOk, [], ◌++◌, ◌∷◌, ◌&&◌, bytes_eq, reverse, length};
 ghost use Rattle.lt_macros.specs.Environment.{found_exception};
 ghost use Rattle.lt_macros.specs.Senses.{Sense};
+ghost use Rattle.lt_macros.specs.declared.scope.NameKind.TheVariants.{Exception, Name};
 ghost use Rattle.lt_macros.specs.inner.Handing.{AreRight, IsRight};
 ghost use Rattle.lt_macros.specs.inner.Heads.{AddsTo};
+ghost use Rattle.lt_macros.specs.inner.Hidden.{IsIndexed, IsPut, newest_below, number_in};
 ghost use Rattle.lt_macros.specs.inner.Reading.{IsFound, IsNewest, Reading, are_linked, environment as environment_of, declared_by, is_linked, is_name, raised_by};
 
+use indexmap::IndexMap;
 use lt_ast::{Braced, Expr, MacroDecl, Span, TraceExpr};
 use lt_formula::Role;
 use std::alloc::{AllocError, Global};
@@ -113,6 +116,16 @@ pub(crate) enum Entity<'a> {
     Exception(usize, Before),
 }
 
+/// The kinds of names. A name may be one of each.
+#[derive(Clone, Copy)]
+pub(crate) enum NameKind {
+    /// That of a variable, a parameter or a macro.
+    Name,
+
+    /// That of an exception.
+    Exception,
+}
+
 /// A name that is added to an environment.
 #[derive(Clone, Copy)]
 pub(crate) struct Entry<'a> {
@@ -140,10 +153,24 @@ pub(crate) struct Declared<'a> {
 }
 
 /// Environments by number: 0 is that before the first declaration of a text, and each entry makes one more.
+///
+/// The first entries are those of the text's own declarations, each of which is added to the environment just before
+/// it. Names are found among these without going through them.
 #[derive(Drop)]
 pub(crate) struct Scope<'a> {
     alloc: Global,
     entries: Vec<Entry<'a>>,
+
+    // The newest of each name among the first entries, from 1.
+    names: IndexMap<&'a str, usize>,
+
+    // .. of each exception.
+    exceptions: IndexMap<&'a str, usize>,
+
+    // For each of the first entries the newest older one of its kind and name, or 0.
+    hidden: Vec<usize>,
+    ghost named: { IsIndexed Name entries.items names hidden.items },
+    ghost raised: { IsIndexed Exception entries.items exceptions hidden.items },
     ghost linked: { IsTrue (are_linked (reverse entries.items)) },
 }
 
@@ -157,6 +184,9 @@ impl<'a> Scope<'a> {
         Scope {
             alloc,
             entries: Vec::new(alloc),
+            names: IndexMap::new(alloc),
+            exceptions: IndexMap::new(alloc),
+            hidden: Vec::new(alloc),
         }
     }
 
@@ -190,14 +220,67 @@ impl<'a> Scope<'a> {
         ensures within { result ≤ length (rows self.now) }
     {
         let mut environment = environment;
-        while environment > 0 {
+        while environment > self.hidden.len() {
             let entry = self.entries[environment - 1];
             if has_name(entry, name) {
                 return environment;
             }
             environment = entry.outer;
         }
-        0
+        self.indexed_number(NameKind::Name, environment, name)
+    }
+
+    // The newest of a name among the first entries.
+    fn newest_number(&self, kind: NameKind, name: &str) -> usize
+        ensures { result ≡ newest_below kind self.now.entries.items name.now (length self.now.hidden.items) }
+    {
+        match kind {
+            NameKind::Name => number_in(&self.names, name),
+            NameKind::Exception => number_in(&self.exceptions, name),
+        }
+    }
+
+    // The newest of a name among so many of the first entries.
+    fn indexed_number(&self, kind: NameKind, environment: usize, name: &str) -> usize
+        requires { environment ≤ length self.now.hidden.items }
+        ensures { result ≡ newest_below kind self.now.entries.items name.now environment }
+    {
+        let mut number = self.newest_number(kind, name);
+        while number > environment {
+            number = self.hidden[number - 1];
+        }
+        number
+    }
+
+    // Puts entries into the index that are added each to the environment just before it.
+    pub(crate) fn index(&mut self) -> Result<(), AllocError>
+        ensures rows { rows self.new ≡ rows self.old }
+        ensures right { AreRight (rows self.old) → AreRight (rows self.new) }
+    {
+        while self.hidden.len() < self.entries.len() {
+            let place = self.hidden.len();
+            let entry = self.entries[place];
+            if entry.outer != place {
+                return Ok(());
+            }
+            self.index_entry(entry)?;
+        }
+        Ok(())
+    }
+
+    // Puts the first entry into the index that isn't there.
+    fn index_entry(&mut self, entry: Entry<'a>) -> Result<(), AllocError>
+        requires there { slice_get self.old.entries.items (length self.old.hidden.items) ≡ Some entry }
+        requires straight { entry.outer ≡ length self.old.hidden.items }
+        ensures rows { rows self.new ≡ rows self.old }
+        ensures more { OnOk result (length self.new.hidden.items ≡ suc (length self.old.hidden.items)) }
+    {
+        if is_name(entry.entity) {
+            add_name(&mut self.names, &mut self.hidden, entry.name)?;
+        } else {
+            add_name(&mut self.exceptions, &mut self.hidden, entry.name)?;
+        }
+        Ok(())
     }
 
     // The entry of the newest name of an environment.
@@ -226,7 +309,7 @@ impl<'a> Scope<'a> {
         ensures { (r : Reading Sense) → found_exception (environment_of r (rows self.now) environment).exceptions name.now ≡ raised_by r result }
     {
         let mut environment = environment;
-        while environment > 0 {
+        while environment > self.hidden.len() {
             let entry = self.entries[environment - 1];
             let declared = declared_as(entry, name);
             if declared.is_some() {
@@ -234,7 +317,11 @@ impl<'a> Scope<'a> {
             }
             environment = entry.outer;
         }
-        None
+        let number = self.indexed_number(NameKind::Exception, environment, name);
+        if number == 0 {
+            return None;
+        }
+        declared_as(self.entries[number - 1], name)
     }
 
     // Takes the newest entries back, so that so many are left.
@@ -245,7 +332,49 @@ impl<'a> Scope<'a> {
         ensures len { length (rows self.new) ≡ len }
         ensures right { AreRight (rows self.old) → AreRight (rows self.new) }
     {
+        self.forget(len);
         self.entries.truncate(len);
+    }
+
+    // Leaves nothing in the index, where it has more than so many entries.
+    fn forget(&mut self, len: usize)
+        ensures entries { self.new.entries.items ≡ self.old.entries.items }
+        ensures short { length self.new.hidden.items ≤ len }
+    {
+        if len < self.hidden.len() {
+            self.names.clear();
+            self.exceptions.clear();
+            self.hidden.clear();
+        }
+    }
+}
+
+// The number that a name has, or 0.
+fn number_in(numbers: &IndexMap<&str, usize>, name: &str) -> usize
+    ensures { result ≡ number_in numbers.now name.now }
+{
+    numbers.get(&name).copied().unwrap_or(0)
+}
+
+// One more entry, which has a name: what this had as its number is hidden.
+fn add_name<'a>(
+    numbers: &mut IndexMap<&'a str, usize>,
+    hidden: &mut Vec<usize>,
+    name: &'a str,
+) -> Result<(), AllocError>
+    ensures hides { OnOk result (hidden.new.items ≡ hidden.old.items ++ number_in numbers.old name.now ∷ []) }
+    ensures put { OnOk result (IsPut numbers.old numbers.new name.now (suc (length hidden.old.items))) }
+    ensures numbers { OnErr result (numbers.new.entries ≡ numbers.old.entries) }
+    ensures hidden { OnErr result (hidden.new.items ≡ hidden.old.items) }
+{
+    hidden.push(number_in(numbers, name))?;
+    let number = hidden.len();
+    match numbers.insert(name, number) {
+        Ok(_) => Ok(()),
+        Err(_) => {
+            hidden.pop();
+            Err(AllocError)
+        }
     }
 }
 
