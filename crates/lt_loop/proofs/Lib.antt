@@ -1,0 +1,13 @@
+pub mod FirstValues
+pub mod Rooms
+pub mod Fittings
+pub mod TextLemmas
+pub mod StandingLemmas
+pub mod GoingOnLemmas
+pub mod RunLemmas
+pub mod GrowingLemmas
+pub mod EndingLemmas
+pub mod SlotLemmas
+pub mod KeepingLemmas
+pub mod HoldingLemmas
+pub mod WorkLemmas

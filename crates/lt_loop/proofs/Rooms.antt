@@ -1,0 +1,121 @@
+-- Room for the texts of a run.
+use Rattle.std.proofs.Common.{◌≡◌, ℕ, Bool, true, false, ◌+◌, ◌^◌, ◌<◌, ◌≤◌, List, [], ◌∷◌, ◌++◌, length, length-append, map, take, get_or, None, Some, Option, Global, String, string_bytes, ap, sym, refl, ◌∙◌, arith}
+use Rattle.std.proofs.lemmas.List.{length-map}
+use Rattle.std.proofs.lemmas.Simd.{map-map}
+use Rattle.std.proofs.lemmas.List.Sums.{sum_by-cons, sum_by_more}
+use Rattle.std.specs.Prelude.{sum_by, unwrap_or}
+use Rattle.std.specs.Option.{option_map}
+use Rattle.lt_num.specs.Bounds.{most_decimals}
+use Rattle.lt_num.specs.declared.kind.Kind.{Kind}
+use Rattle.lt_num.specs.declared.value.Value.{Value}
+use Rattle.lt_rif.specs.Enough.{AreSized, AreLocalsSized, IsEndSized, RoomIsEnough, names_length}
+use Rattle.lt_rif.specs.Room.{room_for}
+use Rattle.lt_rif.specs.Trace.{DeclaredVariable, declared_variable, end_text, header_text, step_text}
+use Rattle.lt_rif.specs.declared.declared.Declared.{Declared}
+use Rattle.lt_rif.specs.declared.end.End.{End}
+use Rattle.lt_rif.specs.declared.end.End.TheVariants as end
+use Rattle.lt_loop.specs.Scene.{Scene, Variable, declared_as, kinds_of}
+use Rattle.lt_loop.specs.Plan.{where_written}
+use Rattle.lt_loop.specs.inner.Writing.{Writing, declared_kinds, length_of, step_in, writing_of}
+
+-- locals that are written are as small
+written_are_sized : (writes_locals : Bool) (locals : List (Option Value)) → AreLocalsSized locals → AreLocalsSized (unwrap_or (where_written writes_locals locals) [])
+written_are_sized true locals sized = sized
+written_are_sized false locals sized = tt
+
+-- a step, with an end line behind it
+pub last_step_fits : RoomIsEnough → (w : Writing) (number : ℕ) (outputs inputs : List Value) (locals : List (Option Value)) (e : End) (names : List (List ℕ))
+    → w.decimals ≤ most_decimals → number < 2 ^ 64 → AreSized outputs → AreSized inputs → AreLocalsSized locals → IsEndSized e
+    → length (step_in w number outputs inputs locals) + length (end_text e names number) ≤ room_for (length w.all) (sum_by (λ name. length name) names)
+last_step_fits law w number outputs inputs locals e names few small x y l sized =
+    law.2 w.decimals number number w.all outputs inputs (where_written w.writes_locals locals) e names few small small x y (written_are_sized w.writes_locals locals l) sized
+
+-- a step alone
+pub step_fits : RoomIsEnough → (w : Writing) (number : ℕ) (outputs inputs : List Value) (locals : List (Option Value))
+    → w.decimals ≤ most_decimals → number < 2 ^ 64 → AreSized outputs → AreSized inputs → AreLocalsSized locals
+    → length (step_in w number outputs inputs locals) ≤ room_for (length w.all) 0
+step_fits law w number outputs inputs locals few small x y l =
+    let fits = last_step_fits law w number outputs inputs locals end.Normal [] few small x y l tt in
+    omega (arith, fits)
+
+-- an end line alone
+pub end_fits : RoomIsEnough → (variables : ℕ) (e : End) (names : List (List ℕ)) (number : ℕ) → number < 2 ^ 64 → IsEndSized e
+    → length (end_text e names number) ≤ room_for variables (sum_by (λ name. length name) names)
+end_fits law variables e names number small sized =
+    let fits = law.2 0 0 number [] [] [] None e names (omega arith) (omega arith) small tt tt tt sized in
+    omega (arith, fits)
+
+-- a step that is written with kinds and locals of the code, which are those of a writing
+pub step_is : (w : Writing) (number : ℕ) (outputs inputs : List Value) (locals : List (Option Value)) (kinds : List Kind) (shown : Option (List (Option Value)))
+    → kinds ≡ w.all → shown ≡ where_written w.writes_locals locals → step_text w.decimals number kinds outputs inputs shown ≡ step_in w number outputs inputs locals
+step_is w number outputs inputs locals kinds shown same is = λ i. step_text w.decimals number (same i) outputs inputs (is i)
+
+-- ---- lengths of names
+
+pub declared_count : (ds : List Declared) → length (map declared_variable ds) ≡ length ds
+declared_count ds = length-map ds declared_variable
+
+by_map : {X Y : Type 0} (f : Y → ℕ) (g : X → Y) (xs : List X) → sum_by f (map g xs) ≡ sum_by (λ x. f (g x)) xs
+by_map f g [] = refl
+by_map f g (x ∷ xs) = sum_by-cons f (g x) (map g xs) ∙ ap (λ n. f (g x) + n) (by_map f g xs) ∙ sym (sum_by-cons (λ y. f (g y)) x xs)
+
+pub declared_names : (ds : List Declared) → names_length (map declared_variable ds) ≡ sum_by (λ d. length_of d.name) ds
+declared_names ds = by_map (λ (v : DeclaredVariable). length v.name) declared_variable ds
+
+pub text_names : (names : List (String Global)) → sum_by (λ name. length name) (map string_bytes names) ≡ sum_by length_of names
+text_names names = by_map (λ (name : List ℕ). length name) string_bytes names
+
+pub one_name_more : (ds : List Declared) (i : ℕ) (d : Declared) → i < length ds → sum_by (λ v. length_of v.name) (take (i + 1) ds) ≡ sum_by (λ v. length_of v.name) (take i ds) + length_of (get_or ds i d).name
+one_name_more ds i d within = sum_by_more (λ (v : Declared). length_of v.name) ds i d within
+
+pub one_text_more : (names : List (String Global)) (i : ℕ) (d : String Global) → i < length names → sum_by length_of (take (i + 1) names) ≡ sum_by length_of (take i names) + length_of (get_or names i d)
+one_text_more names i d within = sum_by_more length_of names i d within
+
+-- a header, in room that is enough for more
+pub header_fits : RoomIsEnough → (seed : ℕ) (outputs inputs locals : List DeclaredVariable) (writes_locals : Bool) (names : ℕ) → seed < 2 ^ 64
+    → length (header_text seed outputs inputs (where_written writes_locals locals))
+    ≤ room_for (length outputs + length inputs + length locals) (names + names_length outputs + names_length inputs + names_length locals)
+header_fits law seed outputs inputs locals true names small = let fits = law.0 seed outputs inputs (Some locals) small in omega (arith, fits)
+header_fits law seed outputs inputs locals false names small = let fits = law.0 seed outputs inputs None small in omega (arith, fits)
+
+-- locals that are declared where they are written
+pub shown_is : (writes_locals : Bool) (locals : List Declared) (shown : Option (List Declared)) → shown ≡ where_written writes_locals locals
+    → option_map (map declared_variable) shown ≡ where_written writes_locals (map declared_variable locals)
+shown_is true locals shown is = ap (option_map (map declared_variable)) is
+shown_is false locals shown is = ap (option_map (map declared_variable)) is
+
+-- ---- kinds
+
+-- the kinds of variables that are declared
+declared_are : (ds : List DeclaredVariable) (vs : List Variable) → ds ≡ map declared_as vs → declared_kinds ds ≡ kinds_of vs
+declared_are ds vs is = ap declared_kinds is ∙ map-map (λ (d : DeclaredVariable). d.kind) declared_as vs
+
+pub written_with : (s : Scene) (writes_locals : Bool) (w : Writing) (outputs inputs locals : List DeclaredVariable)
+    → outputs ≡ map declared_as s.outputs → inputs ≡ map declared_as s.inputs → locals ≡ map declared_as s.locals
+    → w.decimals ≡ s.decimals → w.writes_locals ≡ writes_locals → w.outputs ≡ declared_kinds outputs → w.step ≡ declared_kinds outputs ++ declared_kinds inputs
+    → w.all ≡ (declared_kinds outputs ++ declared_kinds inputs) ++ declared_kinds locals → w.names ≡ sum_by (λ name. length name) s.exceptions
+    → w ≡ writing_of s writes_locals
+written_with s writes_locals w outputs inputs locals o i l decimals writes os st all names =
+    let x = declared_are outputs s.outputs o in
+    let y = declared_are inputs s.inputs i in
+    let z = declared_are locals s.locals l in
+    λ j. record {
+      decimals = decimals j;
+      writes_locals = writes j;
+      outputs = (os ∙ x) j;
+      step = (st ∙ (λ k. x k ++ y k)) j;
+      all = (all ∙ (λ k. (x k ++ y k) ++ z k)) j;
+      names = names j;
+    }
+
+-- all variables have so many kinds
+pub all_count : (outputs inputs locals : List DeclaredVariable) → length ((declared_kinds outputs ++ declared_kinds inputs) ++ declared_kinds locals) ≡ length outputs + length inputs + length locals
+all_count outputs inputs locals =
+    omega (
+      arith,
+      length-append (declared_kinds outputs ++ declared_kinds inputs) (declared_kinds locals),
+      length-append (declared_kinds outputs) (declared_kinds inputs),
+      length-map outputs (λ (v : DeclaredVariable). v.kind),
+      length-map inputs (λ (v : DeclaredVariable). v.kind),
+      length-map locals (λ (v : DeclaredVariable). v.kind),
+    )

@@ -1,0 +1,31 @@
+-- what a core must know of a scenario
+pub mod Scene
+pub mod SceneView
+-- what it must know of a machine
+pub mod Machine
+-- what a run is told, and the texts that it puts out
+pub mod Plan
+-- a run over two whole streams
+pub mod Play
+-- one side of a run
+pub mod Side
+-- where a core stands, and what it will put out
+pub mod Standing
+pub mod CoreView
+-- what a core is told, and what it answers
+pub mod Event
+-- what it reads and keeps of both sides, and how much it may still do
+pub mod Kept
+pub mod Work
+-- what holds of a core in each of its phases
+pub mod Stands
+-- whole runs, streams that grow, and streams that have ended
+pub mod Run
+pub mod Growing
+pub mod Ending
+-- codes by which readings are told apart
+pub mod Codes
+-- the view of a writer
+pub mod WriterView
+-- words of private contracts
+pub mod inner

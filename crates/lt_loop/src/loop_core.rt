@@ -1,0 +1,520 @@
+//! The core.
+
+ghost use Rattle.std.specs.Prelude.{◌≡◌, ◌≢◌, ◌<◌, ◌≤◌, ◌+◌, ◌*◌, true, false, None, Some, ℕ, length, map, string_bytes, vec_capacity, IfOk, IsTrue};
+ghost use Rattle.lt_rif.specs.Trace.{IsNamed};
+ghost use Rattle.lt_loop.specs.Codes.{same_slots-prop};
+ghost use Rattle.lt_loop.specs.Machine.{most_steps};
+ghost use Rattle.lt_loop.specs.Plan.{reply_slots};
+ghost use Rattle.lt_loop.specs.Play.{ended, holds, play_of};
+ghost use Rattle.lt_loop.specs.Scene.{fit, input_slots, verdict_slots};
+ghost use Rattle.lt_loop.specs.Side.{side_state, Rest};
+ghost use Rattle.lt_loop.specs.Stands.{has_side, is_served, HasMade, HasMade-prop, Opens, Opens-prop, Stands, Stands-prop};
+ghost use Rattle.lt_loop.specs.WriterView.{writing};
+ghost use Rattle.lt_loop.specs.inner.Writing.{header_in, writing_of, same_writing-prop};
+
+use crate::event::{Emits, Event, PieceKind, Wants};
+use crate::machine::{Machine, Outcome};
+use crate::phase::Phase;
+use crate::setup::{Setup, Talk};
+use crate::side::{Read, Side};
+use crate::slots::{first_inputs, reply_slots, verdict_slots};
+use crate::writer::Writer;
+use lt_num::Value;
+use lt_rif::{End, Who};
+use std::alloc::{AllocError, Global};
+
+/// The core of a run: it is told events, and puts out pieces.
+#[derive(Drop)]
+pub struct Core<M: Machine> {
+    machine: M,
+    alloc: Global,
+    setup: Setup,
+    left: u64,
+    written: u64,
+    phase: Phase,
+    inputs: Vec<Value>,
+    controller: Side,
+    oracle: Side,
+    writer: Writer,
+    ghost few: { written ≤ 1_000_000 },
+    ghost served: { IsTrue (is_served setup.controller (M.scene machine)) },
+    ghost fits: { IsTrue (fit (input_slots (M.scene machine)) inputs.items) },
+    ghost inputs_have_room: { length (side_state controller).reading.slots ≤ vec_capacity inputs },
+    ghost has_side: { IsTrue (has_side phase setup.controller setup.oracle) },
+    ghost made: { HasMade phase written M.rules (M.state machine) } by { HasMade-prop phase written M.rules (M.state machine) },
+    ghost writes: { writing writer ≡ writing_of (M.scene machine) setup.locals } by { same_writing-prop (writing writer) (writing_of (M.scene machine) setup.locals) },
+    ghost opens: { Opens phase (header_in (M.scene machine) setup.seed setup.locals) writer.text.items } by { Opens-prop phase (header_in (M.scene machine) setup.seed setup.locals) writer.text.items },
+    ghost asks: { (side_state controller).reading.slots ≡ reply_slots setup.controller (M.scene machine) } by { same_slots-prop (side_state controller).reading.slots (reply_slots setup.controller (M.scene machine)) },
+    ghost judges: { (side_state oracle).reading.slots ≡ verdict_slots } by { same_slots-prop (side_state oracle).reading.slots verdict_slots },
+    ghost asks_in: { (side_state controller).reading.begun.decimals ≡ (M.scene machine).decimals },
+    ghost judges_in: { (side_state oracle).reading.begun.decimals ≡ (M.scene machine).decimals },
+    ghost stands: { Stands phase written left (side_state controller).reading (side_state oracle).reading } by { Stands-prop phase written left (side_state controller).reading (side_state oracle).reading },
+}
+
+impl<M: Machine> Core<M> {
+    ghost use Rattle.lt_loop.specs.CoreView.{last_text, plan_of, standing, stream_of};
+    ghost use Rattle.lt_loop.specs.Event.{bytes, cuts, failed, fed, goes_on, told, listens, play_due, steps_in, taken_of, IsWanted, MayStarve, Waits, WantsTell};
+    ghost use Rattle.lt_loop.specs.Kept.{adding_none, controller_reads, nothing, one, oracle_reads, reads_reply, Holds, HoldsController, HoldsOracle};
+    ghost use Rattle.lt_loop.specs.Side.{IsEmpty};
+    ghost use Rattle.lt_loop.specs.Work.{most_work, work_in, work_left};
+    ghost use Rattle.lt_loop.specs.Standing.{play_once_answered, from_here, play_once_judged, resume, resume_in, play_once_made, PutsOut};
+
+    /// The core of a run of which nothing was put out. All that it needs is reserved here.
+    ///
+    /// The machine was made with the setup's seed and hasn't stepped. Where there is no controller its scenario has
+    /// no inputs. At most 1,000,000 steps are allowed.
+    ///
+    /// # Errors
+    ///
+    /// Memory ran out, or variables or the bytes of names are 2^32 or more, for which there is no room. The machine
+    /// is dropped.
+    pub fn make(alloc: Global, machine: M, setup: Setup) -> Result<Core<M>, AllocError>
+        requires limit { setup.limit ≤ most_steps }
+        requires fresh { (M.rules).made (M.state machine) ≡ Some 0 }
+        requires served { is_served setup.controller (M.scene machine) ≡ true }
+        ensures fresh { IfOk result (λ core. WantsTell (standing core) Wants.Turn) }
+        ensures steps { IfOk result (λ core. (standing core).written ≡ 0) }
+        ensures plan { IfOk result (λ core. (standing core).plan ≡ plan_of (M.scene machine) setup) }
+        ensures work { IfOk result (λ core. work_left (standing core) ≡ setup.limit * most_work + 2) }
+        ensures play { IfOk result (λ core. (c o : Rest) → resume (standing core) c o ≡ play_of M.rules (plan_of (M.scene machine) setup) setup.limit (M.state machine) (stream_of c) (stream_of o)) }
+    {
+        let slots = reply_slots(alloc, setup.controller, &machine)?;
+        let inputs = first_inputs(alloc, slots.len(), machine.input_vars())?;
+        let controller = Side::make(alloc, slots, machine.decimals())?;
+        let oracle = Side::make(alloc, verdict_slots(alloc)?, machine.decimals())?;
+        let writer = Writer::make(alloc, &machine, setup.seed, setup.locals)?;
+        Ok(Core {
+            machine,
+            alloc,
+            setup,
+            left: setup.limit,
+            written: 0,
+            phase: Phase::Fresh,
+            inputs,
+            controller,
+            oracle,
+            writer,
+        })
+    }
+
+    /// The bytes of the piece that was put out last.
+    pub fn text(&self) -> &[u8]
+        ensures { result.now ≡ last_text self.now }
+    {
+        &self.writer.text
+    }
+
+    /// How many steps were put out to the trace.
+    pub fn steps(&self) -> u64
+        ensures { result ≡ (standing self.now).written }
+    {
+        self.written
+    }
+
+    /// The names of the scenario's exceptions.
+    pub fn names(&self) -> &[String]
+        ensures { map string_bytes result.now ≡ (standing self.now).plan.scene.exceptions }
+    {
+        self.machine.names()
+    }
+
+    /// Takes an event, and goes on until one piece is put out, or a byte is needed that is not there, or the run
+    /// has ended, or memory ran out in an instant.
+    pub fn event(&mut self, event: Event<'_>) -> Emits
+        ensures taken { result.taken ≡ taken_of (standing self.old) (told event.entry) }
+        ensures out { PutsOut (play_due (told event.entry) result.taken (standing self.old)) result.piece (last_text self.new) (standing self.new) }
+        ensures wants { WantsTell (standing self.new) result.wants }
+        ensures goes { result.piece ≡ None → result.wants ≢ Wants.Turn }
+        ensures counts { (standing self.new).written ≡ (standing self.old).written + steps_in result.piece }
+        ensures plan { (standing self.new).plan ≡ (standing self.old).plan }
+        ensures controller { HoldsController (told event.entry) result.taken (standing self.old) result.piece (standing self.new) }
+        ensures oracle { HoldsOracle (told event.entry) result.taken (standing self.old) result.piece (standing self.new) }
+        ensures falls { IsWanted (standing self.old) (told event.entry) → work_left (standing self.new) < work_left (standing self.old) }
+        ensures rises_not { work_left (standing self.new) ≤ work_left (standing self.old) }
+        ensures starves { result.wants ≡ Wants.Memory → MayStarve (standing self.old).phase (standing self.old).left result.piece }
+        ensures stays { (standing self.old).phase ≡ Phase.Starved → result.wants ≡ Wants.Memory }
+        ensures at_once { cuts (standing self.old) (told event.entry) ≡ true → result.wants ≢ Wants.Memory }
+    {
+        let (taken, piece) = self.go(event);
+        Emits {
+            taken,
+            piece,
+            wants: self.wants(),
+        }
+    }
+
+    // Takes an event, and goes on. How many bytes were taken, and where the text goes that is put out.
+    fn go(&mut self, event: Event<'_>) -> (usize, Option<PieceKind>)
+        ensures taken { result.0 ≡ taken_of (standing self.old) (told event.entry) }
+        ensures out { PutsOut (play_due (told event.entry) result.0 (standing self.old)) result.1 self.new.writer.text.items (standing self.new) }
+        ensures waits { result.1 ≡ None → Waits self.new.phase (standing self.new) }
+        ensures counts { self.new.written ≡ self.old.written + steps_in result.1 }
+        ensures plan { (standing self.new).plan ≡ (standing self.old).plan }
+        ensures controller { HoldsController (told event.entry) result.0 (standing self.old) result.1 (standing self.new) }
+        ensures oracle { HoldsOracle (told event.entry) result.0 (standing self.old) result.1 (standing self.new) }
+        ensures falls { IsWanted (standing self.old) (told event.entry) → work_left (standing self.new) < work_left (standing self.old) }
+        ensures rises_not { work_left (standing self.new) ≤ work_left (standing self.old) }
+        ensures starves { self.new.phase ≡ Phase.Starved → MayStarve self.old.phase self.old.left result.1 }
+        ensures at_once { cuts (standing self.old) (told event.entry) ≡ true → self.new.phase ≢ Phase.Starved }
+        ensures stays { self.old.phase ≡ Phase.Starved → self.new.phase ≡ Phase.Starved }
+    {
+        match event {
+            Event::Turn => (0, self.advance()),
+            Event::ControllerBytes(piece) => {
+                let taken = self.keep(Who::Controller, piece);
+                (taken, self.advance())
+            }
+            Event::OracleBytes(piece) => {
+                let taken = self.keep(Who::Oracle, piece);
+                (taken, self.advance())
+            }
+            Event::ControllerEnd => {
+                self.controller.is_closed = true;
+                (0, self.advance())
+            }
+            Event::OracleEnd => {
+                self.oracle.is_closed = true;
+                (0, self.advance())
+            }
+            Event::ControllerFault => (0, self.fail(Who::Controller)),
+            Event::OracleFault => (0, self.fail(Who::Oracle)),
+        }
+    }
+
+    // Keeps the bytes of a piece for which there is room, if the run has that side and goes on.
+    fn keep(&mut self, side: Who, piece: &[u8]) -> usize
+        ensures taken { result ≡ taken_of (standing self.old) (bytes side piece.now) }
+        ensures same { (c o : Rest) → play_due (bytes side piece.now) result (standing self.old) c o ≡ resume (standing self.new) c o }
+        ensures phase { self.new.phase ≡ self.old.phase }
+        ensures left { self.new.left ≡ self.old.left }
+        ensures written { self.new.written ≡ self.old.written }
+        ensures plan { (standing self.new).plan ≡ (standing self.old).plan }
+        ensures controller { Holds nothing (side_state self.old.controller) (fed Who.Controller (bytes side piece.now) result) (side_state self.new.controller) }
+        ensures oracle { Holds nothing (side_state self.old.oracle) (fed Who.Oracle (bytes side piece.now) result) (side_state self.new.oracle) }
+        ensures has { IsWanted (standing self.old) (bytes side piece.now) → Waits self.new.phase (standing self.new) → ⊥ }
+    {
+        if !self.listens(side) {
+            return 0;
+        }
+        match side {
+            Who::Controller => self.controller.keep(piece),
+            Who::Oracle => self.oracle.keep(piece),
+        }
+    }
+
+    // Ends the run for a fault of a side, if it has that side and goes on.
+    fn fail(&mut self, side: Who) -> Option<PieceKind>
+        ensures out { PutsOut (play_due (failed side) 0 (standing self.old)) result self.new.writer.text.items (standing self.new) }
+        ensures waits { result ≡ None → Waits self.new.phase (standing self.new) }
+        ensures counts { self.new.written ≡ self.old.written + steps_in result }
+        ensures plan { (standing self.new).plan ≡ (standing self.old).plan }
+        ensures controller { HoldsController (failed side) 0 (standing self.old) result (standing self.new) }
+        ensures oracle { HoldsOracle (failed side) 0 (standing self.old) result (standing self.new) }
+        ensures falls { listens (standing self.old) side ≡ true → work_left (standing self.new) < work_left (standing self.old) }
+        ensures rises_not { work_left (standing self.new) ≤ work_left (standing self.old) }
+        ensures at_once { listens (standing self.old) side ≡ true → self.new.phase ≢ Phase.Starved }
+        ensures starves { self.new.phase ≡ Phase.Starved → MayStarve self.old.phase self.old.left result }
+        ensures stays { self.old.phase ≡ Phase.Starved → self.new.phase ≡ Phase.Starved }
+    {
+        if !self.listens(side) {
+            return self.advance();
+        }
+        self.end(End::Device(side), self.written + 1)
+    }
+
+    // Whether the run has this side and goes on.
+    fn listens(&self, side: Who) -> bool
+        ensures { result ≡ listens (standing self.now) side }
+    {
+        let goes_on = !matches!(self.phase, Phase::Over(_) | Phase::Starved);
+        let has_side = match side {
+            Who::Controller => self.setup.controller != Talk::Nobody,
+            Who::Oracle => self.setup.oracle,
+        };
+        goes_on && has_side
+    }
+
+    // What is waited for. At `Made` and `Answered` a core could go on.
+    fn wants(&self) -> Wants
+        ensures tells { WantsTell (standing self.now) result }
+        ensures starved { self.now.phase ≡ Phase.Starved → result ≡ Wants.Memory }
+    {
+        match self.phase {
+            Phase::Fresh | Phase::Ready | Phase::Made | Phase::Answered => Wants::Turn,
+            Phase::Controller => {
+                if self.controller.is_empty() {
+                    Wants::Controller
+                } else {
+                    Wants::Turn
+                }
+            }
+            Phase::Oracle => {
+                if self.oracle.is_empty() {
+                    Wants::Oracle
+                } else {
+                    Wants::Turn
+                }
+            }
+            Phase::Over(end) => Wants::Nothing(end),
+            Phase::Starved => Wants::Memory,
+        }
+    }
+
+    // Goes on until one piece is put out, or a byte is needed that is not there, or the run has ended, or memory
+    // ran out.
+    fn advance(&mut self) -> Option<PieceKind>
+        ensures out { PutsOut (resume (standing self.old)) result self.new.writer.text.items (standing self.new) }
+        ensures waits { result ≡ None → Waits self.new.phase (standing self.new) }
+        ensures counts { self.new.written ≡ self.old.written + steps_in result }
+        ensures plan { (standing self.new).plan ≡ (standing self.old).plan }
+        ensures controller { goes_on self.new.phase ≡ true → Holds (controller_reads self.old.phase self.old.setup.controller result) (side_state self.old.controller) adding_none (side_state self.new.controller) }
+        ensures oracle { goes_on self.new.phase ≡ true → Holds (oracle_reads self.old.phase result) (side_state self.old.oracle) adding_none (side_state self.new.oracle) }
+        ensures falls { (Waits self.old.phase (standing self.old) → ⊥) → work_left (standing self.new) < work_left (standing self.old) }
+        ensures rises_not { work_left (standing self.new) ≤ work_left (standing self.old) }
+        ensures starves { self.new.phase ≡ Phase.Starved → MayStarve self.old.phase self.old.left result }
+        ensures stays { self.old.phase ≡ Phase.Starved → self.new.phase ≡ Phase.Starved }
+    {
+        match self.phase {
+            Phase::Fresh => {
+                // The writer was made with the header.
+                self.phase = Phase::Ready;
+                Some(PieceKind::Header)
+            }
+            Phase::Ready => self.make_instant(),
+            Phase::Made => self.ask_controller(),
+            Phase::Controller => self.read_controller(),
+            Phase::Answered => self.ask_oracle(),
+            Phase::Oracle => self.read_oracle(),
+            Phase::Over(_) | Phase::Starved => None,
+        }
+    }
+
+    // Makes the next instant.
+    fn make_instant(&mut self) -> Option<PieceKind>
+        requires { self.old.phase ≡ Phase.Ready }
+        ensures out { PutsOut (from_here (standing self.old)) result self.new.writer.text.items (standing self.new) }
+        ensures waits { result ≡ None → Waits self.new.phase (standing self.new) }
+        ensures counts { self.new.written ≡ self.old.written + steps_in result }
+        ensures plan { (standing self.new).plan ≡ (standing self.old).plan }
+        ensures controller { goes_on self.new.phase ≡ true → Holds (controller_reads Phase.Ready self.old.setup.controller result) (side_state self.old.controller) adding_none (side_state self.new.controller) }
+        ensures oracle { side_state self.new.oracle ≡ side_state self.old.oracle }
+        ensures falls { work_left (standing self.new) < work_in Phase.Ready self.old.left (side_state self.old.controller).reading (side_state self.old.oracle).reading }
+        ensures starves { self.new.phase ≡ Phase.Starved → MayStarve Phase.Ready self.old.left result }
+    {
+        if self.left == 0 {
+            return self.end(End::Limit, self.written);
+        }
+        match self.machine.step(self.alloc, &self.inputs) {
+            Outcome::Values => {
+                self.left -= 1;
+                self.phase = Phase::Made;
+                self.ask_controller()
+            }
+            Outcome::Over(end) => {
+                let cause = end.end();
+                let number = end.number(self.written + 1);
+                // The machine makes no further instant.
+                self.phase = Phase::Over(cause);
+                self.end(cause, number)
+            }
+            Outcome::Memory => {
+                self.phase = Phase::Starved;
+                None
+            }
+        }
+    }
+
+    // Tells the controller, if there is one, the outputs of the instant at hand.
+    fn ask_controller(&mut self) -> Option<PieceKind>
+        requires { self.old.phase ≡ Phase.Made }
+        ensures out { PutsOut (play_once_made (standing self.old)) result self.new.writer.text.items (standing self.new) }
+        ensures waits { result ≡ None → Waits self.new.phase (standing self.new) }
+        ensures unstarved { self.new.phase ≢ Phase.Starved }
+        ensures counts { self.new.written ≡ self.old.written + steps_in result }
+        ensures plan { (standing self.new).plan ≡ (standing self.old).plan }
+        ensures controller { goes_on self.new.phase ≡ true → Holds (controller_reads Phase.Made self.old.setup.controller result) (side_state self.old.controller) adding_none (side_state self.new.controller) }
+        ensures oracle { side_state self.new.oracle ≡ side_state self.old.oracle }
+        ensures falls { work_left (standing self.new) < work_in Phase.Made self.old.left (side_state self.old.controller).reading (side_state self.old.oracle).reading }
+    {
+        match self.setup.controller {
+            Talk::Nobody => {
+                self.inputs.clear();
+                self.phase = Phase::Answered;
+                self.ask_oracle()
+            }
+            Talk::Live => {
+                self.writer.make_line(self.machine.outputs());
+                self.phase = Phase::Controller;
+                Some(PieceKind::Outputs)
+            }
+            Talk::Replay => {
+                self.phase = Phase::Controller;
+                self.read_controller()
+            }
+        }
+    }
+
+    // Reads the controller's reply.
+    fn read_controller(&mut self) -> Option<PieceKind>
+        requires { self.old.phase ≡ Phase.Controller }
+        ensures out { PutsOut (resume_in Phase.Controller (standing self.old)) result self.new.writer.text.items (standing self.new) }
+        ensures waits { result ≡ None → Waits self.new.phase (standing self.new) }
+        ensures unstarved { self.new.phase ≢ Phase.Starved }
+        ensures counts { self.new.written ≡ self.old.written + steps_in result }
+        ensures plan { (standing self.new).plan ≡ (standing self.old).plan }
+        ensures controller { goes_on self.new.phase ≡ true → Holds (reads_reply result) (side_state self.old.controller) adding_none (side_state self.new.controller) }
+        ensures oracle { side_state self.new.oracle ≡ side_state self.old.oracle }
+        ensures falls { (IsEmpty (side_state self.old.controller) → ⊥) → work_left (standing self.new) < work_in Phase.Controller self.old.left (side_state self.old.controller).reading (side_state self.old.oracle).reading }
+        ensures rises_not { work_left (standing self.new) ≤ work_in Phase.Controller self.old.left (side_state self.old.controller).reading (side_state self.old.oracle).reading }
+    {
+        match self.controller.read() {
+            Read::Whole => {
+                self.inputs.clear();
+                self.inputs
+                    .extend_from_slice(self.controller.values())
+                    .unwrap();
+                self.phase = Phase::Answered;
+                self.ask_oracle()
+            }
+            Read::Needs => None,
+            Read::Short(taken) => self.end(
+                End::Ended {
+                    who: Who::Controller,
+                    taken,
+                },
+                self.written + 1,
+            ),
+            Read::Malformed(fault, place) => self.end(
+                End::Malformed {
+                    who: Who::Controller,
+                    fault,
+                    place,
+                },
+                self.written + 1,
+            ),
+        }
+    }
+
+    // Tells the oracle the step at hand, or puts the step out where there is none.
+    fn ask_oracle(&mut self) -> Option<PieceKind>
+        requires { self.old.phase ≡ Phase.Answered }
+        ensures out { PutsOut (play_once_answered (standing self.old) self.old.inputs.items) result self.new.writer.text.items (standing self.new) }
+        ensures waits { result ≡ None → Waits self.new.phase (standing self.new) }
+        ensures unstarved { self.new.phase ≢ Phase.Starved }
+        ensures puts { reads_reply result ≡ one }
+        ensures counts { self.new.written ≡ self.old.written + steps_in result }
+        ensures plan { (standing self.new).plan ≡ (standing self.old).plan }
+        ensures controller { side_state self.new.controller ≡ side_state self.old.controller }
+        ensures oracle { side_state self.new.oracle ≡ side_state self.old.oracle }
+        ensures falls { work_left (standing self.new) < work_in Phase.Answered self.old.left (side_state self.old.controller).reading (side_state self.old.oracle).reading }
+    {
+        if !self.setup.oracle {
+            self.written += 1;
+            self.phase = Phase::Ready;
+            return self.put_step(true);
+        }
+        self.writer
+            .make_step_line(self.machine.outputs(), &self.inputs);
+        self.phase = Phase::Oracle;
+        Some(PieceKind::Question)
+    }
+
+    // Reads the oracle's reply.
+    fn read_oracle(&mut self) -> Option<PieceKind>
+        requires { self.old.phase ≡ Phase.Oracle }
+        ensures out { PutsOut (resume_in Phase.Oracle (standing self.old)) result self.new.writer.text.items (standing self.new) }
+        ensures waits { result ≡ None → Waits self.new.phase (standing self.new) }
+        ensures unstarved { self.new.phase ≢ Phase.Starved }
+        ensures counts { self.new.written ≡ self.old.written + steps_in result }
+        ensures plan { (standing self.new).plan ≡ (standing self.old).plan }
+        ensures controller { side_state self.new.controller ≡ side_state self.old.controller }
+        ensures oracle { goes_on self.new.phase ≡ true → Holds (reads_reply result) (side_state self.old.oracle) adding_none (side_state self.new.oracle) }
+        ensures falls { (IsEmpty (side_state self.old.oracle) → ⊥) → work_left (standing self.new) < work_in Phase.Oracle self.old.left (side_state self.old.controller).reading (side_state self.old.oracle).reading }
+        ensures rises_not { work_left (standing self.new) ≤ work_in Phase.Oracle self.old.left (side_state self.old.controller).reading (side_state self.old.oracle).reading }
+    {
+        match self.oracle.read() {
+            Read::Whole => {
+                self.written += 1;
+                self.phase = Phase::Ready;
+                let verdict = holds(self.oracle.values());
+                self.put_step(verdict)
+            }
+            Read::Needs => None,
+            Read::Short(taken) => self.end(
+                End::Ended {
+                    who: Who::Oracle,
+                    taken,
+                },
+                self.written + 1,
+            ),
+            Read::Malformed(fault, place) => self.end(
+                End::Malformed {
+                    who: Who::Oracle,
+                    fault,
+                    place,
+                },
+                self.written + 1,
+            ),
+        }
+    }
+
+    // Puts out the step that was counted last, and the end where its verdict is false.
+    fn put_step(&mut self, verdict: bool) -> Option<PieceKind>
+        requires { self.old.phase ≡ Phase.Ready }
+        ensures out { PutsOut (play_once_judged (standing self.old) verdict) result self.new.writer.text.items (standing self.new) }
+        ensures waits { result ≡ None → Waits self.new.phase (standing self.new) }
+        ensures unstarved { self.new.phase ≢ Phase.Starved }
+        ensures puts { result ≡ Some PieceKind.Step }
+        ensures counts { self.new.written ≡ self.old.written }
+        ensures plan { (standing self.new).plan ≡ (standing self.old).plan }
+        ensures controller { side_state self.new.controller ≡ side_state self.old.controller }
+        ensures oracle { side_state self.new.oracle ≡ side_state self.old.oracle }
+        ensures rises_not { work_left (standing self.new) ≤ work_in Phase.Ready self.old.left (side_state self.old.controller).reading (side_state self.old.oracle).reading }
+    {
+        if verdict {
+            self.writer.make_step(
+                self.written,
+                self.machine.outputs(),
+                &self.inputs,
+                self.machine.locals(),
+            );
+            return Some(PieceKind::Step);
+        }
+        self.writer.make_last_step(
+            self.written,
+            self.machine.outputs(),
+            &self.inputs,
+            self.machine.locals(),
+            End::Oracle,
+            self.machine.names(),
+        );
+        self.phase = Phase::Over(End::Oracle);
+        Some(PieceKind::Step)
+    }
+
+    // Ends the run, with an end line of this number.
+    fn end(&mut self, end: End, number: u64) -> Option<PieceKind>
+        requires { IsNamed end (length (M.scene self.old.machine).exceptions) }
+        ensures out { PutsOut (λ c o. ended (standing self.old).plan end number) result self.new.writer.text.items (standing self.new) }
+        ensures waits { result ≡ None → Waits self.new.phase (standing self.new) }
+        ensures unstarved { self.new.phase ≢ Phase.Starved }
+        ensures puts { result ≡ Some PieceKind.EndLine }
+        ensures counts { self.new.written ≡ self.old.written }
+        ensures plan { (standing self.new).plan ≡ (standing self.old).plan }
+        ensures over { goes_on self.new.phase ≡ false }
+        ensures controller { side_state self.new.controller ≡ side_state self.old.controller }
+        ensures oracle { side_state self.new.oracle ≡ side_state self.old.oracle }
+        ensures falls { work_left (standing self.new) ≡ 0 }
+    {
+        self.writer.make_end(end, self.machine.names(), number);
+        self.phase = Phase::Over(end);
+        Some(PieceKind::EndLine)
+    }
+}
+
+// What a verdict says.
+fn holds(verdict: &[Value]) -> bool
+    ensures { result ≡ holds verdict.now }
+{
+    !matches!(verdict, [Value::Bool(false), ..])
+}

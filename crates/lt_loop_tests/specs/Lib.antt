@@ -1,0 +1,2 @@
+-- a machine that gives back what it is given
+pub mod Echo
