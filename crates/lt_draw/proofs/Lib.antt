@@ -1,3 +1,4 @@
 pub mod WordLemmas
 pub mod PickLemmas
 pub mod TargetLemmas
+pub mod Public

@@ -5,7 +5,7 @@ ghost use Rattle.std.specs.List.{IsDistinct};
 ghost use Rattle.std.proofs.Props.{props};
 ghost use Rattle.lt_formula.specs.contracts.node.ExpNodePartialEq.TheImpl.{eq-value};
 ghost use Rattle.lt_formula.specs.Facts.{facts_of};
-ghost use Rattle.lt_formula.specs.Kinds.{HasFewVariables, kind_of_variable, number_of};
+ghost use Rattle.lt_formula.specs.Kinds.{HasFewVariables, kind_of_variable, number_of, variables_of};
 ghost use Rattle.lt_formula.specs.Shape.{built, shape_of};
 ghost use Rattle.lt_formula.specs.Table.{HasEachOnce, IsNumber, Keeps, expression_at, expressions_of, fits, names_variable, nodes_of, spelled};
 ghost use Rattle.lt_formula.specs.inner.Ordered.{are_ordered};
@@ -55,6 +55,13 @@ impl Table {
         ensures each_once { HasEachOnce (table_expressions self.now) }
     {
         self.nodes.len()
+    }
+
+    /// How many outputs and locals it has together.
+    pub fn variables(&self) -> usize
+        ensures { result ≡ variables_of (table_kinds self.now) }
+    {
+        self.outputs.len() + self.locals.len()
     }
 
     /// Adds an expression over those that are there, and answers its number: the old one, where the table
