@@ -1,9 +1,9 @@
 //! The line that a trace ends with.
 
-ghost use Rattle.std.specs.Prelude.{◌≡◌, ◌<◌, map, length};
+ghost use Rattle.std.specs.Prelude.{◌≡◌, [], map, slice_index_or};
 ghost use Rattle.std.specs.String.{string_bytes};
 ghost use Rattle.lt_rif.specs.Room.{AddsText, HasRoom};
-ghost use Rattle.lt_rif.specs.Trace.{end_text, end_words, fault_text, refusal_text, who_text, IsNamed};
+ghost use Rattle.lt_rif.specs.Trace.{end_text, end_words, fault_text, refusal_text, who_text};
 ghost use Rattle.lt_rif.specs.inner.Spaced.{behind_space};
 
 use crate::end::{End, Who};
@@ -12,9 +12,8 @@ use crate::writing::{append, append_number};
 use lt_num::Arith;
 
 /// Appends the end line of a trace, with its number: that of the instant at which the run ended, or of the steps
-/// written where it is over or at its limit. Exceptions have these names.
+/// written where it is over or at its limit. Exceptions have these names, and one without a name has none in the line.
 pub fn write_end(into: &mut Vec<u8>, end: End, names: &[String], number: u64)
-    requires named { IsNamed end (length names.now) }
     requires room { HasRoom into.old (end_text end (map string_bytes names.now) number) }
     ensures { AddsText into.old into.new (end_text end (map string_bytes names.now) number) }
 {
@@ -27,7 +26,6 @@ pub fn write_end(into: &mut Vec<u8>, end: End, names: &[String], number: u64)
 
 // Appends the words of an end, with a space before each.
 fn append_end(into: &mut Vec<u8>, end: End, names: &[String])
-    requires named { IsNamed end (length names.now) }
     requires room { HasRoom into.old (behind_space (end_words end (map string_bytes names.now))) }
     ensures { AddsText into.old into.new (behind_space (end_words end (map string_bytes names.now))) }
 {
@@ -39,7 +37,7 @@ fn append_end(into: &mut Vec<u8>, end: End, names: &[String])
         End::TooLarge => append(into, b" toolarge"),
         End::Raise { exception } => {
             append(into, b" raise ");
-            append(into, names[exception as usize].as_bytes());
+            append(into, exception_name(names, exception));
         }
         End::Fault(fault) => {
             append(into, b" fault ");
@@ -63,6 +61,16 @@ fn append_end(into: &mut Vec<u8>, end: End, names: &[String])
             append(into, b" budget ");
             append_number(into, need);
         }
+    }
+}
+
+/// The name of an exception, by its number; nothing where no name has the number.
+pub fn exception_name(names: &[String], exception: u32) -> &[u8]
+    ensures { result.now ≡ slice_index_or (map string_bytes names.now) exception [] }
+{
+    match names.get(exception as usize) {
+        Some(name) => name.as_bytes(),
+        None => &[],
     }
 }
 

@@ -23,7 +23,7 @@ mod writing;
 pub use declared::Declared;
 pub use draft::LONGEST;
 pub use end::{End, Who};
-pub use end_line::{fault_word, refusal_word, who_word, write_end};
+pub use end_line::{exception_name, fault_word, refusal_word, who_word, write_end};
 pub use fault::ValueFault;
 pub use laws::{
     cuts_change_nothing, next_reply_is_at_hand, replies_grow, room_is_enough, spelling_is_read,

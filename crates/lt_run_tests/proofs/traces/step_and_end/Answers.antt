@@ -10,8 +10,8 @@ write_step-requires-clause-room c =
     (omega arith) c.ranges.step.fits c.ranges.step.fits c.requires.x_sized c.requires.y_sized c.requires.locals_sized c.requires.end_sized in
     omega (arith, fits, c.in_ok-into.ensures.len, c.in_ok-into.ensures.capacity, c.room_for.ensures)
 
-pub write_end-requires-clause-room : goal.write_end-requires-clause-room
-write_end-requires-clause-room c =
+pub write_end-requires : goal.write_end-requires
+write_end-requires c =
     let fits = (c.room_is_enough.ensures).2 2 c.args.step c.args.step c.args.kinds.now c.args.x.now c.args.y.now (option_copied c.args.locals) c.args.end (map string_bytes c.args.names.now)
     (omega arith) c.ranges.step.fits c.ranges.step.fits c.requires.x_sized c.requires.y_sized c.requires.locals_sized c.requires.end_sized in
     let text = step_text 2 c.args.step c.args.kinds.now c.args.x.now c.args.y.now (option_copied c.args.locals) in

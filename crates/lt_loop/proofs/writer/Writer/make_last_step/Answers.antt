@@ -10,8 +10,8 @@ write_step-requires-clause-room c =
     let same = ap (λ (text : List ℕ). length text) (step_is w c.args.number c.args.outputs.now c.args.inputs.now c.args.locals.now c.deref.result.now _ c.deref.ensures.value c.where_written-shown.ensures) in
     omega (arith, fits, same, c.clear.ensures.len, c.clear.ensures.capacity, c.args.self.now.has_room)
 
-pub write_end-requires-clause-room : goal.write_end-requires-clause-room
-write_end-requires-clause-room c =
+pub write_end-requires : goal.write_end-requires
+write_end-requires c =
     let w = writing c.args.self.now in
     let fits = last_step_fits c.room_is_enough.ensures w c.args.number c.args.outputs.now c.args.inputs.now c.args.locals.now c.args.end (map string_bytes c.args.names.now) c.args.self.now.few c.ranges.number.fits c.values_are_sized.ensures c.values_are_sized-2.ensures c.locals_are_sized.ensures c.end_is_sized.ensures in
     let same = ap (λ (text : List ℕ). length text) (step_is w c.args.number c.args.outputs.now c.args.inputs.now c.args.locals.now c.deref.result.now _ c.deref.ensures.value c.where_written-shown.ensures) in
