@@ -1,20 +1,20 @@
 //! The tree that a node stands for.
 
-ghost use Rattle.std.specs.Prelude.{◌≡◌, ◌≤◌, ◌-◌, ◌+◌, ℕ, IfOk, OnOk, length, map, option_map};
-ghost use Rattle.lt_ast.specs.View.{groupings, limits, trace as trace_view, word};
+ghost use Rattle.std.specs.Prelude.{◌≡◌, ◌≤◌, ◌<◌, ◌-◌, ◌+◌, ℕ, false, IfOk, OnOk, length, map, option_map};
+ghost use Rattle.lt_ast.specs.View.{alternatives, groupings, limits, trace as trace_view, word};
 ghost use Rattle.lt_ast.specs.Syntax as s;
-ghost use Rattle.lt_ast.specs.inner.Lists.{alternatives_of};
-ghost use Rattle.lt_ast.specs.inner.Rows.{part_of};
+ghost use Rattle.lt_ast.specs.inner.Lists.{alternatives_of, traces_of};
+ghost use Rattle.lt_ast.specs.inner.Rows.{maybe_trace, part_of};
 ghost use Rattle.lt_ast.specs.View.{exp};
 ghost use Rattle.lt_num.specs.Bounds.{most_decimals};
 ghost use Rattle.lt_macros.specs.Expanded as x;
 ghost use Rattle.lt_macros.specs.Expansion.{node_of};
-ghost use Rattle.lt_macros.specs.Senses.{alone, around_two, as_trace, behind_term, bounds_of as limits_bounds, caught_as, chosen, parts_of, raised_as as raised_tree, weight_of};
+ghost use Rattle.lt_macros.specs.Senses.{alone, around_two, as_expression, as_trace, behind_term, bounds_of as limits_bounds, caught_as, chosen, parts_of, raised_as as raised_tree, weight_of};
 ghost use Rattle.lt_macros.specs.inner.Built.{AreBuilt, behind_turns, in_all, in_two, looped, numbered, numbered_parts};
 ghost use Rattle.lt_macros.specs.inner.Handing.{AreRight};
 ghost use Rattle.lt_macros.specs.inner.Heads.{IsWithin, head_reads};
 ghost use Rattle.lt_macros.specs.inner.Numbers.{numbers_view};
-ghost use Rattle.lt_macros.specs.inner.Phrase.{joined_by, trace};
+ghost use Rattle.lt_macros.specs.inner.Phrase.{braces, joined, joined_by, trace};
 ghost use Rattle.lt_macros.specs.inner.Reading.{environment as environment_of, meant, raised_by, source_view};
 ghost use Rattle.lt_macros.specs.inner.Rows.{rows};
 ghost use Rattle.lt_macros.specs.Tree.{bounds as bounds_view, declared as declared_view, exception as exception_view, expanded as expanded_view, node as node_view, placed};
@@ -27,7 +27,10 @@ use crate::position::Position;
 use crate::scope::{Before, Declared as Raised, Join, Scope, Source};
 use crate::tree::{Bounds, Declared, Exception, Expanded, Node, Part, Parts, Placed};
 use crate::variables::declare_groups;
-use lt_ast::{Bounds as Limits, Expr, Groups, Name, NodeDecl, Part as Alternative, TraceExpr};
+use lt_ast::{
+    Bounds as Limits, Expr, Groups, Name, NodeDecl, Part as Alternative, Parts as Choices,
+    TraceExpr,
+};
 use lt_formula::{Memory, Role};
 use std::alloc::Global;
 
@@ -113,6 +116,7 @@ pub(crate) fn build_node<'a>(
 // What a phrase stands for as a trace, before which so much stands.
 #[cycle(build_trace)]
 #[tactic(auto, using(crate::proofs::Building::traces))]
+#[inline(never)]
 pub(crate) fn build_trace<'a>(
     alloc: Global,
     scope: &mut Scope<'a>,
@@ -153,17 +157,22 @@ fn build_trace_head<'a>(
     match head {
         Head::Nothing => put_alone(Expanded::Eps, numbers),
         Head::Joined(join, first, rest, environment) => {
-            let (first, rest) = (Source::Trace(first), Source::Joined(join, rest));
-            let two = build_two(alloc, scope, decimals, numbers, environment, first, rest)?;
-            Ok(put_joined(join, two))
+            build_joined(
+                alloc,
+                scope,
+                decimals,
+                numbers,
+                environment,
+                join,
+                first,
+                rest,
+            )
         }
         Head::Loop(bounds, body, environment) => {
             build_loop(alloc, scope, decimals, numbers, environment, bounds, body)
         }
         Head::Choice(parts, environment) => {
-            let (inside, parts) = (numbers.behind_term()?, &parts.items);
-            let chosen = build_parts(alloc, scope, decimals, inside, environment, parts)?;
-            Ok(put_choice(chosen))
+            build_choice(alloc, scope, decimals, numbers, environment, parts)
         }
         Head::Raise(name, environment) => {
             let raised = put_raise(alloc, scope.exception(environment, &name.text))?;
@@ -176,14 +185,19 @@ fn build_trace_head<'a>(
             build_exist(alloc, scope, decimals, numbers, environment, groups, body)
         }
         Head::Catch(name, body, handler, environment) => {
-            let (body, handler) = (Source::Trace(body), Source::Handler(handler));
-            let two = build_two(alloc, scope, decimals, numbers, environment, body, handler)?;
-            put_catch(alloc, scope.exception(environment, &name.text), two)
+            build_catch(
+                alloc,
+                scope,
+                decimals,
+                numbers,
+                environment,
+                name,
+                body,
+                handler,
+            )
         }
         Head::Try(body, handler, environment) => {
-            let (body, handler) = (Source::Trace(body), Source::Handler(handler));
-            let two = build_two(alloc, scope, decimals, numbers, environment, body, handler)?;
-            Ok(put_try(two))
+            build_try(alloc, scope, decimals, numbers, environment, body, handler)
         }
         Head::Meaningless
         | Head::Variable(_, _, _)
@@ -192,15 +206,126 @@ fn build_trace_head<'a>(
         | Head::Flag(_, _)
         | Head::Unary(_, _, _, _)
         | Head::Binary(_, _, _, _, _)
-        | Head::If(_, _, _, _, _) => {
-            let condition = build_expr_head(alloc, scope, decimals, head)?;
-            put_alone(Expanded::Con(condition), numbers)
-        }
+        | Head::If(_, _, _, _, _) => { build_constraint(alloc, scope, decimals, numbers, head) }
     }
+}
+
+// Traces that are joined: the first and those behind it.
+#[cycle(build_trace)]
+#[inline(never)]
+fn build_joined<'a>(
+    alloc: Global,
+    scope: &mut Scope<'a>,
+    decimals: u32,
+    numbers: Numbers,
+    environment: usize,
+    join: Join,
+    first: &'a TraceExpr,
+    rest: &'a [TraceExpr],
+) -> Result<Numbered, Memory>
+    requires few { decimals ≤ most_decimals }
+    requires within { environment ≤ length (rows scope.old) }
+    requires right { AreRight (rows scope.old) }
+    requires some { 0 < length rest.now }
+    ensures tree { IfOk result (λ b. numbered b ≡ as_trace ((meant decimals).phrase (environment_of (meant decimals) (rows scope.old) environment) (joined join (s.one_trace (trace_view first.now) (traces_of (map trace_view rest.now))))) (numbers_view numbers)) }
+    ensures kept { OnOk result (rows scope.new ≡ rows scope.old) }
+{
+    let (first, rest) = (Source::Trace(first), Source::Joined(join, rest));
+    let two = build_two(alloc, scope, decimals, numbers, environment, first, rest)?;
+    Ok(put_joined(join, two))
+}
+
+// One of several traces.
+#[cycle(build_trace)]
+#[inline(never)]
+fn build_choice<'a>(
+    alloc: Global,
+    scope: &mut Scope<'a>,
+    decimals: u32,
+    numbers: Numbers,
+    environment: usize,
+    written: &'a Choices,
+) -> Result<Numbered, Memory>
+    requires few { decimals ≤ most_decimals }
+    requires within { environment ≤ length (rows scope.old) }
+    requires right { AreRight (rows scope.old) }
+    ensures tree { IfOk result (λ b. numbered b ≡ as_trace ((meant decimals).phrase (environment_of (meant decimals) (rows scope.old) environment) (braces (s.choice false (alternatives written.now)))) (numbers_view numbers)) }
+    ensures kept { OnOk result (rows scope.new ≡ rows scope.old) }
+{
+    let (inside, parts) = (numbers.behind_term()?, &written.items);
+    let chosen = build_parts(alloc, scope, decimals, inside, environment, parts)?;
+    Ok(put_choice(chosen))
+}
+
+// A trace, and what follows where an exception is raised.
+#[cycle(build_trace)]
+#[inline(never)]
+fn build_catch<'a>(
+    alloc: Global,
+    scope: &mut Scope<'a>,
+    decimals: u32,
+    numbers: Numbers,
+    environment: usize,
+    name: &'a Name,
+    body: &'a TraceExpr,
+    handler: &'a Option<Box<TraceExpr>>,
+) -> Result<Numbered, Memory>
+    requires few { decimals ≤ most_decimals }
+    requires within { environment ≤ length (rows scope.old) }
+    requires right { AreRight (rows scope.old) }
+    ensures tree { IfOk result (λ b. numbered b ≡ as_trace ((meant decimals).phrase (environment_of (meant decimals) (rows scope.old) environment) (trace (s.catch (word name.now) (trace_view body.now) (maybe_trace handler.now)))) (numbers_view numbers)) }
+    ensures kept { OnOk result (rows scope.new ≡ rows scope.old) }
+{
+    let (body, handler) = (Source::Trace(body), Source::Handler(handler));
+    let two = build_two(alloc, scope, decimals, numbers, environment, body, handler)?;
+    put_catch(alloc, scope.exception(environment, &name.text), two)
+}
+
+// A trace, and what follows where nothing can be done.
+#[cycle(build_trace)]
+#[inline(never)]
+fn build_try<'a>(
+    alloc: Global,
+    scope: &mut Scope<'a>,
+    decimals: u32,
+    numbers: Numbers,
+    environment: usize,
+    body: &'a TraceExpr,
+    handler: &'a Option<Box<TraceExpr>>,
+) -> Result<Numbered, Memory>
+    requires few { decimals ≤ most_decimals }
+    requires within { environment ≤ length (rows scope.old) }
+    requires right { AreRight (rows scope.old) }
+    ensures tree { IfOk result (λ b. numbered b ≡ as_trace ((meant decimals).phrase (environment_of (meant decimals) (rows scope.old) environment) (trace (s.try (trace_view body.now) (maybe_trace handler.now)))) (numbers_view numbers)) }
+    ensures kept { OnOk result (rows scope.new ≡ rows scope.old) }
+{
+    let (body, handler) = (Source::Trace(body), Source::Handler(handler));
+    let two = build_two(alloc, scope, decimals, numbers, environment, body, handler)?;
+    Ok(put_try(two))
+}
+
+// A constraint on one instant.
+#[inline(never)]
+fn build_constraint<'a>(
+    alloc: Global,
+    scope: &mut Scope<'a>,
+    decimals: u32,
+    numbers: Numbers,
+    head: Head<'a>,
+) -> Result<Numbered, Memory>
+    requires few { decimals ≤ most_decimals }
+    requires within { IsWithin (length (rows scope.old)) head }
+    requires right { AreRight (rows scope.old) }
+    ensures tree { IfOk result (λ b. numbered b ≡ alone (x.con (as_expression (head_reads (meant decimals) (rows scope.old) head.entry))) (numbers_view numbers)) }
+    ensures kept { OnOk result (rows scope.new ≡ rows scope.old) }
+{
+    let condition = build_expr_head(alloc, scope, decimals, head)?;
+    put_alone(Expanded::Con(condition), numbers)
 }
 
 // Two traces, the first of which stands behind one more term.
 #[cycle(build_trace)]
+#[inline(never)]
 fn build_two<'a>(
     alloc: Global,
     scope: &mut Scope<'a>,
@@ -232,6 +357,7 @@ fn build_two<'a>(
 
 // A loop.
 #[cycle(build_trace)]
+#[inline(never)]
 fn build_loop<'a>(
     alloc: Global,
     scope: &mut Scope<'a>,
@@ -273,6 +399,7 @@ fn behind_loop(numbers: Numbers, written: &Limits) -> Result<Numbers, Memory>
 }
 
 // A trace over and over: without end, or as often as the counter of this number says.
+#[inline(never)]
 fn put_loop(counter: u32, turns: Option<Bounds>, body: Box<Expanded>, after: Numbers) -> Numbered
     ensures { numbered result ≡ record { expanded = looped (option_map bounds_view turns) counter (expanded_view body.value); after = numbers_view after } }
 {
@@ -284,6 +411,7 @@ fn put_loop(counter: u32, turns: Option<Bounds>, body: Box<Expanded>, after: Num
 }
 
 // The bounds of a loop, where it has some.
+#[inline(never)]
 fn build_bounds<'a>(
     alloc: Global,
     scope: &mut Scope<'a>,
@@ -315,6 +443,7 @@ fn build_bounds<'a>(
 
 // The alternatives of a choice.
 #[cycle(build_trace)]
+#[inline(never)]
 fn build_parts<'a>(
     alloc: Global,
     scope: &mut Scope<'a>,
@@ -344,6 +473,7 @@ fn build_parts<'a>(
 }
 
 // The weight of an alternative.
+#[inline(never)]
 fn build_weight<'a>(
     alloc: Global,
     scope: &mut Scope<'a>,
@@ -365,6 +495,7 @@ fn build_weight<'a>(
 
 // A trace in each instant of which a constraint holds.
 #[cycle(build_trace)]
+#[inline(never)]
 fn build_assert<'a>(
     alloc: Global,
     scope: &mut Scope<'a>,
@@ -399,6 +530,7 @@ fn build_assert<'a>(
 // A trace with locals, each of which sees the groups before its own.
 #[cycle(build_trace)]
 #[tactic(auto, using(crate::proofs::Building::traces))]
+#[inline(never)]
 fn build_exist<'a>(
     alloc: Global,
     scope: &mut Scope<'a>,
@@ -433,6 +565,7 @@ fn build_exist<'a>(
 }
 
 // A trace with locals of these declarations, behind the last of which the next one has this number.
+#[inline(never)]
 fn put_locals(
     alloc: Global,
     declared: Vec<Declared>,
@@ -453,6 +586,7 @@ fn put_locals(
 }
 
 // A term without parts.
+#[inline(never)]
 fn put_alone(expanded: Expanded, numbers: Numbers) -> Result<Numbered, Memory>
     ensures { IfOk result (λ b. numbered b ≡ alone (expanded_view expanded) (numbers_view numbers)) }
 {
@@ -461,6 +595,7 @@ fn put_alone(expanded: Expanded, numbers: Numbers) -> Result<Numbered, Memory>
 }
 
 // Traces that are joined, out of the first and those behind it.
+#[inline(never)]
 fn put_joined(join: Join, two: Two) -> Numbered
     ensures { numbered result ≡ in_two (joined_by join) two }
 {
@@ -474,6 +609,7 @@ fn put_joined(join: Join, two: Two) -> Numbered
 }
 
 // A trace and what follows where nothing can be done.
+#[inline(never)]
 fn put_try(two: Two) -> Numbered
     ensures { numbered result ≡ in_two x.try two }
 {
@@ -483,6 +619,7 @@ fn put_try(two: Two) -> Numbered
 }
 
 // A trace and what follows where an exception is raised; `Deadlock` is caught where nothing can be done.
+#[inline(never)]
 fn put_catch(alloc: Global, caught: Option<Raised<'_>>, two: Two) -> Result<Numbered, Memory>
     ensures { IfOk result (λ b. (decimals : ℕ) → numbered b ≡ in_two (caught_as (raised_by (meant decimals) caught.entry)) two) }
 {
@@ -498,6 +635,7 @@ fn put_catch(alloc: Global, caught: Option<Raised<'_>>, two: Two) -> Result<Numb
 }
 
 // An exception that is raised; `Deadlock` is a deadlock.
+#[inline(never)]
 fn put_raise(alloc: Global, raised: Option<Raised<'_>>) -> Result<Expanded, Memory>
     ensures { IfOk result (λ t. (decimals : ℕ) → expanded_view t ≡ raised_tree (raised_by (meant decimals) raised.entry)) }
 {
@@ -508,6 +646,7 @@ fn put_raise(alloc: Global, raised: Option<Raised<'_>>) -> Result<Expanded, Memo
 }
 
 // An exception as it is declared. None is declared where no place is known.
+#[inline(never)]
 fn put_exception(alloc: Global, raised: Raised<'_>) -> Result<Exception, Memory>
     ensures { IfOk result (λ z. (decimals : ℕ) → exception_view z ≡ record { name = raised.entry.name.now; place = raised.entry.place; terms_before = (meant decimals).terms_before raised.entry.before }) }
 {
@@ -523,6 +662,7 @@ fn put_exception(alloc: Global, raised: Raised<'_>) -> Result<Exception, Memory>
 }
 
 // One of these.
+#[inline(never)]
 fn put_choice(chosen_parts: NumberedParts) -> Numbered
     ensures { numbered result ≡ chosen (numbered_parts chosen_parts) }
 {

@@ -360,6 +360,7 @@ fn fitting(position: Position, head: Head<'_>) -> Head<'_>
 }
 
 // What is met where a phrase is expanded. Entries are added for what it needs.
+#[inline(never)]
 pub(crate) fn head_of<'a>(
     scope: &mut Scope<'a>,
     position: Position,

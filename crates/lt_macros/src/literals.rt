@@ -33,6 +33,7 @@ pub(crate) fn kind_of(type_name: TypeName) -> Kind
 }
 
 // An operator with one operand.
+#[inline(never)]
 pub(crate) fn unary_operator(operator: UnOp) -> UnaryOperator
     ensures { result ≡ unary_of operator }
 {
@@ -43,6 +44,7 @@ pub(crate) fn unary_operator(operator: UnOp) -> UnaryOperator
 }
 
 // An operator between its operands; the two quotients are one.
+#[inline(never)]
 pub(crate) fn binary_operator(operator: BinOp) -> BinaryOperator
     ensures { result ≡ binary_of operator }
 {
@@ -66,6 +68,7 @@ pub(crate) fn binary_operator(operator: BinOp) -> BinaryOperator
 }
 
 // What stands for what means nothing: `false`.
+#[inline(never)]
 pub(crate) fn meaningless() -> Placed
     ensures { placed result ≡ nothing_said }
 {
@@ -80,6 +83,7 @@ pub(crate) fn unwritten_weight() -> Placed
 }
 
 // The constant that a number stands for.
+#[inline(never)]
 pub(crate) fn number_at(alloc: Global, decimals: u32, literal: &Literal) -> Result<Placed, Memory>
     requires { decimals ≤ most_decimals }
     ensures { IfOk result (λ e. placed e ≡ number_for decimals (figure literal.now)) }

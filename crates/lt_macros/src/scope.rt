@@ -304,6 +304,7 @@ impl<'a> Scope<'a> {
     }
 
     // The declaration of an exception; none is `Deadlock`, as it is before the first declaration.
+    #[inline(never)]
     pub(crate) fn exception(&self, environment: usize, name: &str) -> Option<Declared<'a>>
         requires { environment ≤ length (rows self.now) }
         ensures { (r : Reading Sense) → found_exception (environment_of r (rows self.now) environment).exceptions name.now ≡ raised_by r result }
@@ -325,6 +326,7 @@ impl<'a> Scope<'a> {
     }
 
     // Takes the newest entries back, so that so many are left.
+    #[inline(never)]
     pub(crate) fn truncate(&mut self, len: usize)
         requires { len ≤ length (rows self.old) }
         ensures rows { rows self.new ≡ drop (length (rows self.old) - len) (rows self.old) }

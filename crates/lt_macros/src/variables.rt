@@ -47,6 +47,7 @@ pub(crate) struct Visible {
 
 // The variables of groups, the first of which has this place. A first value sees the groups before.
 #[tactic(auto, using(crate::proofs::Grouped::variables))]
+#[inline(never)]
 pub(crate) fn declare_groups<'a>(
     alloc: Global,
     scope: &mut Scope<'a>,

@@ -13,20 +13,17 @@ struct Room<'a> {
     head: &'a str,
     piece: &'a str,
     most: usize,
-    // How many fewer pieces the text has that is accepted.
-    fewer: usize,
     limit: Limit,
 }
 
-// That each text is accepted with as many pieces as there is room for, or with the fewer ones that the room says, and past
-// the limit with one more than there is room for. Behind a text stands how much of the room it takes itself.
+// That each text is accepted with as many pieces as there is room for, and past the limit with one more. Behind a text
+// stands how much of the room it takes itself.
 fn fill(rt: &impl Abort, alloc: Global, room: Room<'_>, rows: &str) -> Result<(), Fail> {
     for row in rows.lines() {
         let (text, taken) = halves(row, " ==> ");
         let most = room.most.saturating_sub(taken.parse()?);
         let past = Some(ExpandRefusal::TooLarge(room.limit));
-        let accepted = most.saturating_sub(room.fewer);
-        assert_eq!(rt; refusal_with(alloc, room, accepted, text)?, None, "{row}");
+        assert_eq!(rt; refusal_with(alloc, room, most, text)?, None, "{row}");
         assert_eq!(rt;
             refusal_with(alloc, room, most.saturating_add(1), text)?,
             past,
@@ -94,7 +91,6 @@ fn there_may_be_100000_nodes(rt: HostRuntime) -> Result<(), Fail> {
         head: &head,
         piece: "not ",
         most: 17,
-        fewer: 0,
         limit: Limit::Nodes,
     };
     fill(&rt, alloc, room, COUNTED)
@@ -120,7 +116,6 @@ fn terms_may_be_1000_deep(rt: HostRuntime) -> Result<(), Fail> {
         head: "node n() returns (b: bool) = ",
         piece: "b fby ",
         most: 1000,
-        fewer: 0,
         limit: Limit::Depth,
     };
     fill(&rt, rt.alloc(), room, TRACES)?;
@@ -150,22 +145,20 @@ node n() returns (i: int = 1@) = true ==> 1
 let m: int = 1@ node n() returns (b: bool) = { | (m): b } ==> 1
 let m(x: int): int = x node n() returns (b: bool) = { | m(1@): b } ==> 1";
 
-// The stack of a test doesn't hold the expansion of an expression that is 5,000 deep.
 const DEEP: Room<'static> = Room {
     head: "",
     piece: " * 1",
     most: 5000,
-    fewer: 500,
     limit: Limit::Depth,
 };
 
 #[test]
-fn constraints_past_5000_are_too_deep(rt: HostRuntime) -> Result<(), Fail> {
+fn constraints_may_be_5000_deep(rt: HostRuntime) -> Result<(), Fail> {
     fill(&rt, rt.alloc(), DEEP, CONSTRAINTS)
 }
 
 #[test]
-fn numbers_past_5000_are_too_deep(rt: HostRuntime) -> Result<(), Fail> {
+fn numbers_may_be_5000_deep(rt: HostRuntime) -> Result<(), Fail> {
     fill(&rt, rt.alloc(), DEEP, NUMBERS)
 }
 
@@ -181,7 +174,6 @@ fn a_choice_may_have_64_alternatives(rt: HostRuntime) -> Result<(), Fail> {
         head: "node n() returns (b: bool) = ",
         piece: "| b ",
         most: 64,
-        fewer: 0,
         limit: Limit::Children,
     };
     fill(&rt, rt.alloc(), room, CHOICES)
@@ -213,7 +205,6 @@ fn fill_locals(rt: &impl Abort, alloc: Global, outputs: usize) -> Result<(), Fai
         head: &head,
         piece: " fby m",
         most: 128,
-        fewer: 0,
         limit: Limit::Variables,
     };
     fill(rt, alloc, room, &row)

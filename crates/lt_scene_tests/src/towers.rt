@@ -127,7 +127,8 @@ const DOUBLE_LOCALS: &str = ": trace = exist x: bool in true, then { # fby # }, 
 #[derive(Clone, Copy)]
 struct Growing(&'static str, usize, Limit);
 
-const GROWING: [Growing; 3] = [
+const GROWING: [Growing; 4] = [
+    Growing(DEEP_EXPRESSIONS, 4999, Limit::Depth),
     Growing(DEEP_TRACES, 999, Limit::Depth),
     Growing(DOUBLE, 15, Limit::Nodes),
     Growing(DOUBLE_LOCALS, 6, Limit::Variables),
@@ -141,14 +142,6 @@ fn towers_grow_to_the_limits(rt: HostRuntime) -> Result<(), Fail> {
         answer(&rt, rt.alloc(), most.saturating_add(1), rows, past)?;
     }
     Ok(())
-}
-
-// The stack of a test doesn't hold the expansion of an expression that is 5,000 deep.
-#[test]
-fn towers_of_expressions_past_5000_are_too_deep(rt: HostRuntime) -> Result<(), Fail> {
-    let past = Some(ExpandRefusal::TooLarge(Limit::Depth));
-    answer(&rt, rt.alloc(), 4500, DEEP_EXPRESSIONS, None)?;
-    answer(&rt, rt.alloc(), 5000, DEEP_EXPRESSIONS, past)
 }
 
 const DOUBLING: &str = "\

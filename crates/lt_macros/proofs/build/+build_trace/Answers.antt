@@ -1,10 +1,9 @@
-use Rattle.std.proofs.Common.{◌≡◌, ◌<◌, ◌+◌, ◌*◌, length, map, option_map, refl, ap, sym, subst, ◌∙◌, arith, rules}
+use Rattle.std.proofs.Common.{◌≡◌, ◌<◌, ◌+◌, ◌*◌, length, map, option_map, refl, ap, sym, ◌∙◌, arith, rules}
 use Rattle.lt_ast.specs.Syntax as s
 use Rattle.lt_ast.specs.View.{alternatives, exp, groupings, limits, trace as trace_view}
 use Rattle.lt_ast.specs.inner.Rows.{part_of}
 use Rattle.lt_macros.specs.Senses.{as_trace, behind_term, chosen, parts_of, trace_sense, traces_sense, weight_of}
-use Rattle.lt_macros.specs.inner.Heads.{IsWithin, head_reads}
-use Rattle.lt_macros.specs.declared.heads.Head.{Head}
+use Rattle.lt_macros.specs.declared.heads.Head.TheVariants.{Catch}
 use Rattle.lt_macros.specs.inner.Built.{numbered}
 use Rattle.lt_macros.specs.inner.Numbers.{numbers_view}
 use Rattle.lt_macros.specs.inner.Phrase.{joined_by, trace}
@@ -37,7 +36,7 @@ build_assert-returns-clause-tree t c =
 
 pub build_exist-build_trace-requires : goal.build_exist-build_trace-requires
 build_exist-build_trace-requires t c =
-    let less : 3 * trace_work (environment worked (rows c.declare_groups.new.scope) c.in_ok-locals.locals.environment) (trace_view c.args.body.now) + 2 < 3 * trace_work (environment worked (rows c.args.scope.now) c.args.environment) (s.exist (groupings c.args.groups.now) (trace_view c.args.body.now)) =
+    let less : 4 * trace_work (environment worked (rows c.declare_groups.new.scope) c.in_ok-locals.locals.environment) (trace_view c.args.body.now) + 3 < 4 * trace_work (environment worked (rows c.args.scope.now) c.args.environment) (s.exist (groupings c.args.groups.now) (trace_view c.args.body.now)) =
     exist_less (environment worked (rows c.args.scope.now) c.args.environment) (environment worked (rows c.declare_groups.new.scope) c.in_ok-locals.locals.environment) (groupings c.args.groups.now) (trace_view c.args.body.now) c.in_ok-locals.ensures.work in
     search (rules, less)
 
@@ -54,7 +53,7 @@ build_parts-build_trace-requires t c =
     let here = ap (λ es. trace_work (environment worked es c.args.environment) (trace_view c.part-item.result.body)) same in
     let some : trace_work (environment worked (rows c.args.scope.now) c.args.environment) (trace_view c.part-item.result.body) < alternatives_work (environment worked (rows c.args.scope.now) c.args.environment) (alternatives_of (map part_of c.args.written.now)) =
     (part_worked (environment worked (rows c.args.scope.now) c.args.environment) c.args.written.now c.loop-part.part-index c.part-item.result _ more c.part-item.is c.loop-part.invariant.work).0 in
-    let less : 3 * trace_work (environment worked (rows c.build_weight.new.scope) c.args.environment) (trace_view c.part-item.result.body) + 2 < 3 * alternatives_work (environment worked (rows c.args.scope.now) c.args.environment) (alternatives_of (map part_of c.args.written.now)) = omega (arith, here, some) in
+    let less : 4 * trace_work (environment worked (rows c.build_weight.new.scope) c.args.environment) (trace_view c.part-item.result.body) + 3 < 4 * alternatives_work (environment worked (rows c.args.scope.now) c.args.environment) (alternatives_of (map part_of c.args.written.now)) = omega (arith, here, some) in
     search (rules, less)
 
 pub build_parts-loop-part-preserved : goal.build_parts-loop-part-preserved
@@ -75,13 +74,12 @@ build_parts-loop-part-preserved t c =
 pub build_parts-returns-clause-tree : goal.build_parts-returns-clause-tree
 build_parts-returns-clause-tree t c = parts_whole (environment (meant c.args.decimals) (rows c.args.scope.now) c.args.environment) c.args.written.now c.loop-part.part-index c.loop-part.items (numbers_view c.loop-part.numbers) _ c.loop-part-test.false c.loop-part.invariant.tree
 
-pub build_trace_head-build_parts-requires : goal.build_trace_head-build_parts-requires
-build_trace_head-build_parts-requires t c =
-    let env = environment worked (rows c.args.scope.now) c.in-Choice.environment in
-    let list : alternatives c.in-Choice.parts.now ≡ alternatives_of (map part_of c.deref.result.now) = alternatives_list c.in-Choice.parts.now ∙ ap (λ parts. alternatives_of (map part_of parts)) (sym c.deref.ensures.value) in
+pub build_choice-build_parts-requires : goal.build_choice-build_parts-requires
+build_choice-build_parts-requires t c =
+    let env = environment worked (rows c.args.scope.now) c.args.environment in
+    let list : alternatives c.args.written.now ≡ alternatives_of (map part_of c.deref.result.now) = alternatives_list c.args.written.now ∙ ap (λ parts. alternatives_of (map part_of parts)) (sym c.deref.ensures.value) in
     let same = ap (alternatives_work env) list in
-    let head = ap (λ (h : Head). head_reads worked (rows c.args.scope.now) h) c.in-Choice.is in
-    let less : 3 * alternatives_work env (alternatives_of (map part_of c.deref.result.now)) < 3 * head_reads worked (rows c.args.scope.now) c.args.head + 1 = omega (arith, same, head) in
+    let less : 4 * alternatives_work env (alternatives_of (map part_of c.deref.result.now)) < 4 * alternatives_work env (alternatives c.args.written.now) + 1 = omega (arith, same) in
     search (rules, less)
 
 pub build_trace-returns-clause-tree : goal.build_trace-returns-clause-tree
@@ -89,28 +87,25 @@ build_trace-returns-clause-tree t c = c.in_ok-built.ensures.tree ∙ seen_trace 
 
 pub build_trace_head-returns-in_ok-raised-in-Raise-clause-tree : goal.build_trace_head-returns-in_ok-raised-in-Raise-clause-tree
 build_trace_head-returns-in_ok-raised-in-Raise-clause-tree t c =
-    raise_built c.args.decimals (rows c.args.scope.now) c.args.head c.in-Raise.name c.in-Raise.environment (numbers_view c.args.numbers) c.exception.result c.deref-in-Raise.result.now c.in_ok-raised-in-Raise.raised c.put_alone-in-Raise.result
-    c.in-Raise.is c.deref-in-Raise.ensures (c.exception.ensures (meant c.args.decimals)) (c.in_ok-raised-in-Raise.ensures c.args.decimals) c.put_alone-in-Raise.ensures
+    raise_built c.args.decimals (rows c.args.scope.now) c.args.head c.in-Raise.name c.in-Raise.environment (numbers_view c.args.numbers) c.exception.result c.deref.result.now c.in_ok-raised-in-Raise.raised c.put_alone-in-Raise.result
+    c.in-Raise.is c.deref.ensures (c.exception.ensures (meant c.args.decimals)) (c.in_ok-raised-in-Raise.ensures c.args.decimals) c.put_alone-in-Raise.ensures
 
-pub build_trace_head-returns-in_ok-two-in-Catch-clause-tree : goal.build_trace_head-returns-in_ok-two-in-Catch-clause-tree
-build_trace_head-returns-in_ok-two-in-Catch-clause-tree t c =
-    catch_built c.args.decimals (rows c.args.scope.now) (rows c.build_two-in-Catch.new.scope) c.args.head c.in-Catch.name c.in-Catch.body c.in-Catch.handler c.in-Catch.environment (numbers_view c.args.numbers) c.exception-in-Catch.result c.deref-in-Catch.result.now c.in_ok-two-in-Catch.two
-    c.put_catch.result c.in-Catch.is c.deref-in-Catch.ensures c.in_ok-two-in-Catch.ensures.kept (c.exception-in-Catch.ensures (meant c.args.decimals)) c.in_ok-two-in-Catch.ensures.trees c.put_catch.ensures
+pub build_catch-returns-clause-tree : goal.build_catch-returns-clause-tree
+build_catch-returns-clause-tree t c =
+    catch_built c.args.decimals (rows c.args.scope.now) (rows c.build_two.new.scope) (Catch c.args.name c.args.body c.args.handler c.args.environment) c.args.name c.args.body c.args.handler c.args.environment (numbers_view c.args.numbers) c.exception.result c.deref.result.now c.in_ok-two.two
+    c.put_catch.result refl c.deref.ensures c.in_ok-two.ensures.kept (c.exception.ensures (meant c.args.decimals)) c.in_ok-two.ensures.trees c.put_catch.ensures
 
-pub build_trace_head-returns-in_ok-two-in-Joined-clause-tree : goal.build_trace_head-returns-in_ok-two-in-Joined-clause-tree
-build_trace_head-returns-in_ok-two-in-Joined-clause-tree t c =
-    let env = environment (meant c.args.decimals) (rows c.args.scope.now) c.in-Joined.environment in
-    let within = subst (λ (h : Head). IsWithin (length (rows c.args.scope.now)) h) c.in-Joined.is c.requires.within in
+pub build_joined-returns-clause-tree : goal.build_joined-returns-clause-tree
+build_joined-returns-clause-tree t c =
+    let env = environment (meant c.args.decimals) (rows c.args.scope.now) c.args.environment in
     c.put_joined.ensures
-    ∙ joined_built (joined_by c.in-Joined.join) c.in_ok-two-in-Joined.two (as_trace (trace_sense env (trace_view c.in-Joined.first.now)) (behind_term (numbers_view c.args.numbers))) (as_trace (traces_sense env (joined_by c.in-Joined.join) (traces_of (map trace_view c.in-Joined.rest.now)))) c.in_ok-two-in-Joined.ensures.trees
-    ∙ joined_trace env (joined_by c.in-Joined.join) (trace_view c.in-Joined.first.now) c.in-Joined.rest.now (numbers_view c.args.numbers) within.1
-    ∙ ap (λ (h : Head). as_trace (head_reads (meant c.args.decimals) (rows c.args.scope.now) h) (numbers_view c.args.numbers)) (sym c.in-Joined.is)
+    ∙ joined_built (joined_by c.args.join) c.in_ok-two.two (as_trace (trace_sense env (trace_view c.args.first.now)) (behind_term (numbers_view c.args.numbers))) (as_trace (traces_sense env (joined_by c.args.join) (traces_of (map trace_view c.args.rest.now)))) c.in_ok-two.ensures.trees
+    ∙ joined_trace env (joined_by c.args.join) (trace_view c.args.first.now) c.args.rest.now (numbers_view c.args.numbers) c.requires.some
 
-pub build_trace_head-returns-in_ok-chosen-in-Choice-clause-tree : goal.build_trace_head-returns-in_ok-chosen-in-Choice-clause-tree
-build_trace_head-returns-in_ok-chosen-in-Choice-clause-tree t c =
-    let env = environment (meant c.args.decimals) (rows c.args.scope.now) c.in-Choice.environment in
-    let list : alternatives_of (map part_of c.deref.result.now) ≡ alternatives c.in-Choice.parts.now = ap (λ parts. alternatives_of (map part_of parts)) c.deref.ensures.value ∙ sym (alternatives_list c.in-Choice.parts.now) in
+pub build_choice-returns-clause-tree : goal.build_choice-returns-clause-tree
+build_choice-returns-clause-tree t c =
+    let env = environment (meant c.args.decimals) (rows c.args.scope.now) c.args.environment in
+    let list : alternatives_of (map part_of c.deref.result.now) ≡ alternatives c.args.written.now = ap (λ parts. alternatives_of (map part_of parts)) c.deref.ensures.value ∙ sym (alternatives_list c.args.written.now) in
     c.put_choice.ensures
-    ∙ ap chosen c.in_ok-chosen-in-Choice.ensures.tree
-    ∙ (λ i. chosen (parts_of env (list i) (c.in_ok-inside-in-Choice.ensures i)))
-    ∙ ap (λ (h : Head). as_trace (head_reads (meant c.args.decimals) (rows c.args.scope.now) h) (numbers_view c.args.numbers)) (sym c.in-Choice.is)
+    ∙ ap chosen c.in_ok-chosen.ensures.tree
+    ∙ (λ i. chosen (parts_of env (list i) (c.in_ok-inside.ensures i)))
