@@ -7,6 +7,7 @@ pub mod Uses
 pub mod Reading
 pub mod Rows
 pub mod Hidden
+pub mod Keyed
 pub mod Numbers
 pub mod Seen
 pub mod Heads

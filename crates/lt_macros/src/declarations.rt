@@ -46,7 +46,6 @@ pub(crate) fn asked_node<'a>(
 {
     let mut environment = 0;
     for decl in decls {
-        scope.index()?;
         match decl {
             Decl::Node(node) => {
                 if is_wanted(wanted, &node.name) {

@@ -14,6 +14,8 @@ mod declaring;
 mod expanding;
 mod expressions;
 mod heads;
+mod index;
+mod key;
 mod laws;
 mod limit;
 mod literals;

@@ -1,15 +1,16 @@
 //! What names stand for while a node is expanded.
 
-ghost use Rattle.std.specs.Prelude.{◌≡◌, ◌<◌, ◌≤◌, Some, suc, slice_get, ◌+◌, ◌-◌, ℕ, drop, IfOk, IfSome, IsTrue, OnErr, OnOk, [], ◌++◌, ◌∷◌, ◌&&◌, bytes_eq, reverse, length};
+ghost use Rattle.std.specs.Prelude.{◌≡◌, ◌<◌, ◌≤◌, Some, slice_get, ◌+◌, ◌-◌, ℕ, drop, IfOk, IfSome, IsTrue, OnErr, OnOk, [], ◌∷◌, reverse, length};
 ghost use Rattle.lt_macros.specs.Environment.{found_exception};
 ghost use Rattle.lt_macros.specs.Senses.{Sense};
-ghost use Rattle.lt_macros.specs.declared.scope.NameKind.TheVariants.{Exception, Name};
 ghost use Rattle.lt_macros.specs.inner.Handing.{AreRight, IsRight};
 ghost use Rattle.lt_macros.specs.inner.Heads.{AddsTo};
-ghost use Rattle.lt_macros.specs.inner.Hidden.{IsIndexed, IsPut, newest_below, number_in};
+ghost use Rattle.lt_macros.specs.inner.Hidden.{AreKeyed, key_in, kind_of, newest_below, outer_in, run_from, run_of};
+ghost use Rattle.lt_macros.specs.inner.Keyed.{keys};
 ghost use Rattle.lt_macros.specs.inner.Reading.{IsFound, IsNewest, Reading, are_linked, environment as environment_of, declared_by, is_linked, is_name, raised_by};
 
-use indexmap::IndexMap;
+use crate::index::Index;
+use crate::key::{Key, NameKind};
 use lt_ast::{Braced, Expr, MacroDecl, Span, TraceExpr};
 use lt_formula::Role;
 use std::alloc::{AllocError, Global};
@@ -116,16 +117,6 @@ pub(crate) enum Entity<'a> {
     Exception(usize, Before),
 }
 
-/// The kinds of names. A name may be one of each.
-#[derive(Clone, Copy)]
-pub(crate) enum NameKind {
-    /// That of a variable, a parameter or a macro.
-    Name,
-
-    /// That of an exception.
-    Exception,
-}
-
 /// A name that is added to an environment.
 #[derive(Clone, Copy)]
 pub(crate) struct Entry<'a> {
@@ -154,23 +145,14 @@ pub(crate) struct Declared<'a> {
 
 /// Environments by number: 0 is that before the first declaration of a text, and each entry makes one more.
 ///
-/// The first entries are those of the text's own declarations, each of which is added to the environment just before
-/// it. Names are found among these without going through them.
+/// Entries each of which is added to the environment just before it are a run. A name is found in a run without going
+/// through its entries, and where it isn't there it is looked for in the environment to which the run was added.
 #[derive(Drop)]
 pub(crate) struct Scope<'a> {
     alloc: Global,
     entries: Vec<Entry<'a>>,
-
-    // The newest of each name among the first entries, from 1.
-    names: IndexMap<&'a str, usize>,
-
-    // .. of each exception.
-    exceptions: IndexMap<&'a str, usize>,
-
-    // For each of the first entries the newest older one of its kind and name, or 0.
-    hidden: Vec<usize>,
-    ghost named: { IsIndexed Name entries.items names hidden.items },
-    ghost raised: { IsIndexed Exception entries.items exceptions hidden.items },
+    index: Index<'a>,
+    ghost keyed: { AreKeyed entries.items (keys index) },
     ghost linked: { IsTrue (are_linked (reverse entries.items)) },
 }
 
@@ -184,9 +166,7 @@ impl<'a> Scope<'a> {
         Scope {
             alloc,
             entries: Vec::new(alloc),
-            names: IndexMap::new(alloc),
-            exceptions: IndexMap::new(alloc),
-            hidden: Vec::new(alloc),
+            index: Index::new(alloc),
         }
     }
 
@@ -203,13 +183,37 @@ impl<'a> Scope<'a> {
     }
 
     // One more entry: the environment that has its name.
+    #[inline(never)]
     pub(crate) fn push(&mut self, entry: Entry<'a>) -> Result<usize, AllocError>
         requires { IsTrue (is_linked (length (rows self.old)) entry) }
         ensures number { IfOk result (λ number. number ≡ length (rows self.old) + 1) }
         ensures rows { OnOk result (rows self.new ≡ entry.entry ∷ rows self.old) }
     {
+        let key = Key {
+            run: self.run_from(entry.outer),
+            kind: kind_of(entry.entity),
+            name: entry.name,
+        };
         self.entries.push(entry)?;
-        Ok(self.entries.len())
+        match self.index.push(key) {
+            Ok(()) => Ok(self.entries.len()),
+            Err(error) => {
+                self.entries.pop();
+                Err(error)
+            }
+        }
+    }
+
+    // The run of one more entry, which is added to this environment.
+    fn run_from(&self, outer: usize) -> usize
+        ensures { result ≡ run_from (keys self.now.index) (length self.now.entries.items) outer }
+    {
+        let place = self.entries.len();
+        if outer == place && place > 0 {
+            self.index.run(place - 1)
+        } else {
+            place
+        }
     }
 
     // The environment whose newest name a name is in an environment: 0 where it is unknown.
@@ -220,67 +224,34 @@ impl<'a> Scope<'a> {
         ensures within { result ≤ length (rows self.now) }
     {
         let mut environment = environment;
-        while environment > self.hidden.len() {
-            let entry = self.entries[environment - 1];
-            if has_name(entry, name) {
-                return environment;
+        while environment > 0 {
+            let number = self.newest_in_run(NameKind::Name, environment, name);
+            if number > 0 {
+                return number;
             }
-            environment = entry.outer;
+            environment = self.before_run(environment);
         }
-        self.indexed_number(NameKind::Name, environment, name)
+        0
     }
 
-    // The newest of a name among the first entries.
-    fn newest_number(&self, kind: NameKind, name: &str) -> usize
-        ensures { result ≡ newest_below kind self.now.entries.items name.now (length self.now.hidden.items) }
+    // The newest of a name in the run of an environment, or 0.
+    fn newest_in_run(&self, kind: NameKind, environment: usize, name: &str) -> usize
+        requires some { 0 < environment }
+        requires within { environment ≤ length self.now.entries.items }
+        ensures { result ≡ newest_below (keys self.now.index) (key_in (keys self.now.index) environment kind name.entry) environment }
     {
-        match kind {
-            NameKind::Name => number_in(&self.names, name),
-            NameKind::Exception => number_in(&self.exceptions, name),
-        }
+        let run = self.index.run(environment - 1);
+        self.index.newest(Key { run, kind, name }, environment)
     }
 
-    // The newest of a name among so many of the first entries.
-    fn indexed_number(&self, kind: NameKind, environment: usize, name: &str) -> usize
-        requires { environment ≤ length self.now.hidden.items }
-        ensures { result ≡ newest_below kind self.now.entries.items name.now environment }
+    // The environment to which the run of an environment is added.
+    fn before_run(&self, environment: usize) -> usize
+        requires some { 0 < environment }
+        requires within { environment ≤ length self.now.entries.items }
+        ensures outer { result ≡ outer_in (slice_get self.now.entries.items (run_of (keys self.now.index) (environment - 1))) }
+        ensures older { result < environment }
     {
-        let mut number = self.newest_number(kind, name);
-        while number > environment {
-            number = self.hidden[number - 1];
-        }
-        number
-    }
-
-    // Puts entries into the index that are added each to the environment just before it.
-    pub(crate) fn index(&mut self) -> Result<(), AllocError>
-        ensures rows { rows self.new ≡ rows self.old }
-        ensures right { AreRight (rows self.old) → AreRight (rows self.new) }
-    {
-        while self.hidden.len() < self.entries.len() {
-            let place = self.hidden.len();
-            let entry = self.entries[place];
-            if entry.outer != place {
-                return Ok(());
-            }
-            self.index_entry(entry)?;
-        }
-        Ok(())
-    }
-
-    // Puts the first entry into the index that isn't there.
-    fn index_entry(&mut self, entry: Entry<'a>) -> Result<(), AllocError>
-        requires there { slice_get self.old.entries.items (length self.old.hidden.items) ≡ Some entry }
-        requires straight { entry.outer ≡ length self.old.hidden.items }
-        ensures rows { rows self.new ≡ rows self.old }
-        ensures more { OnOk result (length self.new.hidden.items ≡ suc (length self.old.hidden.items)) }
-    {
-        if is_name(entry.entity) {
-            add_name(&mut self.names, &mut self.hidden, entry.name)?;
-        } else {
-            add_name(&mut self.exceptions, &mut self.hidden, entry.name)?;
-        }
-        Ok(())
+        self.entries[self.index.run(environment - 1)].outer
     }
 
     // The entry of the newest name of an environment.
@@ -310,19 +281,14 @@ impl<'a> Scope<'a> {
         ensures { (r : Reading Sense) → found_exception (environment_of r (rows self.now) environment).exceptions name.now ≡ raised_by r result }
     {
         let mut environment = environment;
-        while environment > self.hidden.len() {
-            let entry = self.entries[environment - 1];
-            let declared = declared_as(entry, name);
-            if declared.is_some() {
-                return declared;
+        while environment > 0 {
+            let number = self.newest_in_run(NameKind::Exception, environment, name);
+            if number > 0 {
+                return declared_as(self.entries[number - 1], name);
             }
-            environment = entry.outer;
+            environment = self.before_run(environment);
         }
-        let number = self.indexed_number(NameKind::Exception, environment, name);
-        if number == 0 {
-            return None;
-        }
-        declared_as(self.entries[number - 1], name)
+        None
     }
 
     // Takes the newest entries back, so that so many are left.
@@ -334,49 +300,8 @@ impl<'a> Scope<'a> {
         ensures len { length (rows self.new) ≡ len }
         ensures right { AreRight (rows self.old) → AreRight (rows self.new) }
     {
-        self.forget(len);
         self.entries.truncate(len);
-    }
-
-    // Leaves nothing in the index, where it has more than so many entries.
-    fn forget(&mut self, len: usize)
-        ensures entries { self.new.entries.items ≡ self.old.entries.items }
-        ensures short { length self.new.hidden.items ≤ len }
-    {
-        if len < self.hidden.len() {
-            self.names.clear();
-            self.exceptions.clear();
-            self.hidden.clear();
-        }
-    }
-}
-
-// The number that a name has, or 0.
-fn number_in(numbers: &IndexMap<&str, usize>, name: &str) -> usize
-    ensures { result ≡ number_in numbers.now name.now }
-{
-    numbers.get(&name).copied().unwrap_or(0)
-}
-
-// One more entry, which has a name: what this had as its number is hidden.
-fn add_name<'a>(
-    numbers: &mut IndexMap<&'a str, usize>,
-    hidden: &mut Vec<usize>,
-    name: &'a str,
-) -> Result<(), AllocError>
-    ensures hides { OnOk result (hidden.new.items ≡ hidden.old.items ++ number_in numbers.old name.now ∷ []) }
-    ensures put { OnOk result (IsPut numbers.old numbers.new name.now (suc (length hidden.old.items))) }
-    ensures numbers { OnErr result (numbers.new.entries ≡ numbers.old.entries) }
-    ensures hidden { OnErr result (hidden.new.items ≡ hidden.old.items) }
-{
-    hidden.push(number_in(numbers, name))?;
-    let number = hidden.len();
-    match numbers.insert(name, number) {
-        Ok(_) => Ok(()),
-        Err(_) => {
-            hidden.pop();
-            Err(AllocError)
-        }
+        self.index.truncate(len);
     }
 }
 
@@ -387,11 +312,15 @@ fn is_name(entity: Entity<'_>) -> bool
     !matches!(entity, Entity::Exception(_, _))
 }
 
-// Whether an entry is that of a name which is no exception.
-fn has_name(entry: Entry<'_>, name: &str) -> bool
-    ensures { result ≡ (is_name entry.entry.entity && bytes_eq name.now entry.entry.name.now) }
+// The kind of the name of what it stands for.
+fn kind_of(entity: Entity<'_>) -> NameKind
+    ensures { result ≡ kind_of (is_name entity.entry) }
 {
-    is_name(entry.entity) && name == entry.name
+    if is_name(entity) {
+        NameKind::Name
+    } else {
+        NameKind::Exception
+    }
 }
 
 // The declaration of an exception of this name, where an entry is one.

@@ -1,49 +1,43 @@
-use Rattle.std.proofs.Common.{◌∙◌, sym, arith}
-use Rattle.lt_macros.specs.inner.Reading.{meant}
+use Rattle.std.proofs.Common.{◌∙◌, arith}
+use Rattle.std.proofs.lemmas.List.{length-reverse}
+use Rattle.lt_macros.specs.inner.Hidden.{key_in}
+use Rattle.lt_macros.specs.inner.Keyed.{keys}
 use Rattle.lt_macros.specs.inner.Rows.{rows}
-use Rattle.lt_macros.specs.declared.scope.NameKind.TheVariants.{Name}
-use Rattle.lt_macros.proofs.Environments.{makes, found_here, found_there}
-use Rattle.lt_macros.proofs.Indexes.{below, found_indexed}
+use Rattle.lt_macros.specs.declared.key.NameKind.TheVariants.{Name}
+use Rattle.lt_macros.proofs.Environments.{found_nowhere}
+use Rattle.lt_macros.proofs.Indexes.{below, found_at, found_on}
 use Rattle.lt_macros.proofs.scope.Scope.number.Goals as goal
 
-pub returns-then-has_name-clause-sense : goal.returns-then-has_name-clause-sense
-returns-then-has_name-clause-sense c = λ r.
+pub returns-then-number-gt0-clause-sense : goal.returns-then-number-gt0-clause-sense
+returns-then-number-gt0-clause-sense c = λ r.
     c.loop-environment.invariant.sense r
-    ∙ found_here r (rows c.args.self.now) c.loop-environment.environment c.index-entry.result.now c.args.name.now
-    (makes r c.args.self.now.entries.items c.loop-environment.environment c.index-entry.result.now c.args.self.now.linked (omega (arith, c.loop-environment-test.true)) c.loop-environment.invariant.within c.index-entry.ensures)
-    (sym c.has_name.ensures ∙ c.if-has_name.true)
+    ∙ found_at r c.args.self.now.entries.items (keys c.args.self.now.index) c.args.name c.loop-environment.environment c.newest_in_run-number.result c.args.self.now.linked c.args.self.now.keyed
+    (omega (arith, c.loop-environment-test.true)) (omega (arith, c.loop-environment.invariant.within, length-reverse c.args.self.now.entries.items)) c.newest_in_run-number.ensures (omega (arith, c.if-number-gt0.true))
 
-pub returns-then-has_name-clause-work : goal.returns-then-has_name-clause-work
-returns-then-has_name-clause-work c = λ r.
+pub returns-then-number-gt0-clause-work : goal.returns-then-number-gt0-clause-work
+returns-then-number-gt0-clause-work c = λ r.
     c.loop-environment.invariant.work r
-    ∙ found_here r (rows c.args.self.now) c.loop-environment.environment c.index-entry.result.now c.args.name.now
-    (makes r c.args.self.now.entries.items c.loop-environment.environment c.index-entry.result.now c.args.self.now.linked (omega (arith, c.loop-environment-test.true)) c.loop-environment.invariant.within c.index-entry.ensures)
-    (sym c.has_name.ensures ∙ c.if-has_name.true)
+    ∙ found_at r c.args.self.now.entries.items (keys c.args.self.now.index) c.args.name c.loop-environment.environment c.newest_in_run-number.result c.args.self.now.linked c.args.self.now.keyed
+    (omega (arith, c.loop-environment-test.true)) (omega (arith, c.loop-environment.invariant.within, length-reverse c.args.self.now.entries.items)) c.newest_in_run-number.ensures (omega (arith, c.if-number-gt0.true))
 
-pub loop-environment-smaller : goal.loop-environment-smaller
-loop-environment-smaller c = (makes (meant 0) c.args.self.now.entries.items c.loop-environment.environment c.index-entry.result.now c.args.self.now.linked (omega (arith, c.loop-environment-test.true)) c.loop-environment.invariant.within c.index-entry.ensures).outer
+pub returns-then-number-gt0-clause-within : goal.returns-then-number-gt0-clause-within
+returns-then-number-gt0-clause-within c =
+    omega (arith, c.newest_in_run-number.ensures, below (keys c.args.self.now.index) (key_in (keys c.args.self.now.index) c.loop-environment.environment Name c.args.name) c.loop-environment.environment, c.loop-environment.invariant.within)
 
 pub loop-environment-preserved : goal.loop-environment-preserved
 loop-environment-preserved c =
     record {
-      within = (makes (meant 0) c.args.self.now.entries.items c.loop-environment.environment c.index-entry.result.now c.args.self.now.linked (omega (arith, c.loop-environment-test.true)) c.loop-environment.invariant.within c.index-entry.ensures).within;
-      sense = λ r. c.loop-environment.invariant.sense r ∙ found_there r (rows c.args.self.now) c.loop-environment.environment c.index-entry.result.now c.args.name.now
-          (makes r c.args.self.now.entries.items c.loop-environment.environment c.index-entry.result.now c.args.self.now.linked (omega (arith, c.loop-environment-test.true)) c.loop-environment.invariant.within c.index-entry.ensures)
-          (sym c.has_name.ensures ∙ c.if-has_name.false);
-      work = λ r. c.loop-environment.invariant.work r ∙ found_there r (rows c.args.self.now) c.loop-environment.environment c.index-entry.result.now c.args.name.now
-          (makes r c.args.self.now.entries.items c.loop-environment.environment c.index-entry.result.now c.args.self.now.linked (omega (arith, c.loop-environment-test.true)) c.loop-environment.invariant.within c.index-entry.ensures)
-          (sym c.has_name.ensures ∙ c.if-has_name.false);
+      within = omega (arith, c.before_run-environment.ensures.older, c.loop-environment.invariant.within);
+      sense = λ r. c.loop-environment.invariant.sense r
+          ∙ found_on r c.args.self.now.entries.items (keys c.args.self.now.index) c.args.name c.loop-environment.environment c.newest_in_run-number.result c.before_run-environment.result c.args.self.now.linked c.args.self.now.keyed
+          (omega (arith, c.loop-environment-test.true)) (omega (arith, c.loop-environment.invariant.within, length-reverse c.args.self.now.entries.items)) c.newest_in_run-number.ensures (omega (arith, c.if-number-gt0.false)) c.before_run-environment.ensures.outer;
+      work = λ r. c.loop-environment.invariant.work r
+          ∙ found_on r c.args.self.now.entries.items (keys c.args.self.now.index) c.args.name c.loop-environment.environment c.newest_in_run-number.result c.before_run-environment.result c.args.self.now.linked c.args.self.now.keyed
+          (omega (arith, c.loop-environment-test.true)) (omega (arith, c.loop-environment.invariant.within, length-reverse c.args.self.now.entries.items)) c.newest_in_run-number.ensures (omega (arith, c.if-number-gt0.false)) c.before_run-environment.ensures.outer;
     }
 
 pub returns-clause-sense : goal.returns-clause-sense
-returns-clause-sense c = λ r. c.loop-environment.invariant.sense r
-    ∙ found_indexed r c.args.self.now.entries.items c.args.self.now.names c.args.self.now.hidden.items c.args.name.now c.loop-environment.environment c.indexed_number.result
-    c.args.self.now.linked c.args.self.now.named (omega (arith, c.loop-environment-test.false)) c.indexed_number.ensures
+returns-clause-sense c = λ r. c.loop-environment.invariant.sense r ∙ found_nowhere r (rows c.args.self.now) c.loop-environment.environment c.args.name.now (omega (arith, c.loop-environment-test.false))
 
 pub returns-clause-work : goal.returns-clause-work
-returns-clause-work c = λ r. c.loop-environment.invariant.work r
-    ∙ found_indexed r c.args.self.now.entries.items c.args.self.now.names c.args.self.now.hidden.items c.args.name.now c.loop-environment.environment c.indexed_number.result
-    c.args.self.now.linked c.args.self.now.named (omega (arith, c.loop-environment-test.false)) c.indexed_number.ensures
-
-pub returns-clause-within : goal.returns-clause-within
-returns-clause-within c = omega (arith, c.indexed_number.ensures, below Name c.args.self.now.entries.items c.args.name.now c.loop-environment.environment, c.loop-environment.invariant.within)
+returns-clause-work c = λ r. c.loop-environment.invariant.work r ∙ found_nowhere r (rows c.args.self.now) c.loop-environment.environment c.args.name.now (omega (arith, c.loop-environment-test.false))

@@ -1,12 +1,11 @@
-use Rattle.std.proofs.Common.{is_ok}
-use Rattle.lt_macros.specs.declared.scope.NameKind.TheVariants.{Name, Exception}
-use Rattle.lt_macros.proofs.Indexes.{indexed_push, linked_push}
+use Rattle.lt_macros.specs.inner.Keyed.{keys}
+use Rattle.lt_macros.proofs.Indexes.{keyed_push, linked_push}
 use Rattle.lt_macros.proofs.scope.Scope.push.Goals as goal
 
-pub invariant_of-self : goal.invariant_of-self
-invariant_of-self c =
+pub invariant_of-self-in-Ok : goal.invariant_of-self-in-Ok
+invariant_of-self-in-Ok c =
     record {
-      named = indexed_push Name c.args.self.now.entries.items c.push.new.self.items c.args.entry c.args.self.now.names c.args.self.now.hidden.items (is_ok c.push.result) c.push.ensures.items c.args.self.now.named;
-      raised = indexed_push Exception c.args.self.now.entries.items c.push.new.self.items c.args.entry c.args.self.now.exceptions c.args.self.now.hidden.items (is_ok c.push.result) c.push.ensures.items c.args.self.now.raised;
-      linked = linked_push c.args.self.now.entries.items c.push.new.self.items c.args.entry (is_ok c.push.result) c.push.ensures.items c.args.self.now.linked c.requires;
+      keyed = keyed_push c.args.self.now.entries.items c.push.new.self.items (keys c.args.self.now.index) (keys c.push-2.new.self) c.args.entry c.run_from.result c.kind_of.result c.in_ok-push.ensures.items
+          c.run_from.ensures c.kind_of.ensures c.in-Ok.ensures.more c.args.self.now.keyed;
+      linked = linked_push c.args.self.now.entries.items c.push.new.self.items c.args.entry c.in_ok-push.ensures.items c.args.self.now.linked c.requires;
     }
