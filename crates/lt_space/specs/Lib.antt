@@ -1,0 +1,20 @@
+-- Formulas over outputs and locals.
+pub mod Formula
+-- What formulas of the code stand for.
+pub mod FormulaView
+-- What expressions mean in an instant.
+pub mod Meaning
+-- How large a formula may be.
+pub mod Size
+-- The work that a search may need.
+pub mod Need
+-- Answers of calls that may lack memory.
+pub mod Refusal
+-- Formulas as lists of gates.
+pub mod Circuit
+-- What circuits stand for.
+pub mod CircuitView
+-- What spaces stand for.
+pub mod SpaceView
+-- Words of private contracts and of what private types keep.
+pub mod inner

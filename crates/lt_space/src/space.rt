@@ -1,0 +1,161 @@
+//! The constraints of an instant, loaded.
+
+ghost use Rattle.std.specs.Prelude.{◌≡◌, ◌<◌, ◌≤◌, [], true, IfOk, IsTrue, OnOk, OnErr, length, map, nat_lt, vec_capacity};
+ghost use Rattle.std.specs.List.{list_all};
+ghost use Rattle.lt_num.specs.Bounds.{most_decimals};
+ghost use Rattle.lt_formula.specs.Kinds.{variables_of};
+ghost use Rattle.lt_formula.specs.Limits.{most_variables};
+ghost use Rattle.lt_formula.specs.Table.{spelled};
+ghost use Rattle.lt_formula.specs.View.{table_expressions, table_kinds, table_len, valuation_of_known};
+ghost use Rattle.lt_space.specs.CircuitView.{circuit_formulas, circuit_len};
+ghost use Rattle.lt_space.specs.Formula.{truth};
+ghost use Rattle.lt_space.specs.Meaning.{formula_of_all};
+ghost use Rattle.lt_space.specs.Need.{need};
+ghost use Rattle.lt_space.specs.inner.Work.{HasWorkRoom, formulas_in};
+
+use crate::circuit::Circuit;
+use crate::loading::load_into;
+use crate::needed::need;
+use crate::work::Work;
+use lt_formula::{Known, Memory, Table};
+use lt_num::{Arith, Range};
+use std::alloc::Global;
+
+// How many expressions a table may have that a space is made for.
+const MOST_EXPRESSIONS: usize = 1 << 24;
+
+// How many constraints it may have room for at once.
+const MOST_WANTED: usize = 1 << 31;
+
+/// The constraints of an instant: what they say of its outputs and locals, as a circuit. All its room is reserved
+/// when it is made.
+#[derive(Drop)]
+pub struct Space {
+    work: Work,
+    wanted: Vec<u32>,
+    root: u32,
+    decimals: u32,
+    most: usize,
+    ghost within: { root < length (formulas_in work) },
+    ghost few: { decimals ≤ most_decimals },
+    ghost kept: { most ≤ vec_capacity wanted },
+    ghost room: { HasWorkRoom most work },
+}
+
+impl Space {
+    ghost use Rattle.lt_space.specs.SpaceView.{IsOver, loaded, space_circuit, space_decimals, space_formula, space_gates, space_most, space_root, space_wanted};
+
+    /// A space for the expressions of a table that has at most 128 outputs and locals together, with room for at most
+    /// so many constraints. It has none: its formula is the truth true.
+    ///
+    /// # Errors
+    ///
+    /// Want of memory; also where the table has more than 2^24 expressions, or the constraints may be more than 2^31.
+    pub fn make(alloc: Global, table: &Table, most: usize) -> Result<Space, Memory>
+        requires { variables_of (table_kinds table.now) ≤ most_variables }
+        ensures table { IfOk result (IsOver table.now) }
+        ensures wanted { IfOk result (λ space. space_wanted space ≡ []) }
+        ensures formula { IfOk result (λ space. space_formula space ≡ truth true) }
+        ensures decimals { IfOk result (λ space. space_decimals space ≡ 0) }
+        ensures most { IfOk result (λ space. space_most space ≡ most) }
+    {
+        let expressions = table.len();
+        if expressions > MOST_EXPRESSIONS || most > MOST_WANTED {
+            return Err(Memory);
+        }
+        let mut work = Work::make(alloc, expressions, table.variables(), most)?;
+        let root = work.empty();
+        Ok(Space {
+            work,
+            wanted: Vec::with_capacity(alloc, most)?,
+            root,
+            decimals: 0,
+            most,
+        })
+    }
+
+    /// Loads constraints of a table, by their numbers and in the order of a list: their formula is that of the
+    /// constraints joined by `and`. Each expression is evaluated at most once. It needs no memory, and its time
+    /// doesn't depend on the size of the table.
+    ///
+    /// The table is that of [`Space::make`], or one with as many expressions, outputs and locals.
+    ///
+    /// # Errors
+    ///
+    /// The first fault that the evaluation meets, constraint by constraint and from left to right. Then the space has
+    /// no constraint, and its formula is the truth true.
+    pub fn load(&mut self, table: &Table, wanted: &[u32], known: &Known<'_>) -> Result<(), Arith>
+        requires table { IsOver table.now self.old }
+        requires few { variables_of (table_kinds table.now) ≤ most_variables }
+        requires within { IsTrue (list_all (λ exp. nat_lt exp (table_len table.now)) wanted.now) }
+        requires most { length wanted.now ≤ space_most self.old }
+        requires decimals { known.now.decimals ≤ most_decimals }
+        ensures loads { loaded (space_formula self.new) result ≡ formula_of_all (valuation_of_known known.now) (table_kinds table.now) (map (spelled (table_expressions table.now)) wanted.now) }
+        ensures wanted { OnOk result (space_wanted self.new ≡ wanted.now) }
+        ensures none { OnErr result (space_wanted self.new ≡ []) }
+        ensures empty { OnErr result (space_formula self.new ≡ truth true) }
+        ensures decimals { space_decimals self.new ≡ known.now.decimals }
+        ensures table_stays { IsOver table.now self.new }
+        ensures most_stays { space_most self.new ≡ space_most self.old }
+        ensures gates { space_gates self.new ≡ space_gates self.old }
+    {
+        self.wanted.clear();
+        self.decimals = known.decimals;
+        match load_into(table, wanted, known, &mut self.work) {
+            Ok(root) => {
+                self.root = root;
+                self.wanted.extend_from_slice(wanted).unwrap();
+                Ok(())
+            }
+            Err(fault) => {
+                self.root = self.work.empty();
+                Err(fault)
+            }
+        }
+    }
+
+    /// The constraints that were loaded.
+    pub fn wanted(&self) -> &[u32]
+        ensures { result.now ≡ space_wanted self.now }
+    {
+        &self.wanted
+    }
+
+    /// The circuit that has their formula.
+    pub fn circuit(&self) -> &Circuit
+        ensures { result.now ≡ space_circuit self.now }
+    {
+        &self.work.circuit
+    }
+
+    /// The number of the gate of their formula.
+    pub fn root(&self) -> u32
+        ensures root { result ≡ space_root self.now }
+        ensures within { result < circuit_len (space_circuit self.now) }
+    {
+        self.root
+    }
+
+    /// How many decimals a real had in the last load.
+    pub fn decimals(&self) -> u32
+        ensures decimals { result ≡ space_decimals self.now }
+        ensures few { result ≤ most_decimals }
+    {
+        self.decimals
+    }
+
+    /// How many gates its circuit has room for.
+    pub fn gates(&self) -> usize
+        ensures gates { result ≡ space_gates self.now }
+        ensures within { circuit_len (space_circuit self.now) ≤ result }
+    {
+        self.work.circuit.room()
+    }
+
+    /// How much work a search for values of the variables of a scope may need, within these ranges: [`need`].
+    pub fn need(&self, scope: &[bool], ranges: &[Range]) -> u128
+        ensures { result ≡ need scope.now ranges.now }
+    {
+        need(scope, ranges)
+    }
+}
