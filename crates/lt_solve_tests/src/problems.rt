@@ -1,0 +1,249 @@
+//! Small problems, made from a number, and their first solutions by going through all points.
+
+ghost use Rattle.std.specs.Prelude.{◌≡◌, ◌<◌, ◌≤◌};
+ghost use Rattle.lt_formula.specs.View.{table_len};
+
+use crate::sheet::Sheet;
+use lt_formula::ExpNode::{
+    Add, And, Eq, Ge, Gt, If, Implies, Int, Le, Local, Lt, Mul, Ne, Neg, Not, Or, Output, Real,
+    Sub, Xor,
+};
+use lt_formula::{ExpNode, Valuation, value_under};
+use lt_num::{Range, Value};
+use std::alloc::Global;
+use std::process::Abort;
+use std::test::Fail;
+
+/// The ranges of the outputs and the locals: a Boolean, an int and a real of each.
+pub(crate) const RANGES: [Range; 6] = [
+    Range { low: 0, high: 1 },
+    Range { low: -2, high: 2 },
+    Range { low: -1, high: 2 },
+    Range { low: 0, high: 1 },
+    Range { low: 0, high: 3 },
+    Range {
+        low: -150,
+        high: -148,
+    },
+];
+
+/// Numbers that look like drawn ones.
+#[derive(Clone, Copy)]
+pub(crate) struct Numbers {
+    state: u64,
+}
+
+impl Numbers {
+    /// Numbers of a start.
+    pub(crate) fn new(start: u64) -> Numbers {
+        Numbers { state: start }
+    }
+
+    /// A number below another.
+    pub(crate) fn below(&mut self, most: u64) -> u64
+        requires { 1 ≤ most }
+        ensures { result < most }
+    {
+        self.state = self
+            .state
+            .wrapping_mul(6_364_136_223_846_793_005)
+            .wrapping_add(1_442_695_040_888_963_407);
+        (self.state >> 33) % most
+    }
+}
+
+/// Constraints over the six variables, which ones are in scope, and a target for each.
+#[derive(Drop)]
+pub(crate) struct Problem {
+    pub(crate) sheet: Sheet,
+    pub(crate) wanted: [u32; 3],
+    pub(crate) scope: [bool; 6],
+    pub(crate) targets: [i64; 6],
+}
+
+impl Problem {
+    /// The problem of a number.
+    pub(crate) fn make(rt: &impl Abort, alloc: Global, number: u64) -> Result<Problem, Fail> {
+        let mut numbers = Numbers::new(number);
+        let mut sheet = Sheet::new(alloc)?;
+        let first = put_truth(rt, &mut sheet, &mut numbers)?;
+        let second = put_truth(rt, &mut sheet, &mut numbers)?;
+        let third = put_truth(rt, &mut sheet, &mut numbers)?;
+        let mut scope = [true; 6];
+        let mut targets = [0; 6];
+        for i in 0..6 {
+            scope[i] = numbers.below(8) > 0;
+            targets[i] = RANGES[i].low - 1 + numbers.below(6) as i64;
+        }
+        Ok(Problem {
+            sheet,
+            wanted: [first, second, third],
+            scope,
+            targets,
+        })
+    }
+
+    /// How many points there are.
+    pub(crate) fn points(&self) -> u64 {
+        let mut points = 1u64;
+        for i in 0..6 {
+            points = points.wrapping_mul(self.count(i));
+        }
+        points
+    }
+
+    /// The first point at which all constraints are true, by going through the points in their order.
+    pub(crate) fn first_by_trial(&self, rt: &impl Abort) -> Option<[i64; 6]> {
+        for number in 0..self.points() {
+            let point = self.point(number);
+            if self.is_true_at(rt, &point) {
+                return Some(point);
+            }
+        }
+        None
+    }
+
+    // How many numbers a variable has.
+    fn count(&self, variable: usize) -> u64
+        requires { variable < 6 }
+    {
+        if self.scope[variable] {
+            RANGES[variable].high.abs_diff(RANGES[variable].low) + 1
+        } else {
+            1
+        }
+    }
+
+    // The point with this number in the order from the targets, in which the last variable changes first.
+    fn point(&self, number: u64) -> [i64; 6] {
+        let mut point = [0; 6];
+        let mut rest = number;
+        for k in 0..6 {
+            let variable = 5 - k;
+            let count = self.count(variable);
+            if count > 0 {
+                if self.scope[variable] {
+                    point[variable] = nth(RANGES[variable], self.targets[variable], rest % count);
+                }
+                rest /= count;
+            }
+        }
+        point
+    }
+
+    // Whether all constraints are true at a point.
+    fn is_true_at(&self, rt: &impl Abort, point: &[i64; 6]) -> bool {
+        let valuation = Valuation {
+            inputs: &[],
+            outputs: &[
+                Value::Bool(point[0] != 0),
+                Value::Num(point[1]),
+                Value::Num(point[2]),
+            ],
+            locals: &[
+                Value::Bool(point[3] != 0),
+                Value::Num(point[4]),
+                Value::Num(point[5]),
+            ],
+            pre_inputs: &[],
+            pre_outputs: &[],
+            pre_locals: &[],
+            decimals: 2,
+        };
+        for exp in self.wanted {
+            assert!(rt; (exp as usize) < self.sheet.table.len());
+            if value_under(&valuation, &self.sheet.table, exp) != Ok(Value::Bool(true)) {
+                return false;
+            }
+        }
+        true
+    }
+}
+
+// The number of a range with this place in the order from a target up, and then from the low end up.
+fn nth(range: Range, target: i64, place: u64) -> i64 {
+    let first = range.low.max(target);
+    let behind = range.high.wrapping_sub(first).wrapping_add(1).max(0);
+    let place = i64::try_from(place).unwrap_or(0);
+    if place < behind {
+        first.wrapping_add(place)
+    } else {
+        range.low.wrapping_add(place.wrapping_sub(behind))
+    }
+}
+
+// Puts a constraint: two simple ones that are joined, or denied, or one of them chosen.
+fn put_truth(rt: &impl Abort, sheet: &mut Sheet, numbers: &mut Numbers) -> Result<u32, Fail> {
+    let a = put_simple(rt, sheet, numbers)?;
+    let b = put_simple(rt, sheet, numbers)?;
+    let node = match numbers.below(9) {
+        0 => And(a, b),
+        1 => Or(a, b),
+        2 => Xor(a, b),
+        3 => Implies(a, b),
+        4 => Eq(a, b),
+        5 => Ne(a, b),
+        6 => Not(a),
+        7 => {
+            let c = put_simple(rt, sheet, numbers)?;
+            If(c, a, b)
+        }
+        _ => return Ok(a),
+    };
+    sheet.put(rt, node)
+}
+
+// Puts a Boolean variable or a comparison.
+fn put_simple(rt: &impl Abort, sheet: &mut Sheet, numbers: &mut Numbers) -> Result<u32, Fail> {
+    if numbers.below(4) == 0 {
+        return sheet.put(
+            rt,
+            if numbers.below(2) == 0 {
+                Output(0)
+            } else {
+                Local(0)
+            },
+        );
+    }
+    let is_real = numbers.below(2) == 0;
+    let a = put_number(rt, sheet, numbers, is_real)?;
+    let b = put_number(rt, sheet, numbers, is_real)?;
+    let node = match numbers.below(6) {
+        0 => Eq(a, b),
+        1 => Ne(a, b),
+        2 => Lt(a, b),
+        3 => Le(a, b),
+        4 => Gt(a, b),
+        _ => Ge(a, b),
+    };
+    sheet.put(rt, node)
+}
+
+// Puts a number: a sum of a constant and a variable of one kind, either of which may have another sign or factor.
+fn put_number(
+    rt: &impl Abort,
+    sheet: &mut Sheet,
+    numbers: &mut Numbers,
+    is_real: bool,
+) -> Result<u32, Fail> {
+    let place = if is_real { 2 } else { 1 };
+    let variable = sheet.put(
+        rt,
+        if numbers.below(2) == 0 {
+            Output(place)
+        } else {
+            Local(place)
+        },
+    )?;
+    let raw = numbers.below(9) as i64 - 4;
+    let constant = sheet.put(rt, if is_real { Real(raw) } else { Int(raw) })?;
+    let node = match numbers.below(6) {
+        0 => Add(variable, constant),
+        1 => Sub(constant, variable),
+        2 => Neg(variable),
+        3 if !is_real => Mul(constant, variable),
+        4 => Add(variable, variable),
+        _ => return Ok(variable),
+    };
+    sheet.put(rt, node)
+}

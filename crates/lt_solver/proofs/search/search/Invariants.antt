@@ -1,0 +1,21 @@
+use Rattle.std.proofs.Common.{◌≡◌, ◌*◌, ◌≤◌, ◌∷◌, length, vec_len, vec_capacity}
+use Rattle.lt_formula.specs.Solution.{first_solution, or_else}
+use Rattle.lt_solver.specs.inner.Levels.{AreBoxes, boxes_of, levels_of, work_of}
+use Rattle.lt_solver.specs.inner.Points.{first_among}
+use Rattle.lt_solver.specs.inner.Search.{passes}
+use Rattle.lt_solver.proofs.search.search.Given as goal
+
+-- It is left to the box at hand and to those on the stack, which has room for their parts.
+abbrev pub invariant-boxes : goal.invariant-boxes
+invariant-boxes l = record {
+  left : first_solution (passes l.space) l.fn.current l.targets
+      ≡ or_else (first_solution (passes l.space) l.current l.targets) (first_among (passes l.space) l.targets (boxes_of (length l.fn.current) l.height l.stack.items));
+  boxes : AreBoxes l.targets l.fn.current (levels_of l.targets l.fn.current) (l.current ∷ boxes_of (length l.fn.current) l.height l.stack.items);
+  len : length l.stack.items ≡ l.height * length l.fn.current;
+  count : vec_len l.stack ≡ l.height * length l.fn.current;
+  room : vec_capacity l.fn.stack ≤ vec_capacity l.stack;
+  verdicts : vec_capacity l.verdicts ≡ vec_capacity l.fn.verdicts;
+}
+
+abbrev pub decreases-boxes : goal.decreases-boxes
+decreases-boxes l = work_of l.targets (l.current ∷ boxes_of (length l.fn.current) l.height l.stack.items)
