@@ -9,17 +9,16 @@ use Rattle.lt_macros.specs.Expanded.{Node}
 use Rattle.lt_macros.specs.Expansion.{expanded_node}
 use Rattle.lt_parser.specs.Text.{IsProgramOf, IsRefusal}
 use Rattle.lt_parser.specs.declared.refusal.ParseRefusal.{ParseRefusal}
-use Rattle.lt_step.specs.Plain.{is_plain}
 use Rattle.lt_term.specs.Scene.{Scene, Variable}
 use Rattle.lt_types.specs.Law.{WellTypedIsUnrefused}
 use Rattle.lt_types.specs.Refusals.{type_refusals}
 use Rattle.lt_types.specs.Typing.{IsWellTyped}
 use Rattle.lt_types.specs.declared.refusal.TypeRefusal.{TypeRefusal}
-use Rattle.lt_call.specs.Due.{Answer, Contents, IsDue, IsSceneOf, Spells, refused, too_long, no_program, ill_typed, not_expanded, not_built, no_controller, runs, prints}
+use Rattle.lt_call.specs.Due.{Answer, Contents, IsDue, IsSceneOf, Spells, refused, too_long, no_program, ill_typed, not_expanded, no_controller, runs, prints}
 use Rattle.lt_call.specs.Laws.{ContentsHaveOneDueAnswer}
 use Rattle.lt_call.specs.Settings.{longest_text}
 use Rattle.lt_call.specs.Words.{Request}
-use Rattle.lt_call.specs.inner.Programs.{fed_answer, built_answer, scene_answer, node_answer, expanded_answer, typed_answer, mode_answer, program_answer}
+use Rattle.lt_call.specs.inner.Programs.{fed_answer, scene_answer, node_answer, expanded_answer, typed_answer, mode_answer, program_answer}
 use Rattle.lt_call.specs.declared.status.Refusal.TheVariants as refusal
 use Rattle.lt_call.specs.declared.words.Mode.{Mode}
 use Rattle.lt_call.specs.declared.words.Mode.TheVariants as mode
@@ -33,17 +32,13 @@ pub record OneAnswer : Type 0 where
 
 -- There is one.
 
-fed_due : (r : Request) (c : Contents) (program : List Declaration) (s : Scene) (inputs : List Variable) → s.inputs ≡ inputs → r.mode ≡ mode.Run → Spells c program → IsSceneOf r program s → is_plain s ≡ true → IsDue r c (fed_answer r s inputs)
-fed_due r c program s [] e run spells is plain = runs program s run spells is plain e
-fed_due r c program s (v ∷ vs) e run spells is plain = no_controller program s run spells is plain (λ none. let both : v ∷ vs ≡ [] = sym e ∙ none in cc both)
-
-built_due : (r : Request) (c : Contents) (program : List Declaration) (s : Scene) (plain : Bool) → is_plain s ≡ plain → r.mode ≡ mode.Run → Spells c program → IsSceneOf r program s → IsDue r c (built_answer r s plain)
-built_due r c program s true e run spells is = fed_due r c program s s.inputs refl run spells is e
-built_due r c program s false e run spells is = not_built program s run spells is e
+fed_due : (r : Request) (c : Contents) (program : List Declaration) (s : Scene) (inputs : List Variable) → s.inputs ≡ inputs → r.mode ≡ mode.Run → Spells c program → IsSceneOf r program s → IsDue r c (fed_answer r s inputs)
+fed_due r c program s [] e run spells is = runs program s run spells is e
+fed_due r c program s (v ∷ vs) e run spells is = no_controller program s run spells is (λ none. let both : v ∷ vs ≡ [] = sym e ∙ none in cc both)
 
 node_due : (r : Request) (c : Contents) (program : List Declaration) (asked : Option Node) (rs : List ExpandRefusal) → expanded_node r.decimals r.node program ≡ asked → refusals_of r.decimals asked ≡ rs → r.mode ≡ mode.Run → Spells c program → IsWellTyped r.decimals program → IsDue r c (node_answer r asked rs)
 node_due r c program asked (reason ∷ others) e f run spells typed = not_expanded program reason run spells typed (others, ap (refusals_of r.decimals) e ∙ f)
-node_due r c program (Some node) [] e f run spells typed = built_due r c program (scene_of r.decimals node) (is_plain (scene_of r.decimals node)) refl run spells (typed, ap (refusals_of r.decimals) e ∙ f, (node, e, refl))
+node_due r c program (Some node) [] e f run spells typed = fed_due r c program (scene_of r.decimals node) (scene_of r.decimals node).inputs refl run spells (typed, ap (refusals_of r.decimals) e ∙ f, (node, e, refl))
 node_due r c program None [] e f run spells typed = absurd (cc)
 
 typed_due : WellTypedIsUnrefused → (r : Request) (c : Contents) (program : List Declaration) (rs : List TypeRefusal) → type_refusals r.decimals program ≡ rs → r.mode ≡ mode.Run → Spells c program → IsDue r c (typed_answer r program rs)
@@ -110,11 +105,8 @@ row law r c answer (no_program reason short is) = unread reason short is refl
 row law r c answer (ill_typed program reason run spells first) = read program spells (in_run r program (reason ∷ first.0) run first.1)
 row law r c answer (not_expanded program reason run spells typed first) =
     read program spells (sym (ap (node_answer r (expanded_node r.decimals r.node program)) first.1) ∙ expanded_read law r program run typed)
-row law r c answer (not_built program s run spells is plain) = read program spells (sym (ap (built_answer r s) plain) ∙ scene_read law r program s run is)
-row law r c answer (no_controller program s run spells is plain some) =
-    read program spells (sym (fed_some r s s.inputs some) ∙ sym (ap (built_answer r s) plain) ∙ scene_read law r program s run is)
-row law r c answer (runs program s run spells is plain none) =
-    read program spells (sym (ap (fed_answer r s) none) ∙ sym (ap (built_answer r s) plain) ∙ scene_read law r program s run is)
+row law r c answer (no_controller program s run spells is some) = read program spells (sym (fed_some r s s.inputs some) ∙ scene_read law r program s run is)
+row law r c answer (runs program s run spells is none) = read program spells (sym (ap (fed_answer r s) none) ∙ scene_read law r program s run is)
 row law r c answer (prints program print spells) = read program spells (sym (ap (λ m. mode_answer m r program) print))
 
 rows_agree : OneAnswer → (r : Request) (c : Contents) (answer other : Answer) → Row r c answer → Row r c other → answer ≡ other

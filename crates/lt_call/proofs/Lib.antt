@@ -1,7 +1,8 @@
 pub mod Dues
 pub mod Ends
 pub mod Gives
-pub mod Limits
+pub mod Leading
+pub mod Printed
 pub mod Numbers
 pub mod Options
 pub mod Rooms

@@ -1,8 +1,7 @@
--- Numbers behind a limit.
+-- Numbers past the greatest one.
 use Rattle.std.proofs.Common.{◌≡◌, ℕ, suc, ◌+◌, ◌-◌, ◌*◌, ◌<◌, ◌≤◌, Bool, true, false, ◌&&◌, List, [], ◌∷◌, length, get_or, drop, drop-cons, None, refl, ap, sym, ◌∙◌, arith, if◌then◌else◌}
 use Rattle.std.proofs.lemmas.Bool.{lt-leb}
-use Rattle.lt_call.specs.Settings.{most_steps}
-use Rattle.lt_call.specs.Words.{value_after, up_to_most}
+use Rattle.lt_call.specs.Words.{value_after, up_to}
 
 -- more digits make no smaller number
 value_after-grows : (ds : List ℕ) (n : ℕ) → n ≤ value_after n ds
@@ -14,8 +13,8 @@ no_test true b x y h = ap (λ c. if c then x else y) h
 no_test false b x y h = refl
 
 -- a number whose first digits write too large a number is none
-pub too_large : (digits : List ℕ) (i old : ℕ) → i < length digits → value_after old (drop i digits) ≡ value_after 0 digits → most_steps < 10 * old + (get_or digits i 0 - 48) → up_to_most digits ≡ None
-too_large digits i old l e h =
+pub too_large : (most : ℕ) (digits : List ℕ) (i old : ℕ) → i < length digits → value_after old (drop i digits) ≡ value_after 0 digits → most < 10 * old + (get_or digits i 0 - 48) → up_to most digits ≡ None
+too_large most digits i old l e h =
     let behind : value_after (10 * old + (get_or digits i 0 - 48)) (drop (suc i) digits) ≡ value_after 0 digits = sym (ap (value_after old) (drop-cons digits i 0 l)) ∙ e in
     let grows = value_after-grows (drop (suc i) digits) (10 * old + (get_or digits i 0 - 48)) in
-    no_test _ _ _ _ (lt-leb (value_after 0 digits) most_steps (omega arith))
+    no_test _ _ _ _ (lt-leb (value_after 0 digits) most (omega arith))

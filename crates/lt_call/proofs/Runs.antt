@@ -8,25 +8,20 @@ use Rattle.std.specs.declared.result.Result.{Result}
 use Rattle.lt_rif.specs.Trace.{end_text}
 use Rattle.lt_rif.specs.declared.end.End.{End}
 use Rattle.lt_rif.specs.declared.end.End.TheVariants as end
-use Rattle.lt_formula.specs.Expression.{Expression}
-use Rattle.lt_term.specs.Process.{Process}
 use Rattle.lt_term.specs.Configuration.{Configuration}
-use Rattle.lt_term.specs.Offers.{TermLeaf}
 use Rattle.lt_term.specs.Scene.{Scene}
-use Rattle.lt_term.specs.Tree.{vanish, nothing, raised, go}
-use Rattle.lt_step.specs.Drawn.{drawn_leaf}
-use Rattle.lt_step.specs.Solved.{solution_of}
-use Rattle.lt_num.specs.declared.value.Value.{Value}
-use Rattle.lt_step.specs.Instant.{Instant, values, normal, deadlock, instant_of, go_instant, leaf_instant, offered}
-use Rattle.lt_step.specs.Machine.{Phase, running, finished, State, Step, outputs_in, outputs_of, answered, step_of, step_in}
+use Rattle.lt_instant.specs.Instant as instant
+use Rattle.lt_instant.specs.Instant.{Instant, instant_of}
+use Rattle.lt_step.specs.Machine.{Phase, running, finished, State, Step, outputs_in, answered, step_of, step_in}
 use Rattle.lt_step.specs.declared.machine.Outcome.{Outcome}
 use Rattle.lt_step.specs.declared.machine.Outcome.TheVariants as outcome
+use Rattle.lt_call.proofs.Leading.{Leads, leads}
 use Rattle.lt_call.specs.Call.{blames}
 use Rattle.lt_call.specs.Cut.{IsCut, by_trace, by_memory_later}
 use Rattle.lt_call.specs.Pieces.{trace_texts, joined, trace_of}
 use Rattle.lt_call.specs.Play.{Play, ended, with_text, with_instant, instant_text, play_from}
 use Rattle.lt_io.specs.Sending.{AppendsPart}
-use Rattle.lt_call.specs.inner.Running.{rest_in, rest_of, IsAt, WritesEnd, FailsIn, by_write, by_memory, FailsFirst, Follows}
+use Rattle.lt_call.specs.inner.Running.{ending_of, rest_in, rest_of, IsAt, WritesEnd, FailsIn, by_write, by_memory, FailsFirst, Follows}
 use Rattle.lt_call.specs.inner.Writer.{IsFor}
 use Rattle.lt_call.specs.declared.writer.Writer.{Writer}
 use Rattle.lt_call.specs.declared.status.Ending.{Ending}
@@ -36,92 +31,77 @@ use Rattle.lt_call.specs.declared.status.Device.TheVariants as device
 
 -- A step that answers an end leaves that end of the run.
 
-normal_next : (s : Scene) (c : Configuration) (i : Instant) (new : State) (left : ℕ) → record { outcome = outcome.Normal; state = new } ≡ answered s i → with_instant s c i (play_from s left) ≡ ended s end.Normal (c.step - 1)
-normal_next s c (values vs next) new left h = let e = ap (λ (step : Step). step.outcome) h in cc
-normal_next s c normal new left h = refl
-normal_next s c deadlock new left h = let e = ap (λ (step : Step). step.outcome) h in cc
+last_next : (m : State) (c : Configuration) (i : Instant) (e : Ending) (left : ℕ) → ending_of (answered m i).outcome c.step ≡ Some e → with_instant m.scene c i (play_from m.scene m.seed m.budget left) ≡ ended m.scene e.end e.at
+last_next m c (instant.values outputs locals next) e left is = absurd (cc)
+last_next m c instant.normal e left is = let same : record { end = end.Normal; at = c.step - 1 } ≡ e = cc in ap (λ (x : Ending). ended m.scene x.end x.at) same
+last_next m c (instant.raise z) e left is = let same : record { end = end.Raise z; at = c.step } ≡ e = cc in ap (λ (x : Ending). ended m.scene x.end x.at) same
+last_next m c instant.deadlock e left is = let same : record { end = end.Deadlock; at = c.step } ≡ e = cc in ap (λ (x : Ending). ended m.scene x.end x.at) same
+last_next m c (instant.fault f) e left is = let same : record { end = end.Fault f; at = c.step } ≡ e = cc in ap (λ (x : Ending). ended m.scene x.end x.at) same
+last_next m c instant.too_large e left is = let same : record { end = end.TooLarge; at = c.step } ≡ e = cc in ap (λ (x : Ending). ended m.scene x.end x.at) same
+last_next m c (instant.budget n) e left is = let same : record { end = end.Budget n; at = c.step } ≡ e = cc in ap (λ (x : Ending). ended m.scene x.end x.at) same
 
-deadlock_next : (s : Scene) (c : Configuration) (i : Instant) (new : State) (left : ℕ) → record { outcome = outcome.Deadlock; state = new } ≡ answered s i → with_instant s c i (play_from s left) ≡ ended s end.Deadlock c.step
-deadlock_next s c (values vs next) new left h = let e = ap (λ (step : Step). step.outcome) h in cc
-deadlock_next s c normal new left h = let e = ap (λ (step : Step). step.outcome) h in cc
-deadlock_next s c deadlock new left h = refl
+last_in : (m : State) (p : Phase) (step : ℕ) (e : Ending) → IsAt step p → ending_of (step_in m p []).outcome step ≡ Some e → (left : ℕ) → rest_in m (suc left) p ≡ ended m.scene e.end e.at
+last_in m (running c locals) step e at is left =
+    let there : ending_of (step_in m (running c locals) []).outcome c.step ≡ Some e = ap (λ k. ending_of (step_in m (running c locals) []).outcome k) at ∙ is in
+    last_next m c (instant_of m.scene m.seed m.budget c []) e left there
+last_in m finished step e at is left = absurd at
 
-normal_in : (s : Scene) (p : Phase) (step : ℕ) (new : State) → IsAt step p → record { outcome = outcome.Normal; state = new } ≡ step_in s p [] → (left : ℕ) → rest_in s (suc left) p ≡ ended s end.Normal (step - 1)
-normal_in s (running c) step new at h left = normal_next s c (instant_of s c []) new left h ∙ ap (λ n. ended s end.Normal (n - 1)) at
-normal_in s finished step new at h left = absurd at
+pub rest_last : (m new : State) (o : Outcome) (step : ℕ) (e : Ending) → IsAt step m.phase → record { outcome = o; state = new } ≡ step_of m [] → ending_of o step ≡ Some e → (left : ℕ) → rest_of m (suc left) ≡ ended m.scene e.end e.at
+rest_last m new o step e at h is left = last_in m m.phase step e at (sym (ap (λ (s : Step). ending_of s.outcome step) h) ∙ is) left
 
-deadlock_in : (s : Scene) (p : Phase) (step : ℕ) (new : State) → IsAt step p → record { outcome = outcome.Deadlock; state = new } ≡ step_in s p [] → (left : ℕ) → rest_in s (suc left) p ≡ ended s end.Deadlock step
-deadlock_in s (running c) step new at h left = deadlock_next s c (instant_of s c []) new left h ∙ ap (λ n. ended s end.Deadlock n) at
-deadlock_in s finished step new at h left = absurd at
-
-pub rest_normal : (m new : State) (step : ℕ) → IsAt step m.phase → record { outcome = outcome.Normal; state = new } ≡ step_of m [] → (left : ℕ) → rest_of m (suc left) ≡ ended m.scene end.Normal (step - 1)
-rest_normal m new step at h left = normal_in m.scene m.phase step new at h left
-
-pub rest_deadlock : (m new : State) (step : ℕ) → IsAt step m.phase → record { outcome = outcome.Deadlock; state = new } ≡ step_of m [] → (left : ℕ) → rest_of m (suc left) ≡ ended m.scene end.Deadlock step
-rest_deadlock m new step at h left = deadlock_in m.scene m.phase step new at h left
-
-limit_in : (s : Scene) (p : Phase) (k : ℕ) → IsAt (k + 1) p → rest_in s 0 p ≡ ended s end.Limit k
-limit_in s (running c) k at = let e : c.step - 1 ≡ k = omega arith in ap (ended s end.Limit) e
-limit_in s finished k at = absurd at
+limit_in : (m : State) (p : Phase) (k : ℕ) → IsAt (k + 1) p → rest_in m 0 p ≡ ended m.scene end.Limit k
+limit_in m (running c locals) k at = let e : c.step - 1 ≡ k = omega arith in ap (ended m.scene end.Limit) e
+limit_in m finished k at = absurd at
 
 -- a machine with no step left ends at its limit
 pub rest_limit : (m : State) (k : ℕ) → IsAt (k + 1) m.phase → rest_of m 0 ≡ ended m.scene end.Limit k
-rest_limit m k at = limit_in m.scene m.phase k at
+rest_limit m k at = limit_in m m.phase k at
 
 -- A step that answers values leaves the rest behind them.
 
--- what an instant leads to is the next one, and has its outputs
-abbrev Leads : Configuration → Instant → Type 0
-Leads c (values vs next) = (next.step ≡ c.step + 1) × (outputs_of next.previous ≡ vs)
-Leads c normal = Unit {0}
-Leads c deadlock = Unit {0}
-
-leads_go : (c : Configuration) (inputs : List Value) (n : Process Expression) (o : Option (List Value)) → Leads c (go_instant c inputs n o)
-leads_go c inputs n None = tt
-leads_go c inputs n (Some vs) = (refl, refl)
-
-leads_leaf : (s : Scene) (c : Configuration) (inputs : List Value) (l : Option (TermLeaf Expression)) → Leads c (leaf_instant s c inputs l)
-leads_leaf s c inputs None = tt
-leads_leaf s c inputs (Some vanish) = tt
-leads_leaf s c inputs (Some nothing) = tt
-leads_leaf s c inputs (Some (raised z)) = tt
-leads_leaf s c inputs (Some (go es ls n)) = leads_go c inputs n (solution_of s es)
-
 -- what is known after a step of this number that answered values
-abbrev LeavesRest : Scene → ℕ → Play → State → ℕ → Type 0
-LeavesRest s step rest new left =
-    (new.scene ≡ s) × IsAt (step + 1) new.phase × (rest ≡ with_text (instant_text new.scene step (outputs_in new.phase)) (rest_of new left))
+abbrev LeavesRest : ℕ → Play → State → ℕ → Type 0
+LeavesRest step rest new left = IsAt (step + 1) new.phase × (rest ≡ with_text (instant_text new.scene step (outputs_in new.phase)) (rest_of new left))
 
-values_next : (s : Scene) (c : Configuration) (i : Instant) (new : State) (left : ℕ) → Leads c i → record { outcome = outcome.Values; state = new } ≡ answered s i → LeavesRest s c.step (with_instant s c i (play_from s left)) new left
-values_next s c (values vs next) new left l h =
-    let e : record { scene = s; phase = running next } ≡ new = sym (ap (λ (step : Step). step.state) h) in
-    let P : State → Type 0 = λ n. LeavesRest s c.step (with_instant s c (values vs next) (play_from s left)) n left in
-    subst P e (refl, l.0, ap (λ outputs. with_text (instant_text s c.step outputs) (play_from s left next)) (sym l.1))
-values_next s c normal new left l h = absurd (let e = ap (λ (step : Step). step.outcome) h in cc)
-values_next s c deadlock new left l h = absurd (let e = ap (λ (step : Step). step.outcome) h in cc)
+values_next : (m : State) (c : Configuration) (i : Instant) (new : State) (left : ℕ) → Leads c i → record { outcome = outcome.Values; state = new } ≡ answered m i → LeavesRest c.step (with_instant m.scene c i (play_from m.scene m.seed m.budget left)) new left
+values_next m c (instant.values outputs locals next) new left l h =
+    let e : record m { phase = running next locals } ≡ new = sym (ap (λ (s : Step). s.state) h) in
+    let rest = with_instant m.scene c (instant.values outputs locals next) (play_from m.scene m.seed m.budget left) in
+    let P : State → Type 0 = λ n. LeavesRest c.step rest n left in
+    subst P e (l.0, ap (λ vs. with_text (instant_text m.scene c.step vs) (play_from m.scene m.seed m.budget left next)) (sym l.1))
+values_next m c instant.normal new left l h = absurd (let e = ap (λ (s : Step). s.outcome) h in cc)
+values_next m c (instant.raise z) new left l h = absurd (let e = ap (λ (s : Step). s.outcome) h in cc)
+values_next m c instant.deadlock new left l h = absurd (let e = ap (λ (s : Step). s.outcome) h in cc)
+values_next m c (instant.fault f) new left l h = absurd (let e = ap (λ (s : Step). s.outcome) h in cc)
+values_next m c instant.too_large new left l h = absurd (let e = ap (λ (s : Step). s.outcome) h in cc)
+values_next m c (instant.budget n) new left l h = absurd (let e = ap (λ (s : Step). s.outcome) h in cc)
 
-values_in : (s : Scene) (p : Phase) (step : ℕ) (new : State) → IsAt step p → record { outcome = outcome.Values; state = new } ≡ step_in s p [] → (left : ℕ) → LeavesRest s step (rest_in s (suc left) p) new left
-values_in s (running c) step new at h left =
-    let P : ℕ → Type 0 = λ k. LeavesRest s k (rest_in s (suc left) (running c)) new left in
-    subst P at (values_next s c (instant_of s c []) new left (leads_leaf s c [] (drawn_leaf s (offered s c))) h)
-values_in s finished step new at h left = absurd at
+values_in : (m : State) (p : Phase) (step : ℕ) (new : State) → IsAt step p → record { outcome = outcome.Values; state = new } ≡ step_in m p [] → (left : ℕ) → LeavesRest step (rest_in m (suc left) p) new left
+values_in m (running c locals) step new at h left =
+    let P : ℕ → Type 0 = λ k. LeavesRest k (rest_in m (suc left) (running c locals)) new left in
+    subst P at (values_next m c (instant_of m.scene m.seed m.budget c []) new left (leads m.scene m.seed m.budget c []) h)
+values_in m finished step new at h left = absurd at
 
-pub rest_values : (m new : State) (step : ℕ) → IsAt step m.phase → record { outcome = outcome.Values; state = new } ≡ step_of m [] → (left : ℕ) → LeavesRest m.scene step (rest_of m (suc left)) new left
-rest_values m new step at h left = values_in m.scene m.phase step new at h left
+pub rest_values : (m new : State) (step : ℕ) → IsAt step m.phase → record { outcome = outcome.Values; state = new } ≡ step_of m [] → (left : ℕ) → LeavesRest step (rest_of m (suc left)) new left
+rest_values m new step at h left = values_in m m.phase step new at h left
 
 -- A step keeps the scene.
 
-answered_there : (s : Scene) (i : Instant) → (answered s i).state.scene ≡ s
-answered_there s (values vs next) = refl
-answered_there s normal = refl
-answered_there s deadlock = refl
+answered_there : (m : State) (i : Instant) → (answered m i).state.scene ≡ m.scene
+answered_there m (instant.values outputs locals next) = refl
+answered_there m instant.normal = refl
+answered_there m (instant.raise z) = refl
+answered_there m instant.deadlock = refl
+answered_there m (instant.fault f) = refl
+answered_there m instant.too_large = refl
+answered_there m (instant.budget n) = refl
 
-stepped_there : (s : Scene) (p : Phase) → (step_in s p []).state.scene ≡ s
-stepped_there s (running c) = answered_there s (instant_of s c [])
-stepped_there s finished = refl
+stepped_there : (m : State) (p : Phase) → (step_in m p []).state.scene ≡ m.scene
+stepped_there m (running c locals) = answered_there m (instant_of m.scene m.seed m.budget c [])
+stepped_there m finished = refl
 
 pub same_scene : (m new : State) (o : Outcome) → record { outcome = o; state = new } ≡ step_of m [] → new.scene ≡ m.scene
-same_scene m new o h = ap (λ (step : Step). step.state.scene) h ∙ stepped_there m.scene m.phase
+same_scene m new o h = ap (λ (s : Step). s.state.scene) h ∙ stepped_there m m.phase
 
 -- so its writer is the same
 pub is_next : (m new : State) (o : Outcome) (writer : Writer) → record { outcome = o; state = new } ≡ step_of m [] → IsFor m.scene writer → IsFor new.scene writer
@@ -133,19 +113,26 @@ is_next m new o writer h is = let P : Scene → Type 0 = λ s. IsFor s writer in
 abbrev HasFirst : Play → Type 0
 HasFirst rest = (text : List ℕ) × (later : List (List ℕ)) × (trace_texts rest.pieces ≡ text ∷ later)
 
-first_next : (s : Scene) (c : Configuration) (i : Instant) (left : ℕ) → HasFirst (with_instant s c i (play_from s left))
-first_next s c (values vs next) left = (instant_text s c.step vs, trace_texts (play_from s left next).pieces, refl)
-first_next s c normal left = (end_text end.Normal s.exceptions (c.step - 1), [], refl)
-first_next s c deadlock left = (end_text end.Deadlock s.exceptions c.step, [], refl)
+first_end : (s : Scene) (e : End) (at : ℕ) → HasFirst (ended s e at)
+first_end s e at = (end_text e s.exceptions at, [], refl)
 
-first_in : (s : Scene) (p : Phase) (step left : ℕ) → IsAt step p → HasFirst (rest_in s (suc left) p)
-first_in s (running c) step left at = first_next s c (instant_of s c []) left
-first_in s finished step left at = absurd at
+first_next : (s : Scene) (c : Configuration) (i : Instant) (rest : Configuration → Play) → HasFirst (with_instant s c i rest)
+first_next s c (instant.values outputs locals next) rest = (instant_text s c.step outputs, trace_texts (rest next).pieces, refl)
+first_next s c instant.normal rest = first_end s end.Normal (c.step - 1)
+first_next s c (instant.raise z) rest = first_end s (end.Raise z) c.step
+first_next s c instant.deadlock rest = first_end s end.Deadlock c.step
+first_next s c (instant.fault f) rest = first_end s (end.Fault f) c.step
+first_next s c instant.too_large rest = first_end s end.TooLarge c.step
+first_next s c (instant.budget n) rest = first_end s (end.Budget n) c.step
+
+first_in : (m : State) (p : Phase) (step left : ℕ) → IsAt step p → HasFirst (rest_in m (suc left) p)
+first_in m (running c locals) step left at = first_next m.scene c (instant_of m.scene m.seed m.budget c []) (play_from m.scene m.seed m.budget left)
+first_in m finished step left at = absurd at
 
 -- memory ran out before the next instant was made
 pub no_instant : (m : State) (step : ℕ) (before now : Option (List ℕ)) → IsAt step m.phase → Keeps before now → (left : ℕ) → FailsFirst step (rest_of m (suc left)) before now status.Memory
 no_instant m step before now at kept left =
-    let first = first_in m.scene m.phase step left at in
+    let first = first_in m m.phase step left at in
     (first.0, first.1, first.2, by_memory kept)
 
 -- Texts that failed.
@@ -187,11 +174,21 @@ pub fails_first : (number : ℕ) (text : List ℕ) (rest later : Play) (before n
 fails_first number text rest later before now s e f = (text, trace_texts later.pieces, ap (λ (p : Play). trace_texts p.pieces) e, f)
 
 -- the end line, which is the rest of a run
-pub writes_end : (s : Scene) (e : End) (at : ℕ) (last : Ending) (rest : Play) (before now : Option (List ℕ)) → last ≡ record { end = e; at = at } → rest ≡ ended s e at → Appends before now (end_text e s.exceptions at) → WritesEnd s last rest before now
-writes_end s e at last rest before now is same appends = let P : Ending → Type 0 = λ l. WritesEnd s l rest before now in subst P (sym is) (same, appends)
-
 pub end_fails : (number : ℕ) (s : Scene) (e : End) (at : ℕ) (rest : Play) (before now : Option (List ℕ)) (status : Status) → rest ≡ ended s e at → FailsIn number (end_text e s.exceptions at) before now status → FailsFirst number rest before now status
 end_fails number s e at rest before now status same f = (end_text e s.exceptions at, [], ap (λ (p : Play). trace_texts p.pieces) same, f)
+
+-- the same of a scene that is kept, and of an ending that was made
+
+pub writes_last : (s there : Scene) (made last : Ending) (rest : Play) (before now : Option (List ℕ)) → there ≡ s → last ≡ made → rest ≡ ended s made.end made.at → Appends before now (end_text made.end there.exceptions made.at) → WritesEnd s last rest before now
+writes_last s there made last rest before now kept is same appends =
+    let P : Ending → Type 0 = λ l. WritesEnd s l rest before now in
+    let Q : Scene → Type 0 = λ k. Appends before now (end_text made.end k.exceptions made.at) in
+    subst P (sym is) (same, subst Q kept appends)
+
+pub last_fails : (number : ℕ) (s there : Scene) (made : Ending) (rest : Play) (before now : Option (List ℕ)) (status : Status) → there ≡ s → rest ≡ ended s made.end made.at → FailsIn number (end_text made.end there.exceptions made.at) before now status → FailsFirst number rest before now status
+last_fails number s there made rest before now status kept same f =
+    let Q : Scene → Type 0 = λ k. FailsIn number (end_text made.end k.exceptions made.at) before now status in
+    end_fails number s made.end made.at rest before now status same (subst Q kept f)
 
 -- Texts so far, and texts to come.
 

@@ -1,5 +1,5 @@
 -- Texts in parts.
-use Rattle.std.proofs.Common.{◌≡◌, ℕ, zero, suc, ◌<◌, List, [], ◌∷◌, ◌++◌, length, length-append, get_or, append_assoc, subst, OnErr, OnOk, Ok, Err, None, Some, IfNone, MatchOption, refl, ap, sym, ◌∙◌, arith, ◌+◌, take, drop}
+use Rattle.std.proofs.Common.{◌≡◌, ℕ, zero, suc, ◌<◌, List, [], ◌∷◌, ◌++◌, length, length-append, get_or, append_assoc, subst, OnErr, OnOk, Ok, Err, None, Some, IfNone, MatchOption, refl, ap, sym, ◌∙◌, arith, take, drop}
 use Rattle.std.specs.List.{flat_map}
 use Rattle.std.proofs.KnownBytes.{Appends-trans}
 use Rattle.std.specs.declared.option.Option.{Option}

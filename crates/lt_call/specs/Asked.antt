@@ -6,8 +6,16 @@ use Rattle.lt_macros.specs.Answer.{asked_name}
 
 -- the pure twin of options
 abbrev pub given_by : CodeOptions → Options
-given_by given = record { limit = given.limit; decimals = given.decimals; node = asked_name given.node }
+given_by given = record { limit = given.limit; seed = given.seed; decimals = given.decimals; budget = given.budget; node = asked_name given.node }
 
 -- and of a request
 abbrev pub request : CodeRequest → Request
-request asked = record { mode = asked.mode; file = asked.file.now; limit = asked.limit; decimals = asked.decimals; node = asked_name asked.node }
+request asked = record {
+  mode = asked.mode;
+  file = asked.file.now;
+  limit = asked.limit;
+  seed = asked.seed;
+  decimals = asked.decimals;
+  budget = asked.budget;
+  node = asked_name asked.node;
+}

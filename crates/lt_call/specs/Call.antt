@@ -19,9 +19,9 @@ use Rattle.lt_call.specs.declared.status.UsageKind.{UsageKind}
 abbrev pub AreContents : Request → (List ℕ → Option (List ℕ)) → Contents → Type 0
 AreContents request told contents = WhereTold (told request.file) (λ bytes. contents.scenario ≡ bytes)
 
--- the answer that is due was given, whole or cut short
-abbrev pub GivesDue : Request → (List ℕ → Option (List ℕ)) → Option (List ℕ) → Option (List ℕ) → Status → Type 0
-GivesDue request told old new s = (contents : Contents) × AreContents request told contents × (answer : Answer) × IsDue request contents answer × Gives answer old new s
+-- the answer that is due was given, whole or cut short; exceptions have these names
+abbrev pub GivesDue : Request → (List ℕ → Option (List ℕ)) → List (List ℕ) → Option (List ℕ) → Option (List ℕ) → Status → Type 0
+GivesDue request told names old new s = (contents : Contents) × AreContents request told contents × (answer : Answer) × IsDue request contents answer × Gives answer names old new s
 
 -- the names that files are asked for, in turn
 abbrev pub asks_of : Request → List (List ℕ)
@@ -48,15 +48,17 @@ Says text old new = Appends old.written new.written text ⊎ (Rose old.faults ne
 
 -- A call with these words, told by what was outside before it and after it, and by its status.
 pub record IsCall (words : List (List ℕ)) (old new : Outside) (s : Status) : Type 0 where
+  -- what the exceptions are called that the status may speak of
+  pub names : List (List ℕ)
   -- the words are refused exactly where they ask for nothing ..
   pub usage : (kind : UsageKind) → (s ≡ status.Usage kind) ↔ (requested words ≡ Err kind)
   -- .. and then no file is asked for, and nothing is written to the trace
   pub untouched : OnErr (requested words) ((new.files.asked ≡ old.files.asked) × Keeps old.trace.written new.trace.written)
   -- else the answer that is due to what they ask for is given, whole or cut short ..
-  pub answers : IfOk (requested words) (λ request. GivesDue request old.files.contents old.trace.written new.trace.written s)
+  pub answers : IfOk (requested words) (λ request. GivesDue request old.files.contents names old.trace.written new.trace.written s)
   -- .. and files are asked for what it reads alone
   pub asks : IfOk (requested words) (λ request. Asks (asks_of request) old.files.asked new.files.asked s)
   -- a device is blamed exactly where its count of faults rose
   pub blame : (what : Device) → Counts (blames s what) (faults_of what old) (faults_of what new)
-  -- what the status says is said, and nothing else; a program that runs has no exceptions to be named
-  pub says : Says (status_lines [] s) old.says new.says
+  -- what the status says is said, and nothing else
+  pub says : Says (status_lines names s) old.says new.says

@@ -24,10 +24,10 @@ pub data IsCut (pieces : List Piece) (old new : Option (List ℕ)) : Status → 
   -- memory ran out, and the trace grew by the first k texts, which are not all
   by_memory_later : (k : ℕ) → k < length (trace_texts pieces) → Appends old new (joined (take k (trace_texts pieces))) → IsCut pieces old new status.Memory
 
--- the answer was given whole: its status, and the trace grew by all its texts
-abbrev pub GivesWhole : Answer → Option (List ℕ) → Option (List ℕ) → Status → Type 0
-GivesWhole answer old new s = (s ≡ answer.status) × Appends old new (trace_of answer.pieces)
+-- the answer was given whole: its status, its names of exceptions, and the trace grew by all its texts
+abbrev pub GivesWhole : Answer → List (List ℕ) → Option (List ℕ) → Option (List ℕ) → Status → Type 0
+GivesWhole answer names old new s = (s ≡ answer.status) × (names ≡ answer.names) × Appends old new (trace_of answer.pieces)
 
 -- it was given whole or cut short
-abbrev pub Gives : Answer → Option (List ℕ) → Option (List ℕ) → Status → Type 0
-Gives answer old new s = GivesWhole answer old new s ⊎ IsCut answer.pieces old new s
+abbrev pub Gives : Answer → List (List ℕ) → Option (List ℕ) → Option (List ℕ) → Status → Type 0
+Gives answer names old new s = GivesWhole answer names old new s ⊎ IsCut answer.pieces old new s

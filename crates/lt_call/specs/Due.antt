@@ -1,5 +1,5 @@
 -- What is due to a request.
-use Rattle.std.specs.Prelude.{◌≡◌, ◌≢◌, ℕ, ◌<◌, ◌≤◌, false, IsTrue, List, [], ◌∷◌, length, Some}
+use Rattle.std.specs.Prelude.{◌≡◌, ◌≢◌, ℕ, ◌<◌, ◌≤◌, List, [], ◌∷◌, length, Some}
 use Rattle.lt_ast.specs.Syntax.{Declaration}
 use Rattle.lt_ast.specs.Printed.{printed}
 use Rattle.lt_expand.specs.Refusals.{expand_refusals}
@@ -9,14 +9,13 @@ use Rattle.lt_macros.specs.Expanded.{Node}
 use Rattle.lt_macros.specs.Expansion.{expanded_node}
 use Rattle.lt_parser.specs.Text.{IsProgramOf, IsRefusal}
 use Rattle.lt_parser.specs.declared.refusal.ParseRefusal.{ParseRefusal}
-use Rattle.lt_step.specs.Plain.{is_plain}
 use Rattle.lt_term.specs.Scene.{Scene}
 use Rattle.lt_types.specs.Refusals.{type_refusals}
 use Rattle.lt_types.specs.Typing.{IsWellTyped}
 use Rattle.lt_types.specs.declared.refusal.TypeRefusal.{TypeRefusal}
 use Rattle.lt_call.specs.Pieces.{Piece, trace_piece}
 use Rattle.lt_call.specs.Play.{Play, play_of}
-use Rattle.lt_call.specs.Settings.{longest_text, default_seed}
+use Rattle.lt_call.specs.Settings.{longest_text}
 use Rattle.lt_call.specs.Words.{Request}
 use Rattle.lt_call.specs.declared.status.Status.{Status}
 use Rattle.lt_call.specs.declared.status.Status.TheVariants as status
@@ -29,22 +28,23 @@ pub record Contents : Type 0 where
   -- the scenario's file
   pub scenario : List ℕ
 
--- how a call is answered: its status, and what it puts out, in turn
+-- how a call is answered: its status, what it puts out, in turn, and what the exceptions are called that it may speak of
 pub record Answer : Type 0 where
   pub status : Status
   pub pieces : List Piece
+  pub names : List (List ℕ)
 
 -- a refusal puts out nothing
 abbrev pub refused : Refusal → Answer
-refused reason = record { status = status.Refused reason; pieces = [] }
+refused reason = record { status = status.Refused reason; pieces = []; names = [] }
 
--- a run puts out its pieces, and its ending is the status
-abbrev pub ran : Play → Answer
-ran play = record { status = status.Ran play.ending; pieces = play.pieces }
+-- a run puts out its pieces, its ending is the status, and exceptions are called as in its scene
+abbrev pub ran : Scene → Play → Answer
+ran scene play = record { status = status.Ran play.ending; pieces = play.pieces; names = scene.exceptions }
 
 -- a text that was asked for is put out at once
 abbrev pub done : List ℕ → Answer
-done text = record { status = status.Done; pieces = trace_piece text ∷ [] }
+done text = record { status = status.Done; pieces = trace_piece text ∷ []; names = [] }
 
 -- the scenario's file is no longer than allowed, and spells this program
 abbrev pub Spells : Contents → List Declaration → Type 0
@@ -66,7 +66,7 @@ IsSceneOf request program scene =
 
 -- the run of a scenario
 abbrev pub play_of_scene : Request → Scene → Play
-play_of_scene request scene = play_of scene (record { seed = default_seed; limit = request.limit })
+play_of_scene request scene = play_of scene (record { seed = request.seed; budget = request.budget; limit = request.limit })
 
 -- The answer that is due to a request where the files have these contents: a row a cause, in the order in which the
 -- causes are tried.
@@ -79,11 +79,9 @@ pub data IsDue (request : Request) (contents : Contents) : Answer → Type 0 whe
   ill_typed : (program : List Declaration) (reason : TypeRefusal) → request.mode ≡ mode.Run → Spells contents program → IsTypeRefusal request.decimals program reason → IsDue request contents (refused (refusal.Types reason))
   -- it is well typed, and its node has no scenario, for this reason
   not_expanded : (program : List Declaration) (reason : ExpandRefusal) → request.mode ≡ mode.Run → Spells contents program → IsWellTyped request.decimals program → IsExpandRefusal request program reason → IsDue request contents (refused (refusal.Expand reason))
-  -- the scenario can't be run
-  not_built : (program : List Declaration) (scene : Scene) → request.mode ≡ mode.Run → Spells contents program → IsSceneOf request program scene → is_plain scene ≡ false → IsDue request contents (refused refusal.NotBuilt)
-  -- it can, and has inputs, which nobody gives values
-  no_controller : (program : List Declaration) (scene : Scene) → request.mode ≡ mode.Run → Spells contents program → IsSceneOf request program scene → IsTrue (is_plain scene) → scene.inputs ≢ [] → IsDue request contents (refused refusal.NeedsController)
-  -- it can, and is run
-  runs : (program : List Declaration) (scene : Scene) → request.mode ≡ mode.Run → Spells contents program → IsSceneOf request program scene → IsTrue (is_plain scene) → scene.inputs ≡ [] → IsDue request contents (ran (play_of_scene request scene))
+  -- the scenario has inputs, which nobody gives values
+  no_controller : (program : List Declaration) (scene : Scene) → request.mode ≡ mode.Run → Spells contents program → IsSceneOf request program scene → scene.inputs ≢ [] → IsDue request contents (refused refusal.NeedsController)
+  -- it has none, and is run
+  runs : (program : List Declaration) (scene : Scene) → request.mode ≡ mode.Run → Spells contents program → IsSceneOf request program scene → scene.inputs ≡ [] → IsDue request contents (ran scene (play_of_scene request scene))
   -- in the mode `print`: the program is printed
   prints : (program : List Declaration) → request.mode ≡ mode.Print → Spells contents program → IsDue request contents (done (printed program))

@@ -27,7 +27,6 @@ refusal_code refusal.TooLong = codes "file.TooLong"
 refusal_code (refusal.Text reason) = parse_code reason
 refusal_code (refusal.Types reason) = type_code reason
 refusal_code (refusal.Expand reason) = expand_code reason
-refusal_code refusal.NotBuilt = codes "early.NotBuilt"
 refusal_code refusal.NeedsController = codes "run.NeedsController"
 
 -- its place in the text, where it has one
@@ -36,7 +35,6 @@ refusal_place refusal.TooLong = None
 refusal_place (refusal.Text reason) = parse_place reason
 refusal_place (refusal.Types reason) = type_place reason
 refusal_place (refusal.Expand reason) = expand_place reason
-refusal_place refusal.NotBuilt = None
 refusal_place refusal.NeedsController = None
 
 -- a place after a code, where there is one

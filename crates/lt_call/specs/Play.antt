@@ -4,11 +4,11 @@ use Rattle.lt_num.specs.declared.kind.Kind.{Kind}
 use Rattle.lt_num.specs.declared.value.Value.{Value}
 use Rattle.lt_rif.specs.Trace.{DeclaredVariable, header_text, step_text, end_text}
 use Rattle.lt_rif.specs.declared.end.End.{End}
-use Rattle.lt_rif.specs.declared.end.End.TheVariants.{Normal, Limit, Deadlock}
+use Rattle.lt_rif.specs.declared.end.End.TheVariants as end
 use Rattle.lt_term.specs.Configuration.{Configuration, first_configuration}
 use Rattle.lt_term.specs.Scene.{Variable, Scene}
-use Rattle.lt_step.specs.Instant as instant
-use Rattle.lt_step.specs.Instant.{Instant, instant_of}
+use Rattle.lt_instant.specs.Instant as instant
+use Rattle.lt_instant.specs.Instant.{Instant, instant_of}
 use Rattle.lt_call.specs.Pieces.{Piece, trace_piece}
 use Rattle.lt_call.specs.declared.status.Ending.{Ending}
 
@@ -20,6 +20,8 @@ pub record Play : Type 0 where
 -- what a run is told
 pub record Setup : Type 0 where
   pub seed : ℕ
+  -- the greatest need that a search may have
+  pub budget : ℕ
   -- the most steps
   pub limit : ℕ
 
@@ -49,15 +51,19 @@ with_text text rest = record { pieces = trace_piece text ∷ rest.pieces; ending
 
 -- a run in which this is the next instant; where it has values, rest is the run that follows them
 abbrev pub with_instant : Scene → Configuration → Instant → (Configuration → Play) → Play
-with_instant s c (instant.values outputs next) rest = with_text (instant_text s c.step outputs) (rest next)
-with_instant s c instant.normal rest = ended s Normal (c.step - 1)
-with_instant s c instant.deadlock rest = ended s Deadlock c.step
+with_instant s c (instant.values outputs locals next) rest = with_text (instant_text s c.step outputs) (rest next)
+with_instant s c instant.normal rest = ended s end.Normal (c.step - 1)
+with_instant s c (instant.raise z) rest = ended s (end.Raise z) c.step
+with_instant s c instant.deadlock rest = ended s end.Deadlock c.step
+with_instant s c (instant.fault f) rest = ended s (end.Fault f) c.step
+with_instant s c instant.too_large rest = ended s end.TooLarge c.step
+with_instant s c (instant.budget need) rest = ended s (end.Budget need) c.step
 
--- a run of at most so many further steps from here
-abbrev pub play_from : Scene → ℕ → Configuration → Play
-play_from s zero c = ended s Limit (c.step - 1)
-play_from s (suc left) c = with_instant s c (instant_of s c []) (play_from s left)
+-- a run of at most so many further steps from here, by a seed and a budget
+abbrev pub play_from : Scene → ℕ → ℕ → ℕ → Configuration → Play
+play_from s seed most zero c = ended s end.Limit (c.step - 1)
+play_from s seed most (suc left) c = with_instant s c (instant_of s seed most c []) (play_from s seed most left)
 
 -- the run of a scenario with nobody beside the tester
 abbrev pub play_of : Scene → Setup → Play
-play_of s setup = with_text (header_of s setup.seed) (play_from s setup.limit (first_configuration s))
+play_of s setup = with_text (header_of s setup.seed) (play_from s setup.seed setup.budget setup.limit (first_configuration s))

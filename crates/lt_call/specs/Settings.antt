@@ -23,10 +23,18 @@ most_decimals = numbers.most_decimals
 abbrev pub default_decimals : ℕ
 default_decimals = 2
 
--- the seed of a run, for which no words ask
+-- the greatest seed that words may ask for
+abbrev pub most_seed : ℕ
+most_seed = 18_446_744_073_709_551_615
+
+-- the seed where they don't say
 abbrev pub default_seed : ℕ
 default_seed = 0
 
--- the greatest search that a run makes, for which no words ask
+-- the greatest budget that words may ask for
+abbrev pub most_budget : ℕ
+most_budget = 1_000_000_000_000
+
+-- the budget where they don't say
 abbrev pub default_budget : ℕ
-default_budget = 10000000
+default_budget = 10_000_000

@@ -1,11 +1,11 @@
 -- The words of a call: MODE FILE, and then options.
-use Rattle.std.specs.Prelude.{◌≡◌, ◌↔◌, ℕ, ◌+◌, ◌-◌, ◌*◌, ◌≤◌, Bool, false, true, not, ◌&&◌, ◌==◌, nat_le, List, [], ◌∷◌, None, Some, IfSome, Ok, Err, codes, decimal, if◌then◌else◌}
+use Rattle.std.specs.Prelude.{◌≡◌, ◌↔◌, ℕ, ◌+◌, ◌-◌, ◌*◌, ◌≤◌, Bool, false, true, not, ◌&&◌, ◌==◌, nat_le, List, [], ◌∷◌, None, Some, IfSome, option_map, Ok, Err, codes, decimal, if◌then◌else◌}
 use Rattle.std.specs.List.{list_all}
 use Rattle.std.specs.Option.{option_and_then, unwrap_or}
 use Rattle.std.specs.Str.{bytes_eq}
 use Rattle.std.specs.declared.option.Option.{Option}
 use Rattle.std.specs.declared.result.Result.{Result}
-use Rattle.lt_call.specs.Settings.{most_steps, default_steps, most_decimals, default_decimals}
+use Rattle.lt_call.specs.Settings.{most_steps, default_steps, most_seed, default_seed, most_decimals, default_decimals, most_budget, default_budget}
 use Rattle.lt_call.specs.declared.status.UsageKind.{UsageKind}
 use Rattle.lt_call.specs.declared.status.UsageKind.TheVariants as usage
 use Rattle.lt_call.specs.declared.words.Mode.{Mode}
@@ -18,12 +18,16 @@ pub record Request : Type 0 where
   pub file : List ℕ
   -- the most steps
   pub limit : ℕ
+  -- the seed of what is drawn
+  pub seed : ℕ
   -- how many decimals a real has
   pub decimals : ℕ
+  -- the greatest need that a search may have
+  pub budget : ℕ
   -- the name of the node, where one is given
   pub node : Option (List ℕ)
 
--- its numbers are no greater than words may ask for
+-- its numbers of steps and of decimals are no greater than words may ask for
 abbrev pub IsWithin : Request → Type 0
 IsWithin request = (request.limit ≤ most_steps) × (request.decimals ≤ most_decimals)
 
@@ -36,9 +40,9 @@ abbrev pub value_after : ℕ → List ℕ → ℕ
 value_after n [] = n
 value_after n (d ∷ ds) = value_after (10 * n + (d - 48)) ds
 
--- the number that these bytes write, where all are digits and it is no more steps than may be asked for
-abbrev pub up_to_most : List ℕ → Option ℕ
-up_to_most digits = if list_all is_digit digits && nat_le (value_after 0 digits) most_steps then Some (value_after 0 digits) else None
+-- the number that these bytes write, where all are digits and it is no greater than most
+abbrev pub up_to : ℕ → List ℕ → Option ℕ
+up_to most digits = if list_all is_digit digits && nat_le (value_after 0 digits) most then Some (value_after 0 digits) else None
 
 -- whether these are some bytes, and no 0 before others
 abbrev pub is_plain : List ℕ → Bool
@@ -46,58 +50,59 @@ is_plain [] = false
 is_plain (d ∷ []) = true
 is_plain (d ∷ e ∷ ds) = not (d == 48)
 
--- a limit of steps, in digits alone, the first of which is no 0 before others
+-- a number of at most so much, in digits alone, the first of which is no 0 before others
+abbrev pub number_of : ℕ → List ℕ → Option ℕ
+number_of most word = if is_plain word then up_to most word else None
+
+-- A word is a number of at most so much exactly where it is the printed form of one, where that is no more than a seed may be.
+abbrev pub NumbersArePrinted : Type 0
+NumbersArePrinted = (most : ℕ) (word : List ℕ) (n : ℕ) → most ≤ most_seed → (number_of most word ≡ Some n) ↔ ((word ≡ decimal n) × (n ≤ most))
+
+-- a number, where it isn't 0
+abbrev pub but_zero : Option ℕ → Option ℕ
+but_zero None = None
+but_zero (Some n) = if n == 0 then None else Some n
+
+-- what a word is for each option that takes a number: a limit of steps, a seed, a number of decimals, and a budget
 abbrev pub limit_of : List ℕ → Option ℕ
-limit_of word = if is_plain word then up_to_most word else None
+limit_of word = number_of most_steps word
 
--- A word is a limit exactly where it is the printed form of a number of steps that may be asked for.
-abbrev pub LimitsArePrinted : Type 0
-LimitsArePrinted = (word : List ℕ) (n : ℕ) → (limit_of word ≡ Some n) ↔ ((word ≡ decimal n) × (n ≤ most_steps))
+abbrev pub seed_of : List ℕ → Option ℕ
+seed_of word = number_of most_seed word
 
--- a number, where a real may have so many decimals
-abbrev pub as_decimals : Option ℕ → Option ℕ
-as_decimals None = None
-as_decimals (Some n) = if nat_le n most_decimals then Some n else None
-
--- a number of decimals, spelled as a limit is
 abbrev pub precision_of : List ℕ → Option ℕ
-precision_of word = as_decimals (limit_of word)
+precision_of word = number_of most_decimals word
+
+abbrev pub budget_of : List ℕ → Option ℕ
+budget_of word = but_zero (number_of most_budget word)
 
 -- Options, one after another.
 
 -- the options that words give
 pub record Options : Type 0 where
   pub limit : Option ℕ
+  pub seed : Option ℕ
   pub decimals : Option ℕ
+  pub budget : Option ℕ
   pub node : Option (List ℕ)
 
--- the same of options
+-- their numbers of steps and of decimals are no greater than words may ask for
 abbrev pub AreWithin : Options → Type 0
 AreWithin given = IfSome given.limit (λ n. n ≤ most_steps) × IfSome given.decimals (λ n. n ≤ most_decimals)
 
--- a limit, where there is none before
-abbrev pub with_limit : Options → Option ℕ → Option ℕ → Option Options
-with_limit given None (Some n) = Some (record given { limit = Some n })
-with_limit given None None = None
-with_limit given (Some before) word = None
-
--- a number of decimals, where there is none before
-abbrev pub with_decimals : Options → Option ℕ → Option ℕ → Option Options
-with_decimals given None (Some n) = Some (record given { decimals = Some n })
-with_decimals given None None = None
-with_decimals given (Some before) word = None
-
--- the name of a node, where there is none before
-abbrev pub with_node : Options → Option (List ℕ) → List ℕ → Option Options
-with_node given None name = Some (record given { node = Some name })
-with_node given (Some before) name = None
+-- what a word gives an option, which was given nothing before
+abbrev pub once : {X : Type 0} → Option X → Option X → Option X
+once None word = word
+once (Some before) word = None
 
 -- one more option with its word
 abbrev pub with_option : Options → List ℕ → List ℕ → Option Options
 with_option given option word =
-    if bytes_eq option (codes "-l") then with_limit given given.limit (limit_of word)
-    else if bytes_eq option (codes "--precision") then with_decimals given given.decimals (precision_of word)
-    else if bytes_eq option (codes "--node") then with_node given given.node word
+    if bytes_eq option (codes "-l") then option_map (λ n. record given { limit = Some n }) (once given.limit (limit_of word))
+    else if bytes_eq option (codes "--seed") then option_map (λ n. record given { seed = Some n }) (once given.seed (seed_of word))
+    else if bytes_eq option (codes "--precision") then option_map (λ n. record given { decimals = Some n }) (once given.decimals (precision_of word))
+    else if bytes_eq option (codes "--budget") then option_map (λ n. record given { budget = Some n }) (once given.budget (budget_of word))
+    else if bytes_eq option (codes "--node") then option_map (λ name. record given { node = Some name }) (once given.node (Some word))
     else None
 
 -- these options, and those that words give after them; None where the words are no further options
@@ -108,17 +113,29 @@ with_options given (option ∷ word ∷ words) = option_and_then (λ more. with_
 
 -- no option
 abbrev pub no_options : Options
-no_options = record { limit = None; decimals = None; node = None }
+no_options = record { limit = None; seed = None; decimals = None; budget = None; node = None }
 
 -- the mode that a word is
 abbrev pub mode_of : List ℕ → Option Mode
 mode_of word = if bytes_eq word (codes "run") then Some Run else if bytes_eq word (codes "print") then Some Print else None
 
+-- the request of a mode, a file and options, with what holds where an option isn't given
+abbrev pub request_of : Mode → List ℕ → Options → Request
+request_of mode file given = record {
+  mode = mode;
+  file = file;
+  limit = unwrap_or given.limit default_steps;
+  seed = unwrap_or given.seed default_seed;
+  decimals = unwrap_or given.decimals default_decimals;
+  budget = unwrap_or given.budget default_budget;
+  node = given.node;
+}
+
 -- the request, where the other words are right and there is such a mode; else what is wrong
 abbrev pub in_mode : Option Mode → List ℕ → Option Options → Result Request UsageKind
 in_mode mode file None = Err usage.Words
 in_mode None file (Some given) = Err usage.Mode
-in_mode (Some mode) file (Some given) = Ok (record { mode = mode; file = file; limit = unwrap_or given.limit default_steps; decimals = unwrap_or given.decimals default_decimals; node = given.node })
+in_mode (Some mode) file (Some given) = Ok (request_of mode file given)
 
 -- what the words ask for, or what is wrong with them
 abbrev pub requested : List (List ℕ) → Result Request UsageKind

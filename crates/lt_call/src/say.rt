@@ -1,6 +1,6 @@
 //! What a call says on standard error, by `docs/COMMAND.md`.
 
-ghost use Rattle.std.specs.Prelude.{◌≡◌, [], OnErr, OnOk, map, slice_index_or, string_bytes};
+ghost use Rattle.std.specs.Prelude.{◌≡◌, [], OnErr, OnOk, map, string_bytes};
 ghost use Rattle.std.specs.Io.KnownBytes.{Appends};
 ghost use Rattle.lt_io.specs.Causes.{HasCause};
 ghost use Rattle.lt_io.specs.Sending.{AppendsPart};
@@ -10,7 +10,7 @@ use crate::put::put_all;
 use crate::status::{Device, Ending, Refusal, Status, UsageKind};
 use itoa::Buffer;
 use lt_io::{Failed, Sink};
-use lt_rif::{End, fault_word, refusal_word, who_word};
+use lt_rif::{End, exception_name, fault_word, refusal_word, who_word};
 
 // How the program is called.
 const USAGE: &[u8] =
@@ -60,7 +60,7 @@ fn say_ending<M: Sink>(says: &mut M, ending: Ending, names: &[String]) -> Result
         End::Oracle => put_all(says, &[b"lurette: oracle ", at, b"\n"]),
         End::Deadlock => put_all(says, &[b"lurette: deadlock ", at, b"\n"]),
         End::Raise { exception } => {
-            let name = name_of(names, exception);
+            let name = exception_name(names, exception);
             put_all(says, &[b"lurette: raise ", name, b" ", at, b"\n"])
         }
         End::Fault(fault) => {
@@ -92,16 +92,6 @@ fn say_ending<M: Sink>(says: &mut M, ending: Ending, names: &[String]) -> Result
             let need = more_digits.format(need).as_bytes();
             put_all(says, &[b"lurette: budget ", need, b" ", at, b"\n"])
         }
-    }
-}
-
-// The name of an exception; nothing where it has none.
-fn name_of(names: &[String], exception: u32) -> &[u8]
-    ensures { result.now ≡ slice_index_or (map string_bytes names.now) exception [] }
-{
-    match names.get(exception as usize) {
-        Some(name) => name.as_bytes(),
-        None => &[],
     }
 }
 
@@ -139,7 +129,6 @@ fn refusal_code(reason: Refusal) -> &'static [u8]
         Refusal::Text(refusal) => refusal.code().as_bytes(),
         Refusal::Types(refusal) => refusal.code().as_bytes(),
         Refusal::Expand(refusal) => refusal.code().as_bytes(),
-        Refusal::NotBuilt => b"early.NotBuilt",
         Refusal::NeedsController => b"run.NeedsController",
     }
 }
@@ -151,7 +140,7 @@ fn refusal_place(reason: Refusal) -> Option<usize>
         Refusal::Text(refusal) => refusal.place(),
         Refusal::Types(refusal) => refusal.place(),
         Refusal::Expand(refusal) => refusal.place(),
-        Refusal::TooLong | Refusal::NotBuilt | Refusal::NeedsController => None,
+        Refusal::TooLong | Refusal::NeedsController => None,
     }
 }
 

@@ -74,9 +74,6 @@ pub enum Refusal {
     /// Its node has no scenario.
     Expand(ExpandRefusal),
 
-    /// Its scenario is none that can be run.
-    NotBuilt,
-
     /// Its scenario has inputs, and there is no controller to give them values.
     NeedsController,
 }

@@ -1,16 +1,14 @@
 //! The texts of a run's trace, in room that is reserved before the first one.
 
-ghost use Rattle.std.specs.Prelude.{◌≡◌, ◌≤◌, ◌+◌, ◌++◌, None, IfOk, IfSome, OnOk, length, map, string_bytes, sum_by, vec_capacity};
+ghost use Rattle.std.specs.Prelude.{◌≡◌, ◌≤◌, ◌+◌, ◌++◌, None, IfOk, IfSome, OnOk, map, string_bytes, sum_by, vec_capacity};
 ghost use Rattle.lt_rif.specs.Enough.{IsEndSized};
-ghost use Rattle.lt_rif.specs.Trace.{declared_variable, end_text, header_text, IsNamed};
+ghost use Rattle.lt_rif.specs.Trace.{declared_variable, end_text, header_text};
 ghost use Rattle.lt_step.specs.Machine.{outputs_in};
 ghost use Rattle.lt_step.specs.View.{machine_state};
 ghost use Rattle.lt_term.specs.SceneView.{variable};
 ghost use Rattle.lt_call.specs.Play.{declared_as, header_of, instant_text, kinds_of};
-ghost use Rattle.lt_call.specs.Settings.{default_seed};
 ghost use Rattle.lt_call.specs.inner.Writer.{IsFor, length_of, room_with};
 
-use crate::settings::DEFAULT_SEED;
 use lt_num::Kind;
 use lt_rif::{
     Declared, End, room_for, room_is_enough, values_are_sized, write_end, write_header, write_step,
@@ -30,18 +28,18 @@ pub struct Writer {
 }
 
 impl Writer {
-    /// The texts of a run of a machine's scenario, with the header as the first.
+    /// The texts of a run of a machine's scenario by a seed, with the header as the first.
     ///
     /// # Errors
     ///
     /// Memory ran out, or variables or the bytes of names are 2^32 or more, for which there is no room.
-    pub fn make(alloc: Global, machine: &Machine) -> Result<Writer, AllocError>
+    pub fn make(alloc: Global, machine: &Machine, seed: u64) -> Result<Writer, AllocError>
         ensures is_for { IfOk result (IsFor (machine_state machine.now).scene) }
-        ensures header { IfOk result (λ w. w.text.items ≡ header_of (machine_state machine.now).scene default_seed) }
+        ensures header { IfOk result (λ w. w.text.items ≡ header_of (machine_state machine.now).scene seed) }
     {
         let outputs = declared(alloc, machine.output_vars())?;
         let inputs = declared(alloc, machine.input_vars())?;
-        let text = header(alloc, &outputs, &inputs, machine.names())?;
+        let text = header(alloc, seed, &outputs, &inputs, machine.names())?;
         let mut kinds = Vec::new(alloc);
         push_kinds(&mut kinds, machine.output_vars())?;
         push_kinds(&mut kinds, machine.input_vars())?;
@@ -73,7 +71,6 @@ impl Writer {
     /// Makes the end line.
     pub fn make_end(&mut self, machine: &Machine, end: End, number: u64)
         requires is_for { IsFor (machine_state machine.now).scene self.old }
-        requires named { IsNamed end (length (machine_state machine.now).scene.exceptions) }
         requires sized { IsEndSized end }
         ensures { self.new.text.items ≡ end_text end (machine_state machine.now).scene.exceptions number }
     {
@@ -108,15 +105,16 @@ fn push_kinds(kinds: &mut Vec<Kind>, variables: &[Var]) -> Result<(), AllocError
     Ok(())
 }
 
-// The header of a trace, in room that is enough for each text of a run with these variables and with exceptions of
-// these names.
+// The header of a trace by a seed, in room that is enough for each text of a run with these variables and with
+// exceptions of these names.
 fn header(
     alloc: Global,
+    seed: u64,
     outputs: &[Declared],
     inputs: &[Declared],
     exceptions: &[String],
 ) -> Result<Vec<u8>, AllocError>
-    ensures text { IfOk result (λ text. text.items ≡ header_text default_seed (map declared_variable outputs.now) (map declared_variable inputs.now) None) }
+    ensures text { IfOk result (λ text. text.items ≡ header_text seed (map declared_variable outputs.now) (map declared_variable inputs.now) None) }
     ensures room { IfOk result (λ text. room_with (map declared_variable outputs.now) (map declared_variable inputs.now) (map string_bytes exceptions.now) ≤ vec_capacity text) }
 {
     let Some(room) = room_of(outputs, inputs, exceptions) else {
@@ -125,7 +123,7 @@ fn header(
     // A law that the proof needs: the room is enough for a header.
     room_is_enough();
     let mut text = Vec::with_capacity(alloc, room)?;
-    write_header(&mut text, DEFAULT_SEED, outputs, inputs, None);
+    write_header(&mut text, seed, outputs, inputs, None);
     Ok(text)
 }
 

@@ -4,7 +4,8 @@ use Rattle.std.specs.declared.option.Option.{Option}
 use Rattle.lt_num.specs.declared.value.Value.{Value}
 use Rattle.lt_term.specs.Configuration.{Configuration, Reaction, first_configuration}
 use Rattle.lt_term.specs.Scene.{Scene}
-use Rattle.lt_step.specs.Instant.{Instant, values, normal, deadlock, instant_of}
+use Rattle.lt_instant.specs.Instant as i
+use Rattle.lt_instant.specs.Instant.{Instant, values, normal, raise, deadlock, fault, too_large, instant_of}
 use Rattle.lt_step.specs.declared.machine.Outcome.{Outcome}
 use Rattle.lt_step.specs.declared.machine.Outcome.TheVariants as outcome
 
@@ -14,43 +15,55 @@ most_steps = 1_000_000
 
 -- how far a machine is
 pub data Phase : Type 0 where
-  -- the run is here, and makes the next instant
-  running : Configuration → Phase
+  -- the run is here, the locals had these values in the last instant, and it makes the next one
+  running : Configuration → List (Option Value) → Phase
   -- the run has ended
   finished : Phase
 
 -- the state of a machine
 pub record State : Type 0 where
   pub scene : Scene
+  -- the seed of its words
+  pub seed : ℕ
+  -- the greatest need that a search may have
+  pub budget : ℕ
   pub phase : Phase
 
 -- a machine that has not stepped
-abbrev pub started : Scene → State
-started s = record { scene = s; phase = running (first_configuration s) }
+abbrev pub started : Scene → ℕ → ℕ → State
+started s seed budget = record { scene = s; seed = seed; budget = budget; phase = running (first_configuration s) [] }
 
 -- what one step answers, and what it makes of the machine
 pub record Step : Type 0 where
   pub outcome : Outcome
   pub state : State
 
+-- the last step of a run, which answers this
+abbrev pub ended : State → Outcome → Step
+ended m o = record { outcome = o; state = record m { phase = finished } }
+
 -- the step that makes this instant
-abbrev pub answered : Scene → Instant → Step
-answered s (values outputs next) = record { outcome = outcome.Values; state = record { scene = s; phase = running next } }
-answered s normal = record { outcome = outcome.Normal; state = record { scene = s; phase = finished } }
-answered s deadlock = record { outcome = outcome.Deadlock; state = record { scene = s; phase = finished } }
+abbrev pub answered : State → Instant → Step
+answered m (values outputs locals next) = record { outcome = outcome.Values; state = record m { phase = running next locals } }
+answered m normal = ended m outcome.Normal
+answered m (raise z) = ended m (outcome.Raise z)
+answered m deadlock = ended m outcome.Deadlock
+answered m (fault f) = ended m (outcome.Fault f)
+answered m too_large = ended m outcome.TooLarge
+answered m (i.budget n) = ended m (outcome.Budget n)
 
 -- a step in this phase: the next instant, or nothing more
-abbrev pub step_in : Scene → Phase → List Value → Step
-step_in s (running c) inputs = answered s (instant_of s c inputs)
-step_in s finished inputs = record { outcome = outcome.Ended; state = record { scene = s; phase = finished } }
+abbrev pub step_in : State → Phase → List Value → Step
+step_in m (running c locals) inputs = answered m (instant_of m.scene m.seed m.budget c inputs)
+step_in m finished inputs = ended m outcome.Ended
 
 -- a step of a machine, in which the inputs have these values
 abbrev pub step_of : State → List Value → Step
-step_of m inputs = step_in m.scene m.phase inputs
+step_of m inputs = step_in m m.phase inputs
 
 -- what holds of the configuration of a machine that is running
 abbrev pub IfRunning : Phase → (Configuration → Type 0) → Type 0
-IfRunning (running c) P = P c
+IfRunning (running c locals) P = P c
 IfRunning finished P = Unit {0}
 
 -- the outputs of an instant, none where there was none
@@ -60,10 +73,15 @@ outputs_of (Some reaction) = reaction.outputs
 
 -- the outputs of the last instant, none before the first one and after the end
 abbrev pub outputs_in : Phase → List Value
-outputs_in (running c) = outputs_of c.previous
+outputs_in (running c locals) = outputs_of c.previous
 outputs_in finished = []
+
+-- the locals of the last instant, likewise; one out of its scope has no value
+abbrev pub locals_in : Phase → List (Option Value)
+locals_in (running c locals) = locals
+locals_in finished = []
 
 -- the machine is running
 abbrev pub IsRunning : Phase → Type 0
-IsRunning (running c) = Unit {0}
+IsRunning (running c locals) = Unit {0}
 IsRunning finished = ⊥

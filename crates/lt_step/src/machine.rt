@@ -1,30 +1,41 @@
 //! The machine.
 
-ghost use Rattle.std.specs.Prelude.{◌≡◌, ◌≢◌, ◌≤◌, ℕ, IsTrue, IfOk, length, map, string_bytes};
+ghost use Rattle.std.specs.Prelude.{◌≡◌, ◌≢◌, ◌≤◌, IsTrue, IfOk, length, map, string_bytes};
 ghost use Rattle.lt_num.specs.Bounds.{most_decimals};
 ghost use Rattle.lt_term.specs.SceneView.{numbers_of};
-ghost use Rattle.lt_term.specs.View.{process, process_over};
+ghost use Rattle.lt_term.specs.View.{process};
 ghost use Rattle.lt_term.specs.Within.{passes};
-ghost use Rattle.lt_step.specs.Machine.{finished, most_steps, started, step_of, outputs_in, IfRunning, IsRunning};
-ghost use Rattle.lt_step.specs.Plain.{is_plain, is_plain_process};
+ghost use Rattle.lt_instant.specs.SolverView.{IsSolverOf};
+ghost use Rattle.lt_step.specs.inner.Done.{is_done_to};
 
-use crate::drawing::{Taken, drawn};
-use crate::reaction::Reaction;
-use lt_num::Value;
-use lt_term::{Memory, Scenario, Term, Var, body_is_valid};
+use lt_instant::{Settings, Solver, Standing, Taken, take_instant};
+use lt_num::{Arith, Value};
+use lt_term::{Memory, Scenario, Var, body_is_valid, turns_grow_by_one};
 use std::alloc::Global;
 
 /// What a step of a machine answers.
 #[derive(Clone, Copy, Debug, PartialEq, Eq)]
 pub enum Outcome {
-    /// The outputs have values for this instant.
+    /// The outputs have values for this instant, and so have the locals in scope.
     Values,
 
     /// The scenario is over.
     Normal,
 
+    /// The scenario raises an exception that nothing catches, by number.
+    Raise(u32),
+
     /// No leaf of what the scenario offers is live.
     Deadlock,
+
+    /// Constraints or weights of what is drawn have this fault.
+    Fault(Arith),
+
+    /// What the scenario offers has more than 65,536 nodes.
+    TooLarge,
+
+    /// The search at a leaf at which the draw arrives would need this much, which is over the budget.
+    Budget(u128),
 
     /// An earlier step ended the run.
     Ended,
@@ -37,38 +48,51 @@ pub enum Outcome {
 #[derive(Drop)]
 pub struct Machine {
     scenario: Scenario,
-    term: Term,
-    step: u64,
-    previous: Option<Reaction>,
+    settings: Settings,
+    solver: Solver,
+    standing: Standing,
+    locals: Vec<Option<Value>>,
     is_finished: bool,
-    ghost within: { IsTrue (passes (numbers_of scenario) (process term)) },
-    ghost plain: { IsTrue (is_plain_process (process_over scenario.table term)) },
+    ghost within: { IsTrue (passes (numbers_of scenario) (process standing.term)) },
+    ghost counted: { IsTrue (is_done_to standing.step (process standing.term)) },
+    ghost solves: { IsSolverOf scenario solver },
 }
 
 impl Machine {
     ghost use Rattle.lt_term.specs.Scene.{Scene};
     ghost use Rattle.lt_term.specs.SceneView.{scene, variable};
+    ghost use Rattle.lt_step.specs.Machine.{finished, most_steps, started, step_of, locals_in, outputs_in, IfRunning, IsRunning};
     ghost use Rattle.lt_step.specs.View.{machine_state};
 
-    /// A machine that has not stepped, of a scenario that passes [`is_plain`](crate::is_plain). `_seed` names
-    /// the words that drawing takes, and `_budget` the greatest search; every word is 0 and every search
-    /// tries all values, so neither has an effect.
+    /// A machine that has not stepped, of any scenario. The seed names the words by which it draws, and no search
+    /// is begun whose need is over the budget.
+    ///
+    /// # Errors
+    ///
+    /// Want of memory, and then the scenario is dropped.
     pub fn make(
         alloc: Global,
         scenario: Scenario,
-        _seed: u64,
-        _budget: u64,
+        seed: u64,
+        budget: u64,
     ) -> Result<Machine, Memory>
-        requires { IsTrue (is_plain (scene scenario)) }
-        ensures { IfOk result (λ m. machine_state m ≡ started (scene scenario)) }
+        ensures { IfOk result (λ m. machine_state m ≡ started (scene scenario) seed budget) }
     {
         body_is_valid(&scenario);
+        // A law that the proof needs: a bound of turns may be taken for a greater one.
+        turns_grow_by_one();
         let term = scenario.body.clone()?;
+        let solver = Solver::make(alloc, &scenario)?;
         Ok(Machine {
             scenario,
-            term,
-            step: 1,
-            previous: None,
+            settings: Settings { seed, budget },
+            solver,
+            standing: Standing {
+                term,
+                step: 1,
+                previous: None,
+            },
+            locals: Vec::new(alloc),
             is_finished: false,
         })
     }
@@ -86,26 +110,48 @@ impl Machine {
         if self.is_finished {
             return Outcome::Ended;
         }
-        match drawn(alloc, &self.scenario, &self.term, inputs) {
-            Ok(Taken::Go { reaction, next }) => {
-                self.term = next;
-                self.step += 1;
-                self.previous = Some(reaction);
+        // A law that the proof needs: so few turns are done that one more can be told.
+        turns_grow_by_one();
+        match take_instant(
+            alloc,
+            &self.scenario,
+            &self.standing,
+            inputs,
+            self.settings,
+            &mut self.solver,
+        ) {
+            Ok(
+                Taken::Go {
+                    reaction,
+                    locals,
+                    next,
+                },
+            ) => {
+                self.standing = Standing {
+                    term: next,
+                    step: self.standing.step + 1,
+                    previous: Some(reaction),
+                };
+                self.locals = locals;
                 Outcome::Values
             }
-            Ok(Taken::Vanish) => {
-                self.is_finished = true;
-                Outcome::Normal
-            }
-            Ok(Taken::Nothing) => {
-                self.is_finished = true;
-                Outcome::Deadlock
-            }
-            Err(Memory) => {
-                self.is_finished = true;
-                Outcome::Memory
-            }
+            Ok(Taken::Vanish) => self.end(Outcome::Normal),
+            Ok(Taken::Raise(exception)) => self.end(Outcome::Raise(exception)),
+            Ok(Taken::Fault(fault)) => self.end(Outcome::Fault(fault)),
+            Ok(Taken::Nothing) => self.end(Outcome::Deadlock),
+            Ok(Taken::TooLarge) => self.end(Outcome::TooLarge),
+            Ok(Taken::Budget(need)) => self.end(Outcome::Budget(need)),
+            Err(Memory) => self.end(Outcome::Memory),
         }
+    }
+
+    // Ends the run with this outcome.
+    fn end(&mut self, outcome: Outcome) -> Outcome
+        ensures outcome { result ≡ outcome }
+        ensures state { machine_state self.new ≡ record (machine_state self.old) { phase = finished } }
+    {
+        self.is_finished = true;
+        outcome
     }
 
     /// The outputs of the last instant, in their order: none before the first one, and none after the
@@ -113,10 +159,18 @@ impl Machine {
     pub fn outputs(&self) -> &[Value]
         ensures { result.now ≡ outputs_in (machine_state self.now).phase }
     {
-        match &self.previous {
+        match &self.standing.previous {
             Some(reaction) if !self.is_finished => &reaction.outputs,
             _ => &[],
         }
+    }
+
+    /// The locals of the last instant, in their order, where one out of its scope has no value: none before the
+    /// first instant, and none after the end.
+    pub fn locals(&self) -> &[Option<Value>]
+        ensures { result.now ≡ locals_in (machine_state self.now).phase }
+    {
+        if self.is_finished { &[] } else { &self.locals }
     }
 
     /// The inputs of the scenario.
@@ -131,6 +185,13 @@ impl Machine {
         ensures { map variable result.now ≡ (machine_state self.now).scene.outputs }
     {
         &self.scenario.outputs
+    }
+
+    /// The locals of the scenario.
+    pub fn local_vars(&self) -> &[Var]
+        ensures { map variable result.now ≡ (machine_state self.now).scene.locals }
+    {
+        &self.scenario.locals
     }
 
     /// The names of the scenario's exceptions.

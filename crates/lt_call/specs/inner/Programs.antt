@@ -1,5 +1,5 @@
 -- The answer that is due to a request and a program, computed.
-use Rattle.std.specs.Prelude.{ℕ, Bool, true, false, List, [], ◌∷◌, option_map}
+use Rattle.std.specs.Prelude.{ℕ, List, [], ◌∷◌}
 use Rattle.std.specs.declared.option.Option.{Option}
 use Rattle.std.specs.declared.option.Option.TheVariants.{None, Some}
 use Rattle.lt_ast.specs.Syntax.{Declaration}
@@ -10,7 +10,6 @@ use Rattle.lt_expand.specs.declared.refusal.ExpandRefusal.{ExpandRefusal}
 use Rattle.lt_expand.specs.declared.refusal.ExpandRefusal.TheVariants.{UnknownNode}
 use Rattle.lt_macros.specs.Expanded.{Node}
 use Rattle.lt_macros.specs.Expansion.{expanded_node}
-use Rattle.lt_step.specs.Plain.{is_plain}
 use Rattle.lt_term.specs.Scene.{Scene, Variable}
 use Rattle.lt_types.specs.Refusals.{type_refusals}
 use Rattle.lt_types.specs.declared.refusal.TypeRefusal.{TypeRefusal}
@@ -22,19 +21,14 @@ use Rattle.lt_call.specs.declared.status.Status.{Status}
 use Rattle.lt_call.specs.declared.words.Mode.{Mode}
 use Rattle.lt_call.specs.declared.words.Mode.TheVariants as mode
 
--- of a scenario that can be run, by its inputs
+-- of a scenario, by its inputs
 abbrev pub fed_answer : Request → Scene → List Variable → Answer
-fed_answer request scene [] = ran (play_of_scene request scene)
+fed_answer request scene [] = ran scene (play_of_scene request scene)
 fed_answer request scene (input ∷ others) = refused refusal.NeedsController
-
--- of a scenario, by whether it can be run
-abbrev pub built_answer : Request → Scene → Bool → Answer
-built_answer request scene true = fed_answer request scene scene.inputs
-built_answer request scene false = refused refusal.NotBuilt
 
 -- of a scenario
 abbrev pub scene_answer : Request → Scene → Answer
-scene_answer request scene = built_answer request scene (is_plain scene)
+scene_answer request scene = fed_answer request scene scene.inputs
 
 -- of the node that is asked for, if there is one, by what is refused of it
 abbrev pub node_answer : Request → Option Node → List ExpandRefusal → Answer
@@ -63,5 +57,5 @@ abbrev pub program_answer : Request → List Declaration → Answer
 program_answer request program = mode_answer request.mode request program
 
 -- the answer that is due where the scenario's file has this text was given, whole or cut short
-abbrev pub GivesForText : Request → List ℕ → Option (List ℕ) → Option (List ℕ) → Status → Type 0
-GivesForText request text old new s = (answer : Answer) × IsDue request (record { scenario = text }) answer × Gives answer old new s
+abbrev pub GivesForText : Request → List ℕ → List (List ℕ) → Option (List ℕ) → Option (List ℕ) → Status → Type 0
+GivesForText request text names old new s = (answer : Answer) × IsDue request (record { scenario = text }) answer × Gives answer names old new s

@@ -18,7 +18,7 @@ returns-in-Raise-clause-all g c =
     let names = map string_bytes c.args.names.now in
     let name = slice_index_or names c.in-Raise.exception [] in
     OnOk-same c.put_all-in-Raise.result _ _ _ _
-    (ap (λ w. codes "lurette: raise " ++ (w ++ (32 ∷ (c.as_bytes-at.result.now ++ 10 ∷ [])))) c.name_of-name.ensures
+    (ap (λ w. codes "lurette: raise " ++ (w ++ (32 ∷ (c.as_bytes-at.result.now ++ 10 ∷ [])))) c.exception_name-name.ensures
     ∙ ap (λ n. codes "lurette: raise " ++ (name ++ (32 ∷ (n ++ 10 ∷ [])))) (c.as_bytes-at.ensures.value ∙ c.format.ensures.text)
     ∙ ap (λ t. codes "lurette: raise " ++ t) (two_parts name (decimal c.args.ending.at))
     ∙ ap (λ e. end_lines e names c.args.ending.at) (sym c.in-Raise.is))

@@ -3,7 +3,7 @@ use Rattle.lt_call.proofs.Gives.{out_of_memory, done_part}
 use Rattle.lt_call.proofs.top.print_program.Goals as goal
 
 pub returns-in_default-clause-gives : goal.returns-in_default-clause-gives
-returns-in_default-clause-gives g c = out_of_memory _ _
+returns-in_default-clause-gives g c = out_of_memory _ _ _
 
 pub returns-clause-gives : goal.returns-clause-gives
 returns-clause-gives g c =

@@ -1,7 +1,6 @@
-use Rattle.std.proofs.Common.{◌≡◌, ℕ, Err, Ok, Option, List, Result, refl, subst}
+use Rattle.std.proofs.Common.{◌≡◌, ℕ, Err, List, Result, refl, subst}
 use Rattle.lt_ast.specs.Syntax.{Declaration}
 use Rattle.lt_ast.specs.View.{program}
-use Rattle.lt_macros.specs.Expanded.{Node}
 use Rattle.lt_macros.specs.Expansion.{expanded_node}
 use Rattle.lt_expand.specs.Answer.{IsAnswer}
 use Rattle.lt_expand.specs.declared.refusal.ExpandRefusal.{ExpandRefusal}
@@ -9,7 +8,7 @@ use Rattle.lt_term.specs.declared.scenario.Scenario.{Scenario}
 use Rattle.lt_call.specs.Asked.{request}
 use Rattle.lt_call.specs.Words.{Request}
 use Rattle.lt_call.specs.declared.status.Device.TheVariants.{File, Trace}
-use Rattle.lt_call.proofs.Expansions.{expanded, unexpanded, unexpanded_unblamed}
+use Rattle.lt_call.proofs.Expansions.{unexpanded, unexpanded_unblamed}
 use Rattle.lt_call.proofs.Gives.{counts_none}
 use Rattle.lt_call.proofs.top.run_typed.Goals as goal
 

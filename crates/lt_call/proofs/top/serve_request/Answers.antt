@@ -5,7 +5,7 @@ use Rattle.lt_call.proofs.Gives.{asks_all, file_failed, file_too_long, file_unre
 use Rattle.lt_call.proofs.top.serve_request.Goals as goal
 
 pub returns-in-Ok-clause-asks : goal.returns-in-Ok-clause-asks
-returns-in-Ok-clause-asks g c = asks_all (asks_of (request c.args.request.now)) _ _ c.serve_text.result (c.in-Ok.ensures.asks (λ e. cc))
+returns-in-Ok-clause-asks g c = asks_all (asks_of (request c.args.request.now)) _ _ c.serve_text.result.status (c.in-Ok.ensures.asks (λ e. cc))
 
 pub returns-in-Err-Failed-clause-answers : goal.returns-in-Err-Failed-clause-answers
 returns-in-Err-Failed-clause-answers g c = file_failed c.contents_have_one_due_answer.ensures (request c.args.request.now) (g.F.Files.contents c.args.files.now) _

@@ -15,8 +15,8 @@ returns-in-Err g c = record {
 
 pub returns-in-Run-clause-gives : goal.returns-in-Run-clause-gives
 returns-in-Run-clause-gives g c =
-    text_read c.well_typed_is_unrefused.ensures (request c.args.request.now) c.args.text.now (program c.in-Ok.program) Run _ _ _ c.requires.short c.in-Ok.ensures.found c.in-Run.is c.run_program.ensures.gives
+    text_read c.well_typed_is_unrefused.ensures (request c.args.request.now) c.args.text.now (program c.in-Ok.program) Run _ _ _ _ c.requires.short c.in-Ok.ensures.found c.in-Run.is c.run_program.ensures.gives
 
 pub returns-in-Print-clause-gives : goal.returns-in-Print-clause-gives
 returns-in-Print-clause-gives g c =
-    text_read c.well_typed_is_unrefused.ensures (request c.args.request.now) c.args.text.now (program c.in-Ok.program) Print _ _ _ c.requires.short c.in-Ok.ensures.found c.in-Print.is c.print_program.ensures.gives
+    text_read c.well_typed_is_unrefused.ensures (request c.args.request.now) c.args.text.now (program c.in-Ok.program) Print _ _ _ _ c.requires.short c.in-Ok.ensures.found c.in-Print.is c.print_program.ensures.gives

@@ -1,6 +1,5 @@
 use Rattle.std.proofs.Common.{◌≡◌, ◌≤◌, drop}
 use Rattle.std.specs.List.{list_all}
-use Rattle.lt_call.specs.Settings.{most_steps}
 use Rattle.lt_call.specs.Words.{is_digit, value_after}
 use Rattle.lt_call.proofs.words.number.Given as goal
 
@@ -9,5 +8,5 @@ abbrev pub invariant-loop-digit : goal.invariant-loop-digit
 invariant-loop-digit l = record {
   digits : list_all is_digit (drop l.digit-index l.digits) ≡ list_all is_digit l.digits;
   value : value_after l.number (drop l.digit-index l.digits) ≡ value_after 0 l.digits;
-  small : l.number ≤ most_steps;
+  small : l.number ≤ l.most;
 }

@@ -1,0 +1,114 @@
+-- One instant of a run.
+use Rattle.std.specs.Prelude.{ℕ, ◌+◌, nat_lt, Bool, true, false, if◌then◌else◌, is_some, ℤ, List, None, Some}
+use Rattle.std.specs.declared.option.Option.{Option}
+use Rattle.lt_num.specs.declared.fault.Arith.{Arith}
+use Rattle.lt_num.specs.declared.value.Value.{Value}
+use Rattle.lt_draw.specs.Word.{word_at}
+use Rattle.lt_formula.specs.Expression.{Expression}
+use Rattle.lt_space.specs.Formula.{Formula}
+use Rattle.lt_space.specs.Meaning.{formula_of_all}
+use Rattle.lt_term.specs.Advanced.{advanced}
+use Rattle.lt_term.specs.Configuration.{Configuration, kinds_of_all, known_in, scene_kinds, weight_in}
+use Rattle.lt_term.specs.Evaluated.{Outlook, vanish, nothing, raised, faulty, go, Evaluated, Worth, evaluated}
+use Rattle.lt_term.specs.Limits.{most_tree_nodes}
+use Rattle.lt_term.specs.Offers.{TermTree, offers_of}
+use Rattle.lt_term.specs.Process.{Process}
+use Rattle.lt_term.specs.Scene.{Scene}
+use Rattle.lt_term.specs.Tree.{Lasts, size}
+use Rattle.lt_instant.specs.Drawn.{Draw, Met, draw_of, taken_of}
+use Rattle.lt_instant.specs.Solved.{locals_by, need_of, outputs_by, scoped, solution_of, values_of}
+
+-- what an instant is
+pub data Instant : Type 0 where
+  -- the outputs have these values, and so have the locals in scope, and the run stands there afterwards
+  values : List Value → List (Option Value) → Configuration → Instant
+  -- the scenario is over
+  normal : Instant
+  -- an exception is raised
+  raise : ℕ → Instant
+  -- no live leaf can be reached
+  deadlock : Instant
+  -- constraints or weights have this fault
+  fault : Arith → Instant
+  -- what the term offers has too many nodes
+  too_large : Instant
+  -- a search would need this much, which is over the budget
+  budget : ℕ → Instant
+
+-- what leaves and trees of an instant are, once they are evaluated
+abbrev pub Leaf : Type 0
+Leaf = Outlook Formula (Process Expression)
+
+abbrev pub Judged : Type 0
+Judged = Evaluated Formula (Process Expression)
+
+-- what constraints and weights are worth: constraints are worth the formula that they are together, or the first fault
+abbrev pub worth_in : Scene → Configuration → List Value → Worth Expression Formula
+worth_in s c inputs = record { formula = λ ls es. formula_of_all (known_in s c inputs ls) (scene_kinds s) es; weight = weight_in s c inputs }
+
+-- what the term of a configuration offers
+abbrev pub offered : Scene → Configuration → TermTree Expression
+offered s c = offers_of (kinds_of_all s.locals) c.process
+
+-- the same, evaluated
+abbrev pub judged : Scene → Configuration → List Value → Judged
+judged s c inputs = evaluated (worth_in s c inputs) (offered s c)
+
+-- whether a leaf is live: at an instant, whether its formula has a solution
+abbrev pub is_live : Scene → (ℕ → ℕ) → Leaf → Bool
+is_live s word vanish = true
+is_live s word nothing = false
+is_live s word (raised z) = true
+is_live s word (faulty f) = true
+is_live s word (go f ls n) = is_some (solution_of s word ls f)
+
+-- whether the search at a leaf would need more than the budget
+abbrev pub is_over : Scene → ℕ → Leaf → Bool
+is_over s most (go f ls n) = nat_lt most (need_of s ls)
+is_over s most other = false
+
+-- the words of an instant, by slot
+abbrev pub words_of : ℕ → Configuration → ℕ → ℕ
+words_of seed c slot = word_at seed c.step slot
+
+-- what is drawn of a tree
+abbrev pub drawn_of : Scene → (ℕ → ℕ) → Judged → Draw Formula (Process Expression)
+drawn_of s word t = draw_of word (is_live s word) t
+
+-- where a run stands after an instant in which all that is drawn has these raw numbers
+abbrev pub next_configuration : Scene → Configuration → List Value → Lasts → Process Expression → List ℤ → Configuration
+next_configuration s c inputs ls n raws = record {
+  process = advanced (values_of ls (locals_by s raws)) n;
+  step = c.step + 1;
+  previous = Some (record { inputs = inputs; outputs = outputs_by s raws });
+}
+
+-- an instant whose formula has this solution, if any
+abbrev pub go_instant : Scene → Configuration → List Value → Lasts → Process Expression → Option (List ℤ) → Instant
+go_instant s c inputs ls n None = deadlock
+go_instant s c inputs ls n (Some raws) = values (outputs_by s raws) (scoped ls 0 (locals_by s raws)) (next_configuration s c inputs ls n raws)
+
+-- The instant that takes a leaf. The need of a search is compared with the budget before the search.
+abbrev pub leaf_instant : Scene → ℕ → ℕ → Configuration → List Value → Leaf → Instant
+leaf_instant s seed most c inputs vanish = normal
+leaf_instant s seed most c inputs nothing = deadlock
+leaf_instant s seed most c inputs (raised z) = raise z
+leaf_instant s seed most c inputs (faulty f) = fault f
+leaf_instant s seed most c inputs (go f ls n) = if nat_lt most (need_of s ls) then budget (need_of s ls) else go_instant s c inputs ls n (solution_of s (words_of seed c) ls f)
+
+-- the instant that takes this leaf, if any
+abbrev pub taken_instant : Scene → ℕ → ℕ → Configuration → List Value → Option (Met Formula (Process Expression)) → Instant
+taken_instant s seed most c inputs None = deadlock
+taken_instant s seed most c inputs (Some m) = leaf_instant s seed most c inputs m.outlook
+
+-- whether what a term offers has too many nodes
+abbrev pub is_too_large : Scene → Configuration → Bool
+is_too_large s c = nat_lt most_tree_nodes (size (offered s c))
+
+-- the leaf that an instant takes
+abbrev pub taken_in : Scene → ℕ → ℕ → Configuration → List Value → Option (Met Formula (Process Expression))
+taken_in s seed most c inputs = taken_of (is_over s most) (drawn_of s (words_of seed c) (judged s c inputs))
+
+-- The instant of a configuration in which the inputs have these values, by a seed and a budget of at most so much for a search.
+abbrev pub instant_of : Scene → ℕ → ℕ → Configuration → List Value → Instant
+instant_of s seed most c inputs = if is_too_large s c then too_large else taken_instant s seed most c inputs (taken_in s seed most c inputs)
