@@ -1,9 +1,12 @@
 -- Rows that follow from a formula, and the marks of its conjuncts.
-use Rattle.std.proofs.Common.{◌≡◌, inl, inr, ◌+◌, ◌-◌, ◌*◌, ◌^◌, ◌<◌, ◌≤◌, ◌++◌, ℕ, zero, suc, Bool, true, false, List, [], ◌∷◌, length, get_or, set, ℤ, pos, negsuc, neg_ℤ, ◌+ℤ◌, ◌-ℤ◌, ◌*ℤ◌, ◌≤ℤ◌, ◌<ℤ◌, unsigned_abs, nat_lt, refl, ap, sym, subst, ◌∙◌, arith, length-append}
-use Rattle.std.specs.Prelude.{int_lt, not, if◌then◌else◌}
+use Rattle.std.proofs.Common.{◌≡◌, inl, inr, ◌+◌, ◌-◌, ◌*◌, ◌^◌, ◌<◌, ◌≤◌, ◌++◌, ℕ, zero, suc, Bool, true, false, List, [], ◌∷◌, length, get_or, set, take, drop, ℤ, pos, negsuc, neg_ℤ, ◌+ℤ◌, ◌*ℤ◌, ◌≤ℤ◌, ◌<ℤ◌, unsigned_abs, nat_lt, refl, ap, sym, subst, ◌∙◌, arith, length-append, to_z, of_z}
+use Rattle.std.specs.Int.{w64, w128}
+use Rattle.std.specs.Prelude.{int_lt, not, if◌then◌else◌, slice_range}
 use Rattle.std.proofs.Math.IntN.{*ℤ_comm, suc_ℤ-*ℤ, pred_ℤ-*ℤ, zero-*ℤ}
+use Rattle.std.proofs.Math.Nat.{pow-le-pow_right}
+use Rattle.std.proofs.Math.Seq.{take-append_seam}
 use Rattle.std.proofs.lemmas.Bool.Decides.{nat_tests, Decides-int_eq}
-use Rattle.std.proofs.lemmas.Int.{ints}
+use Rattle.std.proofs.lemmas.Int.{ints, fits_signed_from_abs, to_z-of_z, unsigned_abs-mul}
 use Rattle.std.proofs.lemmas.List.{length-set}
 use Rattle.std.proofs.lemmas.Nat.{mul-le}
 use Rattle.lt_bounds.specs.Ranges.{size_of}
@@ -12,13 +15,17 @@ use Rattle.lt_bounds.proofs.Public.{rows_none, rows_pushed}
 use Rattle.lt_formula.specs.Limits.{most_variables}
 use Rattle.lt_formula.specs.Solution.{IsPointOf}
 use Rattle.lt_linear.specs.Form.{Term}
-use Rattle.lt_num.specs.Bounds.{most_raw}
+use Rattle.lt_num.specs.Bounds.{most_decimals, most_raw}
 use Rattle.lt_num.specs.declared.range.Range.{Range}
-use Rattle.lt_space.specs.Circuit.{formula_at}
+use Rattle.lt_space.specs.Circuit.{formula_at, gate_formula, most_constant}
 use Rattle.lt_space.specs.Formula.{Formula, holds, stands, sum_at}
+use Rattle.lt_space.specs.declared.circuit.Gate.{Gate}
+use Rattle.lt_space.specs.declared.circuit.Gate.TheVariants as gate
+use Rattle.lt_space.specs.declared.formula.Relation.{Relation}
 use Rattle.lt_space.specs.declared.formula.Relation.TheVariants.{Below, Equal, NotAbove}
-use Rattle.lt_solver.specs.inner.Conjuncts.{AllHold, AreBelow, Follow, MayBePushed, added, most_cell, padded, signed, with_terms}
+use Rattle.lt_solver.specs.inner.Conjuncts.{AllHold, AreBelow, Follow, IsBound, MayBePushed, added, lower, most_cell, most_part, padded, signed, upper, with_terms}
 use Rattle.lt_solver.specs.inner.Levels.{AreDomains}
+use Rattle.lt_solver.proofs.Gates.{and_left, and_right}
 
 -- Products.
 
@@ -55,7 +62,15 @@ less_true a b h = grind (arith, nat_tests)
 less_false : (a b : ℕ) → nat_lt a b ≡ false → b ≤ a
 less_false a b h = grind (arith, nat_tests)
 
-length-added : (i : ℕ) (a : ℤ) (row : List ℤ) → length (added i a row) ≡ length row
+-- a number is added where the row has the variable
+pub added_within : (i : ℕ) (a : ℤ) (row : List ℤ) → suc i < length row → added i a row ≡ set row i (get_or row i (pos 0) +ℤ a)
+added_within i a row l = by_test (nat_lt (suc i) (length row)) refl
+  where
+    by_test : (b : Bool) → nat_lt (suc i) (length row) ≡ b → (if b then set row i (get_or row i (pos 0) +ℤ a) else row) ≡ set row i (get_or row i (pos 0) +ℤ a)
+    by_test true t = refl
+    by_test false t = absurd (omega (arith, l, less_false (suc i) (length row) t))
+
+pub length-added : (i : ℕ) (a : ℤ) (row : List ℤ) → length (added i a row) ≡ length row
 length-added i a row = by_test (nat_lt (suc i) (length row))
   where
     by_test : (b : Bool) → length (if b then set row i (get_or row i (pos 0) +ℤ a) else row) ≡ length row
@@ -109,9 +124,14 @@ padded_at (suc n) constant [] e = absurd (omega (arith, e))
 padded_at (suc n) constant (v ∷ vs) e = omega (arith, ints, zero-*ℤ v, padded_at n constant vs (omega (arith, e)))
 
 -- one filler more
-pub padded_more : {X : Type 0} (filler last : X) (xs : List X) (n i : ℕ) → i < n → xs ++ padded filler (suc (n - suc i)) last ≡ (xs ++ filler ∷ []) ++ padded filler (n - suc i) last
-padded_more filler last [] n i l = refl
-padded_more filler last (x ∷ xs) n i l = ap (λ ys. x ∷ ys) (padded_more filler last xs n i l)
+padded_more : {X : Type 0} (filler last : X) (xs : List X) (n : ℕ) → xs ++ padded filler (suc n) last ≡ (xs ++ filler ∷ []) ++ padded filler n last
+padded_more filler last [] n = refl
+padded_more filler last (x ∷ xs) n = ap (λ ys. x ∷ ys) (padded_more filler last xs n)
+
+pub padded_next : {X : Type 0} (filler last : X) (whole xs more : List X) (n i : ℕ) → i < n → whole ≡ xs ++ padded filler (n - i) last → more ≡ xs ++ filler ∷ [] → whole ≡ more ++ padded filler (n - (i + 1)) last
+padded_next filler last whole xs more n i l e is =
+    let left : n - i ≡ suc (n - (i + 1)) = omega (arith, l) in
+    e ∙ ap (λ (k : ℕ). xs ++ padded filler k last) left ∙ padded_more filler last xs (n - (i + 1)) ∙ ap (λ ys. ys ++ padded filler (n - (i + 1)) last) (sym is)
 
 -- Sizes.
 
@@ -157,6 +177,27 @@ row_fits row ranges b d few =
     let all = reach_below most_cell row ranges b d in
     let most = mul-le (length ranges) (most_cell * most_raw) most_variables (most_cell * most_raw) few (omega arith) in
     omega (arith, all, most)
+
+-- small numbers are read as they were written
+pub read_back : (z : ℤ) → unsigned_abs z < 2 ^ 127 → to_z w128 (of_z w128 z) ≡ z
+read_back z l = to_z-of_z w128 z (fits_signed_from_abs w128 z l)
+
+-- a constant of a comparison on the scale of reals is exact, and small too
+pub scaled_here : (constant k : ℤ) (decimals : ℕ) → k ≡ to_z w64 (of_z w64 constant) *ℤ pos (10 ^ decimals) → unsigned_abs constant ≤ most_constant → decimals ≤ most_decimals
+    → (k ≡ constant *ℤ pos (10 ^ decimals)) × (to_z w128 (of_z w128 k) ≡ k) × (unsigned_abs (to_z w128 (of_z w128 k)) < most_part)
+scaled_here constant k decimals e size few =
+    let plain = to_z-of_z w64 constant (fits_signed_from_abs w64 constant (omega (arith, size))) in
+    let exact : k ≡ constant *ℤ pos (10 ^ decimals) = e ∙ ap (λ (z : ℤ). z *ℤ pos (10 ^ decimals)) plain in
+    let some : 0 < 10 = omega arith in
+    let scale : 10 ^ decimals ≤ 1_000_000 = pow-le-pow_right some few in
+    let product = ap unsigned_abs exact ∙ unsigned_abs-mul constant (pos (10 ^ decimals)) in
+    let small : unsigned_abs k < most_part = omega (arith, product, mul-le (unsigned_abs constant) (10 ^ decimals) most_constant 1_000_000 size scale) in
+    let kept = read_back k (omega (arith, small)) in
+    (exact, kept, omega (arith, ap unsigned_abs kept, small))
+
+-- a row that was lent as a whole
+pub given_back : (n : ℕ) (row old : List ℤ) → length row ≡ n → take n (row ++ drop (length row) old) ≡ row
+given_back n row old e = ap (λ (k : ℕ). take k (row ++ drop (length row) old)) (sym e) ∙ take-append_seam row (drop (length row) old)
 
 -- Following.
 
@@ -207,11 +248,12 @@ length-point (r ∷ rs) (v ∷ vs) p = ap suc (length-point rs vs p.1)
 -- Marks.
 
 module _ (decimals : ℕ) (values : List ℤ) where
-  pub marked_at : (fs : List Formula) (marks : List Bool) (i : ℕ) → i < length fs → AllHold decimals values fs marks → get_or marks i false ≡ true → holds decimals values (formula_at fs i) ≡ true
-  marked_at fs [] i l h m = absurd (cc)
-  marked_at [] (mark ∷ marks) i l h m = absurd (omega (arith, l))
-  marked_at (f ∷ fs) (mark ∷ marks) zero l h m = h.0 m
-  marked_at (f ∷ fs) (mark ∷ marks) (suc i) l h m = marked_at fs marks i (omega (arith, l)) h.1 m
+  -- a formula that is marked holds, whatever stands for a mark that isn't there
+  pub marked_at : (fs : List Formula) (marks : List Bool) (i : ℕ) (other : Bool) → i < length fs → i < length marks → AllHold decimals values fs marks → get_or marks i other ≡ true → holds decimals values (formula_at fs i) ≡ true
+  marked_at fs [] i other l k h m = absurd (omega (arith, k))
+  marked_at [] (mark ∷ marks) i other l k h m = absurd (omega (arith, l))
+  marked_at (f ∷ fs) (mark ∷ marks) zero other l k h m = h.0 m
+  marked_at (f ∷ fs) (mark ∷ marks) (suc i) other l k h m = marked_at fs marks i other (omega (arith, l)) (omega (arith, k)) h.1 m
 
   pub marked_set : (fs : List Formula) (marks : List Bool) (i : ℕ) → holds decimals values (formula_at fs i) ≡ true → AllHold decimals values fs marks → AllHold decimals values fs (set marks i true)
   marked_set fs [] i e h = h
@@ -234,7 +276,7 @@ yes a b h = grind (arith, ints)
 no : (a b : ℤ) → int_lt a b ≡ false → b ≤ℤ a
 no a b h = grind (arith, ints)
 
-not_true : (b : Bool) → not b ≡ true → b ≡ false
+pub not_true : (b : Bool) → not b ≡ true → b ≡ false
 not_true true h = absurd (cc)
 not_true false h = refl
 
@@ -242,21 +284,38 @@ not_false : (b : Bool) → not b ≡ false → b ≡ true
 not_false true h = refl
 not_false false h = absurd (cc)
 
-module _ (sum constant : ℤ) where
-  pub below_so : stands Below (sum +ℤ constant) ≡ true → (signed false sum +ℤ (constant +ℤ pos 1)) ≤ℤ pos 0
-  below_so h = let l = yes (sum +ℤ constant) (pos 0) h in omega (arith, ints)
+-- what a relation says of the sum ..
+pub upper_bounds : (relation : Relation) (truth : Bool) (sum constant : ℤ) → stands relation (sum +ℤ constant) ≡ truth → IsBound false sum (upper relation truth constant)
+upper_bounds Below true sum constant h = let l = yes (sum +ℤ constant) (pos 0) h in omega (arith, ints)
+upper_bounds NotAbove true sum constant h = let l = no (pos 0) (sum +ℤ constant) (not_true _ h) in omega (arith, ints)
+upper_bounds Equal true sum constant h = let e = (Decides-int_eq (sum +ℤ constant) (pos 0)).0 h in omega (arith, ints)
+upper_bounds Below false sum constant h = tt
+upper_bounds NotAbove false sum constant h = tt
+upper_bounds Equal false sum constant h = tt
 
-  pub not_above_so : stands NotAbove (sum +ℤ constant) ≡ true → (signed false sum +ℤ constant) ≤ℤ pos 0
-  not_above_so h = let l = no (pos 0) (sum +ℤ constant) (not_true _ h) in omega (arith, ints)
+-- .. and of its negative
+pub lower_bounds : (relation : Relation) (truth : Bool) (sum constant : ℤ) → stands relation (sum +ℤ constant) ≡ truth → IsBound true sum (lower relation truth constant)
+lower_bounds Below true sum constant h = tt
+lower_bounds NotAbove true sum constant h = tt
+lower_bounds Equal true sum constant h = let e = (Decides-int_eq (sum +ℤ constant) (pos 0)).0 h in omega (arith, ints)
+lower_bounds Below false sum constant h = let l = no (sum +ℤ constant) (pos 0) h in omega (arith, ints)
+lower_bounds NotAbove false sum constant h = let l = yes (pos 0) (sum +ℤ constant) (not_false _ h) in omega (arith, ints)
+lower_bounds Equal false sum constant h = tt
 
-  pub equal_so : stands Equal (sum +ℤ constant) ≡ true → (signed false sum +ℤ constant) ≤ℤ pos 0
-  equal_so h = let e = (Decides-int_eq (sum +ℤ constant) (pos 0)).0 h in omega (arith, ints)
+-- what the formula of a comparison says, if it holds or doesn't
+pub compare_stands : (decimals : ℕ) (values : List ℤ) (terms these : List Term) (fs : List Formula) (f : Formula) (g : Gate) (relation : Relation) (first after : ℕ) (constant k : ℤ) (truth : Bool)
+    → f ≡ gate_formula terms fs g → g ≡ gate.Compare relation first after constant → these ≡ slice_range terms first after → k ≡ constant *ℤ pos (10 ^ decimals) → holds decimals values f ≡ truth → stands relation (sum_at these values +ℤ k) ≡ truth
+compare_stands decimals values terms these fs f g relation first after constant k truth is compare those scale so =
+    ap (λ (ts : List Term). stands relation (sum_at ts values +ℤ k)) those
+    ∙ ap (λ (z : ℤ). stands relation (sum_at (slice_range terms first after) values +ℤ z)) scale
+    ∙ sym (ap (λ (h : Formula). holds decimals values h) (is ∙ ap (gate_formula terms fs) compare)) ∙ so
 
-  pub equal_so_too : stands Equal (sum +ℤ constant) ≡ true → (signed true sum +ℤ neg_ℤ constant) ≤ℤ pos 0
-  equal_so_too h = let e = (Decides-int_eq (sum +ℤ constant) (pos 0)).0 h in omega (arith, ints)
+-- the parts of a conjunction that holds
+pub conjunction_parts : (decimals : ℕ) (values : List ℤ) (terms : List Term) (fs : List Formula) (f : Formula) (g : Gate) (a b : ℕ) → f ≡ gate_formula terms fs g → g ≡ gate.And a b → holds decimals values f ≡ true → (holds decimals values (formula_at fs a) ≡ true) × (holds decimals values (formula_at fs b) ≡ true)
+conjunction_parts decimals values terms fs f g a b is both so =
+    let whole = sym (ap (λ (h : Formula). holds decimals values h) (is ∙ ap (gate_formula terms fs) both)) ∙ so in
+    (and_left (holds decimals values (formula_at fs a)) (holds decimals values (formula_at fs b)) whole, and_right (holds decimals values (formula_at fs a)) (holds decimals values (formula_at fs b)) whole)
 
-  pub below_not_so : stands Below (sum +ℤ constant) ≡ false → (signed true sum +ℤ neg_ℤ constant) ≤ℤ pos 0
-  below_not_so h = let l = no (sum +ℤ constant) (pos 0) h in omega (arith, ints)
-
-  pub not_above_not_so : stands NotAbove (sum +ℤ constant) ≡ false → (signed true sum +ℤ (pos 1 -ℤ constant)) ≤ℤ pos 0
-  not_above_not_so h = let l = yes (pos 0) (sum +ℤ constant) (not_false _ h) in omega (arith, ints)
+-- the part of a negation that holds
+pub negation_part : (decimals : ℕ) (values : List ℤ) (terms : List Term) (fs : List Formula) (f : Formula) (g : Gate) (a : ℕ) → f ≡ gate_formula terms fs g → g ≡ gate.Not a → holds decimals values f ≡ true → holds decimals values (formula_at fs a) ≡ false
+negation_part decimals values terms fs f g a is denied so = not_true (holds decimals values (formula_at fs a)) (sym (ap (λ (h : Formula). holds decimals values h) (is ∙ ap (gate_formula terms fs) denied)) ∙ so)

@@ -1,5 +1,5 @@
 -- Verdicts on gates are those on their formulas.
-use Rattle.std.proofs.Common.{◌≡◌, ◌++◌, ◌+◌, ◌-◌, ◌<◌, ◌≤◌, ◌&&◌, ℕ, zero, suc, Bool, true, false, IsTrue, List, [], ◌∷◌, length, map, take, drop, length-append, subst, refl, ap, sym, ◌∙◌, arith}
+use Rattle.std.proofs.Common.{◌≡◌, ◌++◌, ◌+◌, ◌-◌, ◌<◌, ◌≤◌, ◌&&◌, ℕ, zero, suc, Bool, true, false, IsTrue, List, [], ◌∷◌, length, map, take, drop, length-append, subst, refl, ap, sym, ◌∙◌, arith, ℤ}
 use Rattle.std.specs.Prelude.{nat_lt, nat_le, slice_range, unsigned_abs}
 use Rattle.std.proofs.lemmas.Bool.Decides.{nat_tests}
 use Rattle.std.proofs.lemmas.List.{length-take}
@@ -13,6 +13,7 @@ use Rattle.lt_space.specs.Formula.{Formula}
 use Rattle.lt_space.specs.declared.circuit.Circuit.{Circuit}
 use Rattle.lt_space.specs.declared.circuit.Gate.{Gate}
 use Rattle.lt_space.specs.declared.circuit.Gate.TheVariants as gate
+use Rattle.lt_space.specs.declared.formula.Relation.{Relation}
 use Rattle.lt_solver.specs.Verdict.{chosen, conjoined, differing, disjoined, negated, verdict_of}
 use Rattle.lt_solver.specs.inner.Gates.{IsGate, gate_verdict, verdict_at}
 use Rattle.lt_solver.specs.declared.verdict.Verdict.{Verdict}
@@ -141,3 +142,18 @@ between_terms ts first after h = terms_take (after - first) (drop first ts) (ter
 
 pub between_length : (ts : List Term) (first after : ℕ) → after ≤ first + most_terms → length (slice_range ts first after) ≤ most_terms
 between_length ts first after l = omega (arith, l, length-take (after - first) (drop first ts))
+
+-- a gate that is a comparison
+pub compare_is : (terms ts : List Term) (before : ℕ) (g : Gate) (relation : Relation) (first after : ℕ) (constant : ℤ) → g ≡ gate.Compare relation first after constant → ts ≡ terms → IsTrue (gate_fits (length terms) before g)
+    → (first ≤ after) × (after ≤ length ts) × (after ≤ first + most_terms) × (unsigned_abs constant ≤ most_constant)
+compare_is terms ts before g relation first after constant e same fits =
+    let all = is_gate (length terms) before (gate.Compare relation first after constant) (subst (λ (h : Gate). IsTrue (gate_fits (length terms) before h)) e fits) in
+    (all.0, omega (arith, all.1, ap length same), all.2, all.3)
+
+-- one that is a conjunction
+pub and_is : (terms before : ℕ) (g : Gate) (a b : ℕ) → g ≡ gate.And a b → IsTrue (gate_fits terms before g) → (a < before) × (b < before)
+and_is terms before g a b e fits = is_gate terms before (gate.And a b) (subst (λ (h : Gate). IsTrue (gate_fits terms before h)) e fits)
+
+-- one that is a negation
+pub not_is : (terms before : ℕ) (g : Gate) (a : ℕ) → g ≡ gate.Not a → IsTrue (gate_fits terms before g) → a < before
+not_is terms before g a e fits = is_gate terms before (gate.Not a) (subst (λ (h : Gate). IsTrue (gate_fits terms before h)) e fits)

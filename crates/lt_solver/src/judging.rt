@@ -145,8 +145,8 @@ fn with_constant(span: Span, constant: i64, decimals: u32) -> Span
     }
 }
 
-// A constant on the scale of reals.
-fn scaled(constant: i64, decimals: u32) -> i128
+/// A constant on the scale of reals.
+pub(crate) fn scaled(constant: i64, decimals: u32) -> i128
     requires { decimals ≤ most_decimals }
     ensures value { result ≡ constant *ℤ pos (10 ^ decimals) }
     ensures bound { unsigned_abs result ≤ 2 ^ 95 }
@@ -154,8 +154,8 @@ fn scaled(constant: i64, decimals: u32) -> i128
     i128::from(constant) * i128::from(10u32.pow(decimals))
 }
 
-// The terms from one place to another.
-fn terms_between(terms: &[(u32, i64)], first: u32, after: u32) -> &[(u32, i64)]
+/// The terms from one place to another.
+pub(crate) fn terms_between(terms: &[(u32, i64)], first: u32, after: u32) -> &[(u32, i64)]
     requires order { first ≤ after }
     requires within { after ≤ length terms.now }
     requires few { after ≤ first + most_terms }
