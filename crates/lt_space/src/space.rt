@@ -75,8 +75,9 @@ impl Space {
     }
 
     /// Loads constraints of a table, by their numbers and in the order of a list: their formula is that of the
-    /// constraints joined by `and`. Each expression is evaluated at most once. It needs no memory, and its time
-    /// doesn't depend on the size of the table.
+    /// constraints joined by `and`. Each expression that isn't known is evaluated at most once; one that is known is
+    /// evaluated where it stands, with its parts. It needs no memory, and its time doesn't depend on the size of the
+    /// table.
     ///
     /// The table is that of [`Space::make`], or one with as many expressions, outputs and locals.
     ///
