@@ -1,7 +1,6 @@
 //! The core.
 
 ghost use Rattle.std.specs.Prelude.{◌≡◌, ◌≢◌, ◌<◌, ◌≤◌, ◌+◌, ◌*◌, true, false, None, Some, ℕ, length, map, string_bytes, vec_capacity, IfOk, IsTrue};
-ghost use Rattle.lt_rif.specs.Trace.{IsNamed};
 ghost use Rattle.lt_loop.specs.Codes.{same_slots-prop};
 ghost use Rattle.lt_loop.specs.Machine.{most_steps};
 ghost use Rattle.lt_loop.specs.Plan.{reply_slots};
@@ -494,7 +493,6 @@ impl<M: Machine> Core<M> {
 
     // Ends the run, with an end line of this number.
     fn end(&mut self, end: End, number: u64) -> Option<PieceKind>
-        requires { IsNamed end (length (M.scene self.old.machine).exceptions) }
         ensures out { PutsOut (λ c o. ended (standing self.old).plan end number) result self.new.writer.text.items (standing self.new) }
         ensures waits { result ≡ None → Waits self.new.phase (standing self.new) }
         ensures unstarved { self.new.phase ≢ Phase.Starved }

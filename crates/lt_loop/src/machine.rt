@@ -2,11 +2,9 @@
 
 ghost use Rattle.std.specs.Prelude.{◌≡◌, ◌<◌, ◌≤◌, ◌+◌, ℕ, true, List, Some, map, length, string_bytes};
 ghost use Rattle.lt_num.specs.Bounds.{most_decimals};
-ghost use Rattle.lt_rif.specs.Trace.{IsNamed};
 ghost use Rattle.lt_loop.specs.Machine.{Instant, MayStep, Rules, StepTells, end_of, number_of};
 ghost use Rattle.lt_loop.specs.Scene.{Scene, fit, input_slots};
 ghost use Rattle.lt_loop.specs.SceneView.{variable};
-ghost use Rattle.lt_loop.specs.declared.machine.ScenarioEnd.{ScenarioEnd};
 ghost use Rattle.lt_loop.specs.declared.machine.Outcome.{Outcome};
 
 use crate::var::Var;
@@ -107,7 +105,6 @@ pub trait Machine: Drop {
         requires may { MayStep (rules.made (state self.old)) }
         ensures tells { StepTells (rules.instant (state self.old) inputs.now) result (state self.new) }
         ensures made { (n : ℕ) → result ≡ Outcome.Values → rules.made (state self.old) ≡ Some n → rules.made (state self.new) ≡ Some (n + 1) }
-        ensures named { (e : ScenarioEnd) → result ≡ Outcome.Over e → IsNamed (end_of e) (length (scene self.old).exceptions) }
         ensures scene { scene self.new ≡ scene self.old };
 
     /// The outputs of the last instant, a value for each output of the scenario.

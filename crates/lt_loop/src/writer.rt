@@ -4,7 +4,7 @@ ghost use Rattle.std.specs.Prelude.{◌≡◌, ◌≤◌, ◌+◌, ◌++◌, tru
 ghost use Rattle.lt_num.specs.Bounds.{most_decimals};
 ghost use Rattle.lt_rif.specs.Enough.{names_length};
 ghost use Rattle.lt_rif.specs.Room.{room_for};
-ghost use Rattle.lt_rif.specs.Trace.{declared_variable, end_text, header_text, line_text, step_text, IsNamed};
+ghost use Rattle.lt_rif.specs.Trace.{declared_variable, end_text, header_text, line_text, step_text};
 ghost use Rattle.std.specs.Option.{option_copied};
 ghost use Rattle.lt_loop.specs.Plan.{where_written};
 ghost use Rattle.lt_loop.specs.Scene.{declared_as};
@@ -173,8 +173,7 @@ impl Writer {
         end: End,
         names: &[String],
     )
-        requires named { IsNamed end (length names.now) }
-        requires names { sum_by (λ name. length name) (map string_bytes names.now) ≡ (writing self.old).names }
+        requires { sum_by (λ name. length name) (map string_bytes names.now) ≡ (writing self.old).names }
         ensures is { self.new.text.items ≡ step_in (writing self.old) number outputs.now inputs.now locals.now ++ end_text end (map string_bytes names.now) number }
         ensures same { writing self.new ≡ writing self.old }
     {
@@ -200,8 +199,7 @@ impl Writer {
 
     /// Makes the end line, with this number. Exceptions have these names.
     pub fn make_end(&mut self, end: End, names: &[String], number: u64)
-        requires named { IsNamed end (length names.now) }
-        requires names { sum_by (λ name. length name) (map string_bytes names.now) ≡ (writing self.old).names }
+        requires { sum_by (λ name. length name) (map string_bytes names.now) ≡ (writing self.old).names }
         ensures is { self.new.text.items ≡ end_text end (map string_bytes names.now) number }
         ensures same { writing self.new ≡ writing self.old }
     {

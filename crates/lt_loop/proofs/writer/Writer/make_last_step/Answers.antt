@@ -17,4 +17,4 @@ write_end-requires c =
     let same = ap (λ (text : List ℕ). length text) (step_is w c.args.number c.args.outputs.now c.args.inputs.now c.args.locals.now c.deref.result.now _ c.deref.ensures.value c.where_written-shown.ensures) in
     let wrote = ap (λ (text : List ℕ). length text) c.write_step.ensures.items in
     let empty = ap (λ (text : List ℕ). length text) c.clear.ensures.items in
-    grind (arith, fits, same, wrote, empty, c.write_step.ensures.capacity, c.clear.ensures.len, c.clear.ensures.capacity, c.requires.names, c.args.self.now.has_room, length-append)
+    grind (arith, fits, same, wrote, empty, c.write_step.ensures.capacity, c.clear.ensures.len, c.clear.ensures.capacity, c.requires, c.args.self.now.has_room, length-append)
