@@ -20,6 +20,7 @@ use Rattle.lt_rif.specs.declared.fault.ValueFault.TheVariants as fault
 use Rattle.lt_rif.specs.declared.slot.Slot.{Slot}
 use Rattle.lt_rif.specs.declared.word.WordClass.{WordClass}
 use Rattle.lt_rif.specs.declared.word.WordClass.TheVariants as class
+use Rattle.lt_loop.specs.Fits.{RepliesFit}
 use Rattle.lt_loop.specs.Scene.{fit, may_hold}
 use Rattle.lt_loop.specs.inner.Fitting.{AnswersFit}
 
@@ -125,6 +126,14 @@ reply_fits closed r (last text) values left is =
 reply_fits closed r (word text blank behind ws) values left is =
     word_fits r (after_word r text (blank == 10)) _ r.place _ left values (λ next. reply_in closed next ws) (after_follows r text (blank == 10) r.is_comment refl)
     (λ next found. reply_fits closed next ws values left found) is
+
+-- whole replies of a stream
+pub replies_fit : RepliesFit
+unfolding fit
+replies_fit decimals [] s left values is = let none : [] ≡ values = cc is in subst (λ (vs : List Value). fit [] vs ≡ true) none refl
+replies_fit decimals (slot ∷ slots) s left values is =
+    let fits = reply_fits s.is_closed (beginning decimals (slot ∷ slots) s.place) (words_of [] s.bytes) values left is in
+    subst (λ (vs : List Value). fit (slot ∷ slots) vs ≡ true) (sym fits.1) fits.2
 
 -- ---- readers
 

@@ -23,6 +23,8 @@ pub mod Stands
 pub mod Run
 pub mod Growing
 pub mod Ending
+-- replies that fit their slots
+pub mod Fits
 -- codes by which readings are told apart
 pub mod Codes
 -- the view of a writer

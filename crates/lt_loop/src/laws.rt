@@ -1,6 +1,8 @@
-//! Laws of plays and of whole runs, over the states of any machine. The functions do nothing: their contracts say it.
+//! Laws of replies, of plays and of whole runs, over the states of any machine. The functions do nothing: their contracts
+//! say it.
 
 ghost use Rattle.lt_loop.specs.Ending.{PlaysEnd};
+ghost use Rattle.lt_loop.specs.Fits.{RepliesFit};
 ghost use Rattle.lt_loop.specs.Growing.{PlaysGrow};
 ghost use Rattle.lt_loop.specs.Run.{EndsAreFinal, EventsAreThePlay, FaultsAreCuts, RunsEnd, StepsAreCounted, TurnsGoOn, WantsAreTheStop};
 
@@ -55,3 +57,9 @@ pub fn plays_grow<M: Machine>()
     // A law that the proof needs: replies of open streams stay so.
     replies_grow();
 }
+
+/// A whole reply has a value for each slot that is kept, of the slot's kind and within its range.
+#[tactic(auto, using(crate::proofs::Fittings::replies_fit))]
+pub fn replies_fit()
+    ensures { RepliesFit }
+{}
