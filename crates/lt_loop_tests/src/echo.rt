@@ -84,7 +84,7 @@ impl Machine for Echo {
 
 // A variable whose first value is 5.
 #[tactic(auto, unfolding(lt_loop::specs::Scene::may_hold))]
-fn variable(alloc: Global, name: &str) -> Result<Var, AllocError> {
+pub fn variable(alloc: Global, name: &str) -> Result<Var, AllocError> {
     Ok(Var {
         name: String::from_str(alloc, name)?,
         kind: Kind::Int,

@@ -1,0 +1,135 @@
+-- What happens outside, one thing behind the other.
+use Rattle.std.proofs.Common.{◌≡◌, ℕ, ◌+◌, Bool, true, false, List, [], ◌∷◌, ◌++◌, None, Some, MatchBool, refl, ap, sym, subst, ◌∙◌, append_assoc, append-nil, arith}
+use Rattle.std.proofs.KnownBytes.{Appends-trans, Appends-nil}
+use Rattle.std.specs.Io.KnownBytes.{Appends}
+use Rattle.std.specs.declared.option.Option.{Option}
+use Rattle.lt_io.specs.Causes.{Rose}
+use Rattle.lt_rif.specs.declared.end.Who.{Who}
+use Rattle.lt_loop.specs.Play.{Piece, destination_of, step_count}
+use Rattle.lt_loop.specs.Side.{Rest, bytes_then, unless_closed}
+use Rattle.lt_loop.specs.declared.event.Destination.{Destination}
+use Rattle.lt_loop.specs.declared.event.Destination.TheVariants as destination
+use Rattle.lt_loop.specs.declared.event.PieceKind.TheVariants as piece_kind
+use Rattle.lt_drive.specs.Outside.{Happens, IsReceived, Outside, Received, Sink, bytes_to, faults_of, given_to, has_failed, piece, received_then, silence, text_to}
+
+-- the text of some pieces and of further ones
+pub text_to-append : (d : Destination) (ps qs : List Piece) → text_to d (ps ++ qs) ≡ text_to d ps ++ text_to d qs
+text_to-append d [] qs = refl
+text_to-append d (p ∷ ps) qs =
+    ap (λ (t : List ℕ). bytes_to d (destination_of p.kind) p.bytes ++ t) (text_to-append d ps qs) ∙ sym (append_assoc (bytes_to d (destination_of p.kind) p.bytes) (text_to d ps) (text_to d qs))
+
+-- the steps of some pieces and of further ones
+pub step_count-append : (ps qs : List Piece) → step_count (ps ++ qs) ≡ step_count ps + step_count qs
+step_count-append [] qs = omega arith
+step_count-append (p ∷ ps) qs = let more = step_count-append ps qs in omega (arith, more)
+
+-- what was received, and then more
+abbrev pub both_received : Received → Received → Received
+both_received r q = record { controller = received_then r.controller q.controller; oracle = received_then r.oracle q.oracle }
+
+-- bytes, unless the end came, and then the rest
+received_behind : (bytes : List ℕ) (closed : Bool) (q rest : Rest) →
+    received_then (bytes_then bytes (unless_closed closed q)) rest ≡ bytes_then bytes (unless_closed closed (received_then q rest))
+received_behind bytes true q rest = λ i. record { bytes = append-nil (bytes ++ []) i; is_closed = true }
+received_behind bytes false q rest = λ i. record { bytes = append_assoc bytes q.bytes (unless_closed q.is_closed rest).bytes i; is_closed = (unless_closed q.is_closed rest).is_closed }
+
+pub received_both : (r q rest : Rest) → received_then (received_then r q) rest ≡ received_then r (received_then q rest)
+received_both r q rest = received_behind r.bytes r.is_closed q rest
+
+-- where nothing stands in all, nothing stands behind
+pub no_back : (xs ys : List ℕ) → xs ++ ys ≡ [] → ys ≡ []
+no_back [] ys e = e
+no_back (x ∷ xs) ys e = absurd (cc e)
+
+-- what was received of told bytes, and then more
+told_both : (bytes x y z : List ℕ) (closed : Bool) (q : Rest) → (x ≡ bytes ++ y) × (closed ≡ true → y ≡ []) → (y ≡ q.bytes ++ z) × (q.is_closed ≡ true → z ≡ []) →
+    IsReceived (Some x) (Some z) (bytes_then bytes (unless_closed closed q))
+told_both bytes x y z true q first second =
+    let none : q.bytes ++ z ≡ [] = sym second.0 ∙ first.1 refl in
+    let last : z ≡ [] = no_back q.bytes z none in
+    let over : (bytes ++ []) ++ z ≡ bytes ++ [] = ap (λ (t : List ℕ). (bytes ++ []) ++ t) last ∙ append-nil (bytes ++ []) in
+    (first.0 ∙ ap (λ (t : List ℕ). bytes ++ t) (first.1 refl) ∙ sym over, λ _. last)
+told_both bytes x y z false q first second = (first.0 ∙ ap (λ (t : List ℕ). bytes ++ t) second.0 ∙ sym (append_assoc bytes q.bytes z), second.1)
+
+is_received_both : (a b c : Option (List ℕ)) (r q : Rest) → IsReceived a b r → IsReceived b c q → IsReceived a c (received_then r q)
+is_received_both None b c r q first second = tt
+is_received_both (Some x) None c r q first second = absurd first
+is_received_both (Some x) (Some y) None r q first second = absurd second
+is_received_both (Some x) (Some y) (Some z) r q first second = told_both r.bytes x y z r.is_closed q first second
+
+-- who didn't fail has no new fault
+calm_at : (d : Destination) (before now : ℕ) → MatchBool (has_failed d None false) (Rose before now) (now ≡ before) → now ≡ before
+calm_at destination.Controller before now h = h
+calm_at destination.Oracle before now h = h
+calm_at destination.Trace before now h = h
+
+blamed_both : (failed : Bool) (x y z : ℕ) → y ≡ x → MatchBool failed (Rose y z) (z ≡ y) → MatchBool failed (Rose x z) (z ≡ x)
+blamed_both failed x y z same h = subst (λ (n : ℕ). MatchBool failed (Rose n z) (z ≡ n)) same h
+
+-- what happened, and then more
+pub happens_both : (old mid new : Outside) (r q : Received) (ps qs : List Piece) (fault : Option Who) (trace : Bool) →
+    Happens old mid r ps None false → Happens mid new q qs fault trace → Happens old new (both_received r q) (ps ++ qs) fault trace
+happens_both old mid new r q ps qs fault trace first second = record {
+  controller = is_received_both old.controller.left mid.controller.left new.controller.left r.controller q.controller first.controller second.controller;
+  oracle = is_received_both old.oracle.left mid.oracle.left new.oracle.left r.oracle q.oracle first.oracle second.oracle;
+  gives = λ d. subst (λ (t : List ℕ). Appends (given_to d old) (given_to d new) t) (sym (text_to-append d ps qs)) (Appends-trans (given_to d old) (given_to d mid) (given_to d new) (text_to d ps) (text_to d qs) (first.gives d) (second.gives d));
+  blames = λ d. blamed_both (has_failed d fault trace) (faults_of d old) (faults_of d mid) (faults_of d new) (calm_at d (faults_of d old) (faults_of d mid) (first.blames d)) (second.blames d);
+}
+
+-- nothing of told bytes was received
+pub nothing_received : (a : Option (List ℕ)) → IsReceived a a (silence.controller)
+nothing_received None = tt
+nothing_received (Some x) = (refl, λ e. absurd (cc e))
+
+-- nothing happened
+pub nothing_happens : (old : Outside) → Happens old old silence [] None false
+nothing_happens old = record {
+  controller = nothing_received old.controller.left;
+  oracle = nothing_received old.oracle.left;
+  gives = λ d. Appends-nil (given_to d old);
+  blames = elim [ destination.Controller ↦ refl | destination.Oracle ↦ refl | destination.Trace ↦ refl ];
+}
+
+-- what a destination is given of an end line
+line_to : (d : Destination) (ps : List Piece) (old mid new : Outside) (fault : Option Who) (trace : Bool) (text : List ℕ) → Appends (given_to d old) (given_to d mid) (text_to d ps) →
+    Appends (given_to d mid) (given_to d new) (bytes_to d destination.Trace text) → Appends (given_to d old) (given_to d new) (text_to d (ps ++ piece piece_kind.EndLine text ∷ []))
+line_to d ps old mid new fault trace text first second =
+    let joined : text_to d (ps ++ piece piece_kind.EndLine text ∷ []) ≡ text_to d ps ++ bytes_to d destination.Trace text =
+    text_to-append d ps (piece piece_kind.EndLine text ∷ []) ∙ ap (λ (t : List ℕ). text_to d ps ++ t) (append-nil (bytes_to d destination.Trace text)) in
+    subst (λ (t : List ℕ). Appends (given_to d old) (given_to d new) t) (sym joined) (Appends-trans (given_to d old) (given_to d mid) (given_to d new) (text_to d ps) (bytes_to d destination.Trace text) first second)
+
+-- an end line was written behind what happened
+pub line_written : (old mid : Outside) (new : Sink) (r : Received) (ps : List Piece) (fault : Option Who) (text : List ℕ) → Happens old mid r ps fault false →
+    Appends mid.trace.written new.written text → new.faults ≡ mid.trace.faults → Happens old (record mid { trace = new }) r (ps ++ piece piece_kind.EndLine text ∷ []) fault false
+line_written old mid new r ps fault text h wrote calm =
+    let after : Outside = record mid { trace = new } in
+    record {
+      controller = h.controller;
+      oracle = h.oracle;
+      gives = elim [
+        | destination.Controller ↦ line_to destination.Controller ps old mid after fault false text (h.gives destination.Controller) (Appends-nil mid.controller.sent)
+        | destination.Oracle ↦ line_to destination.Oracle ps old mid after fault false text (h.gives destination.Oracle) (Appends-nil mid.oracle.sent)
+        | destination.Trace ↦ line_to destination.Trace ps old mid after fault false text (h.gives destination.Trace) wrote
+      ];
+      blames = elim [ destination.Controller ↦ h.blames destination.Controller | destination.Oracle ↦ h.blames destination.Oracle | destination.Trace ↦ calm ∙ h.blames destination.Trace ];
+    }
+
+-- a front of it was written
+pub line_unwritten : (old mid : Outside) (new : Sink) (r : Received) (ps : List Piece) (fault : Option Who) (front : List ℕ) → Happens old mid r ps fault false →
+    Appends mid.trace.written new.written front → Rose mid.trace.faults new.faults → Happens old (record mid { trace = new }) r (ps ++ piece piece_kind.EndLine front ∷ []) fault true
+line_unwritten old mid new r ps fault front h wrote rose =
+    let after : Outside = record mid { trace = new } in
+    record {
+      controller = h.controller;
+      oracle = h.oracle;
+      gives = elim [
+        | destination.Controller ↦ line_to destination.Controller ps old mid after fault false front (h.gives destination.Controller) (Appends-nil mid.controller.sent)
+        | destination.Oracle ↦ line_to destination.Oracle ps old mid after fault false front (h.gives destination.Oracle) (Appends-nil mid.oracle.sent)
+        | destination.Trace ↦ line_to destination.Trace ps old mid after fault false front (h.gives destination.Trace) wrote
+      ];
+      blames = elim [
+        | destination.Controller ↦ h.blames destination.Controller
+        | destination.Oracle ↦ h.blames destination.Oracle
+        | destination.Trace ↦ subst (λ (n : ℕ). Rose n new.faults) (h.blames destination.Trace) rose
+      ];
+    }

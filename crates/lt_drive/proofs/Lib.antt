@@ -1,0 +1,9 @@
+pub mod Happenings
+pub mod LinkReads
+pub mod Ways
+pub mod Sides
+pub mod Telling
+pub mod Receipts
+pub mod Drives
+pub mod Wholes
+mod Unended

@@ -1,0 +1,80 @@
+-- A run that was driven, and then driven on.
+use Rattle.std.proofs.Common.{◌≡◌, ℕ, ◌+◌, true, false, List, [], ◌∷◌, ◌++◌, None, Some, ap, sym, subst, ◌∙◌, append_assoc, arith}
+use Rattle.std.specs.declared.option.Option.{Option}
+use Rattle.lt_rif.specs.declared.end.End.TheVariants as end
+use Rattle.lt_rif.specs.declared.end.Who.{Who}
+use Rattle.lt_loop.specs.Plan.{Plan, closing_text}
+use Rattle.lt_loop.specs.Play.{Piece, Play, step_count}
+use Rattle.lt_loop.specs.Run.{behind_all}
+use Rattle.lt_loop.specs.Side.{Rest}
+use Rattle.lt_loop.specs.Standing.{Standing}
+use Rattle.lt_loop.specs.declared.event.PieceKind.TheVariants as piece_kind
+use Rattle.lt_drive.specs.Drive.{Begins, BeginsUnended, Course, GivesOut, HasPutOut, IsDriven, calm, ended, failed, fault_line, play_on, starved, step_at_hand, unheard, unsent, untraced}
+use Rattle.lt_drive.specs.Outside.{Happens, Outside, Received, piece, received_then}
+use Rattle.lt_drive.specs.declared.driven.Driven.{Driven}
+use Rattle.lt_drive.specs.declared.driven.Driven.TheVariants as driven
+use Rattle.lt_drive.proofs.Happenings.{both_received, happens_both, received_both, step_count-append}
+
+-- behind what was received, and these pieces, stands what is left
+pub record Leads (k : Course) (received : Received) (ps : List Piece) (rest : Course) : Type 0 where
+  pub way : (c o : Rest) → play_on k received c o ≡ behind_all ps (rest.play c o)
+  pub counts : (rest.plan ≡ k.plan) × (rest.written ≡ k.written + step_count ps)
+
+-- some pieces, further ones, and a play
+pub behind_both : (ps qs : List Piece) (play : Play) → behind_all ps (behind_all qs play) ≡ behind_all (ps ++ qs) play
+behind_both ps qs play = λ i. record { pieces = sym (append_assoc ps qs play.pieces) i; stop = play.stop }
+
+module _ (k rest : Course) (r : Received) (ps : List Piece) (leads : Leads k r ps rest) where
+  -- the play on all that was received
+  pub way_both : (q : Received) (c o : Rest) → play_on k (both_received r q) c o ≡ behind_all ps (play_on rest q c o)
+  way_both q c o =
+      ap (λ (x : Rest). k.play x (received_then (received_then r.oracle q.oracle) o)) (received_both r.controller q.controller c)
+      ∙ ap (k.play (received_then r.controller (received_then q.controller c))) (received_both r.oracle q.oracle o)
+      ∙ leads.way (received_then q.controller c) (received_then q.oracle o)
+
+  pub begins_both : (q : Received) (qs : List Piece) → Begins rest q qs → Begins k (both_received r q) (ps ++ qs)
+  begins_both q qs begins c o =
+      let more = begins c o in
+      (more.0, way_both q c o ∙ ap (behind_all ps) more.1 ∙ behind_both ps qs more.0)
+
+  begins_unended_both : (q : Received) (qs : List Piece) → BeginsUnended rest q qs → BeginsUnended k (both_received r q) (ps ++ qs)
+  begins_unended_both q qs begins c o =
+      let more = begins c o in
+      (more.0, way_both q c o ∙ ap (behind_all ps) more.1 ∙ behind_both ps qs more.0, more.2)
+
+  -- the steps of all pieces
+  steps_both : (qs : List Piece) → rest.written + step_count qs ≡ k.written + step_count (ps ++ qs)
+  steps_both qs = omega (arith, leads.counts.1, step_count-append ps qs)
+
+  line_both : (qs : List Piece) (w : Who) → fault_line rest qs w ≡ fault_line k (ps ++ qs) w
+  line_both qs w =
+      ap (λ (plan : Plan). piece piece_kind.EndLine (closing_text plan (end.Device w) (rest.written + step_count qs + 1))) leads.counts.0
+      ∙ ap (λ (n : ℕ). piece piece_kind.EndLine (closing_text k.plan (end.Device w) (n + 1))) (steps_both qs)
+
+  gives_both : (q : Received) (given : List Piece) (fault : Option Who) → GivesOut rest q given fault → GivesOut k (both_received r q) (ps ++ given) fault
+  gives_both q given _ (calm begins) = calm (begins_both q given begins)
+  gives_both q given _ (unheard w qs begins is) = unheard w (ps ++ qs) (begins_both q qs begins)
+      (ap (λ (t : List Piece). ps ++ t) is ∙ ap (λ (p : Piece). ps ++ (qs ++ p ∷ [])) (line_both qs w) ∙ sym (append_assoc ps qs (fault_line k (ps ++ qs) w ∷ [])))
+  gives_both q given _ (unsent w qs kind front back goes begins is) = unsent w (ps ++ qs) kind front back goes
+      (subst (Begins k (both_received r q)) (sym (append_assoc ps qs (piece kind (front ++ back) ∷ []))) (begins_both q (qs ++ piece kind (front ++ back) ∷ []) begins))
+      (ap (λ (t : List Piece). ps ++ t) is ∙ ap (λ (p : Piece). ps ++ (qs ++ piece kind front ∷ p ∷ [])) (line_both qs w) ∙ sym (append_assoc ps qs (piece kind front ∷ fault_line k (ps ++ qs) w ∷ [])))
+
+  module _ {State : Type 0} where
+    pub counts_both : (qs : List Piece) (core : Standing State) → HasPutOut rest qs core → HasPutOut k (ps ++ qs) core
+    counts_both qs core counts = (counts.0 ∙ leads.counts.0, counts.1 ∙ steps_both qs)
+
+    -- it was driven up to what is left, and that was driven
+    pub driven_both : (old mid new : Outside) (core : Standing State) (d : Driven) → Happens old mid r ps None false → IsDriven rest mid new core d → IsDriven k old new core d
+    driven_both old mid new core _ first (ended q qs e whole happens counts over) =
+        ended (both_received r q) (ps ++ qs) e (λ c o. way_both q c o ∙ ap (behind_all ps) (whole c o)) (happens_both old mid new r q ps qs None false first happens) (counts_both qs core counts) over
+    driven_both old mid new core _ first (failed q given w gives happens counts over) =
+        failed (both_received r q) (ps ++ given) w (gives_both q given (Some w) gives) (happens_both old mid new r q ps given (Some w) false first happens) (counts_both given core counts) over
+    driven_both old mid new core _ first (starved q qs begins happens counts fault) =
+        starved (both_received r q) (ps ++ qs) (begins_unended_both q qs begins) (happens_both old mid new r q ps qs None false first happens) (counts_both qs core counts) fault
+    driven_both old mid new core _ first (untraced q fault given kind front back gives goes some happens counts) =
+        subst (λ (n : ℕ). IsDriven k old new core (driven.Untraced (step_at_hand kind n))) (sym (steps_both given))
+        (untraced (both_received r q) fault (ps ++ given) kind front back
+        (subst (λ (t : List Piece). GivesOut k (both_received r q) t fault) (sym (append_assoc ps given (piece kind (front ++ back) ∷ []))) (gives_both q (given ++ piece kind (front ++ back) ∷ []) fault gives))
+        goes some
+        (subst (λ (t : List Piece). Happens old new (both_received r q) t fault true) (sym (append_assoc ps given (piece kind front ∷ []))) (happens_both old mid new r q ps (given ++ piece kind front ∷ []) fault true first happens))
+        (subst (λ (t : List Piece). HasPutOut k t core) (sym (append_assoc ps given (piece kind front ∷ []))) (counts_both (given ++ piece kind front ∷ []) core counts)))

@@ -1,0 +1,110 @@
+-- What is outside a run: what is known of it at one moment, and what happens there between two.
+use Rattle.std.specs.Prelude.{◌≡◌, ℕ, Bool, true, false, List, [], ◌∷◌, ◌++◌, None, Some, MatchBool}
+use Rattle.std.specs.Io.KnownBytes.{Appends}
+use Rattle.std.specs.declared.option.Option.{Option}
+use Rattle.lt_io.specs.Causes.{Rose}
+use Rattle.lt_loop.specs.Play.{Piece, destination_of}
+use Rattle.lt_loop.specs.Side.{Rest, bytes_then, silent, unless_closed}
+use Rattle.lt_loop.specs.declared.event.Destination.{Destination}
+use Rattle.lt_loop.specs.declared.event.Destination.TheVariants as destination
+use Rattle.lt_loop.specs.declared.event.PieceKind.{PieceKind}
+use Rattle.lt_rif.specs.declared.end.Who.{Who}
+use Rattle.lt_rif.specs.declared.end.Who.TheVariants as who
+
+-- a link: the bytes that it was sent and those that it has left, where they are told, and the faults counted
+pub record Link : Type 0 where
+  pub sent : Option (List ℕ)
+  pub left : Option (List ℕ)
+  pub faults : ℕ
+
+abbrev pub link : Option (List ℕ) → Option (List ℕ) → ℕ → Link
+link sent left faults = record { sent = sent; left = left; faults = faults }
+
+-- a sink: the bytes written, where they are told, and the faults counted
+pub record Sink : Type 0 where
+  pub written : Option (List ℕ)
+  pub faults : ℕ
+
+abbrev pub sink : Option (List ℕ) → ℕ → Sink
+sink written faults = record { written = written; faults = faults }
+
+-- the links of the controller and of the oracle, and the trace
+pub record Outside : Type 0 where
+  pub controller : Link
+  pub oracle : Link
+  pub trace : Sink
+
+-- where pieces for a side go
+abbrev pub side : Who → Destination
+side who.Controller = destination.Controller
+side who.Oracle = destination.Oracle
+
+-- the bytes that a destination was given, where they are told
+abbrev pub given_to : Destination → Outside → Option (List ℕ)
+given_to destination.Controller outside = outside.controller.sent
+given_to destination.Oracle outside = outside.oracle.sent
+given_to destination.Trace outside = outside.trace.written
+
+-- how many faults of it were counted
+abbrev pub faults_of : Destination → Outside → ℕ
+faults_of destination.Controller outside = outside.controller.faults
+faults_of destination.Oracle outside = outside.oracle.faults
+faults_of destination.Trace outside = outside.trace.faults
+
+-- a piece of this kind
+abbrev pub piece : PieceKind → List ℕ → Piece
+piece kind bytes = record { kind = kind; bytes = bytes }
+
+-- what a destination is given of bytes that go to the second one
+abbrev pub bytes_to : Destination → Destination → List ℕ → List ℕ
+bytes_to destination.Controller destination.Controller bytes = bytes
+bytes_to destination.Oracle destination.Oracle bytes = bytes
+bytes_to destination.Trace destination.Trace bytes = bytes
+bytes_to _ _ bytes = []
+
+-- what it is given of some pieces: the bytes of those that go there, one behind the other
+abbrev pub text_to : Destination → List Piece → List ℕ
+text_to d [] = []
+text_to d (p ∷ ps) = bytes_to d (destination_of p.kind) p.bytes ++ text_to d ps
+
+-- what was received of a stream, and then the rest, of which nothing comes where the end was received
+abbrev pub received_then : Rest → Rest → Rest
+received_then received rest = bytes_then received.bytes (unless_closed received.is_closed rest)
+
+-- what was received of the two sides: bytes, and the end where that came
+pub record Received : Type 0 where
+  pub controller : Rest
+  pub oracle : Rest
+
+-- nothing was received
+abbrev pub silence : Received
+silence = record { controller = silent; oracle = silent }
+
+-- Of a link that tells its bytes, those received were the next ones, and the end came where none was left.
+abbrev pub IsReceived : Option (List ℕ) → Option (List ℕ) → Rest → Type 0
+IsReceived None now received = Unit {0}
+IsReceived (Some bytes) None received = ⊥
+IsReceived (Some bytes) (Some rest) received = (bytes ≡ received.bytes ++ rest) × (received.is_closed ≡ true → rest ≡ [])
+
+-- whether it was this side that failed, if one did
+abbrev pub is_fault_of : Who → Option Who → Bool
+is_fault_of who.Controller (Some who.Controller) = true
+is_fault_of who.Oracle (Some who.Oracle) = true
+is_fault_of w fault = false
+
+-- whether a destination failed, where this side did, if one did, and the trace or not
+abbrev pub has_failed : Destination → Option Who → Bool → Bool
+has_failed destination.Controller fault trace = is_fault_of who.Controller fault
+has_failed destination.Oracle fault trace = is_fault_of who.Oracle fault
+has_failed destination.Trace fault trace = trace
+
+-- What happened between two moments: what was received of the sides, the pieces that were given out, the side that
+-- failed, if one did, and whether the trace failed.
+pub record Happens (old new : Outside) (received : Received) (ps : List Piece) (fault : Option Who) (trace : Bool) : Type 0 where
+  -- the bytes came from the links
+  pub controller : IsReceived old.controller.left new.controller.left received.controller
+  pub oracle : IsReceived old.oracle.left new.oracle.left received.oracle
+  -- each destination was given the bytes of the pieces that go there, where it tells what it was given
+  pub gives : (d : Destination) → Appends (given_to d old) (given_to d new) (text_to d ps)
+  -- its count of faults rose exactly where it failed
+  pub blames : (d : Destination) → MatchBool (has_failed d fault trace) (Rose (faults_of d old) (faults_of d new)) (faults_of d new ≡ faults_of d old)

@@ -1,0 +1,4 @@
+pub mod Headers
+pub mod Shown
+pub mod Reading
+pub mod Replaying

@@ -1,0 +1,2 @@
+-- runs that are played again from their own trace
+pub mod Replay

@@ -1,0 +1,50 @@
+-- What links give, and how many faults are counted where they are opened and closed.
+use Rattle.std.proofs.Common.{◌≡◌, ◌<◌, ◌≤◌, ℕ, List, Some, ap, sym, subst, ◌∙◌, arith}
+use Rattle.lt_io.specs.Causes.{Rose}
+use Rattle.lt_io.specs.Spawning.{Starts}
+use Rattle.lt_drive.specs.Outside.{Link}
+use Rattle.lt_session.specs.Programs.{Programs}
+use Rattle.lt_session.specs.Session.{Closes, Opens, Origin, nobody, recorded, program}
+use Rattle.lt_session.specs.Whole.{AreApart, Gives}
+
+-- ---- what they give
+
+-- a link has left what is told to come of its origin
+pub left_by : (origin : Origin) (old new : Programs) (l : Link) (bytes : List ℕ) → Opens origin old new l → Gives origin old bytes → l.left ≡ Some bytes
+left_by nobody old new l bytes opens gives = ap (λ (x : Link). x.left) opens.1 ∙ ap Some (sym gives)
+left_by (recorded given) old new l bytes opens gives = ap (λ (x : Link). x.left) opens.1 ∙ ap Some (sym gives)
+left_by (program command) old new l bytes opens gives = (subst (λ x. Starts x (new.coming command) l.left) gives.1 opens.first).0
+
+-- opening the controller changes nothing of what is told to come of the oracle
+pub still_gives : (controller oracle : Origin) (old new : Programs) (l : Link) (bytes : List ℕ) → AreApart controller oracle → Opens controller old new l → Gives oracle old bytes → Gives oracle new bytes
+still_gives controller nobody old new l bytes apart opens gives = gives
+still_gives controller (recorded given) old new l bytes apart opens gives = gives
+still_gives nobody (program o) old new l bytes apart opens gives = (gives.0, opens.0.coming o ∙ gives.1)
+still_gives (recorded given) (program o) old new l bytes apart opens gives = (gives.0, opens.0.coming o ∙ gives.1)
+still_gives (program c) (program o) old new l bytes apart opens gives = (gives.0, opens.others o (λ e. apart (sym e)) ∙ gives.1)
+
+-- a link that was opened has no fault
+pub faultless : (origin : Origin) (old new : Programs) (l : Link) → Opens origin old new l → l.faults ≡ 0
+faultless nobody old new l opens = ap (λ (x : Link). x.faults) opens.1
+faultless (recorded bytes) old new l opens = ap (λ (x : Link). x.faults) opens.1
+faultless (program command) old new l opens = opens.faultless
+
+-- ---- counts of faults
+
+-- opening a side counts none
+pub opened_calm : (origin : Origin) (old new : Programs) (l : Link) → Opens origin old new l → new.faults ≡ old.faults
+opened_calm nobody old new l opens = opens.0.faults
+opened_calm (recorded bytes) old new l opens = opens.0.faults
+opened_calm (program command) old new l opens = opens.faults
+
+-- closing one takes none away
+pub closed_later : (origin : Origin) (old new : Programs) (l : Link) → Closes origin old new l → old.faults ≤ new.faults
+closed_later nobody old new l closes = omega (arith, closes.0.faults)
+closed_later (recorded bytes) old new l closes = omega (arith, closes.0.faults)
+closed_later (program command) old new l closes = closes.later
+
+-- closing one whose link has a fault raises the count
+pub closed_rose : (origin : Origin) (old new : Programs) (l : Link) → Closes origin old new l → 0 < l.faults → Rose old.faults new.faults
+closed_rose nobody old new l closes some = absurd (omega (arith, closes.1))
+closed_rose (recorded bytes) old new l closes some = absurd (omega (arith, closes.1))
+closed_rose (program command) old new l closes some = omega (arith, closes.adds)

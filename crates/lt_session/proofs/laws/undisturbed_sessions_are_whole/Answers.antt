@@ -1,0 +1,59 @@
+-- What is told of the sides is what their links have left, and no side's count rose.
+use Rattle.std.proofs.Common.{◌≡◌, ◌≢◌, ℕ, ◌+◌, List, refl, subst}
+use Rattle.std.specs.Io.KnownBytes.{Appends}
+use Rattle.lt_io.specs.Causes.{Rose}
+use Rattle.lt_rif.specs.declared.end.End.{End}
+use Rattle.lt_rif.specs.declared.end.End.TheVariants as end
+use Rattle.lt_rif.specs.declared.end.Who.{Who}
+use Rattle.lt_rif.specs.declared.end.Who.TheVariants as who
+use Rattle.lt_loop.specs.Play.{ends, step_count}
+use Rattle.lt_loop.specs.Standing.{Standing}
+use Rattle.lt_loop.specs.declared.event.Destination.TheVariants as destination
+use Rattle.lt_drive.specs.Drive.{Course, IsDriven}
+use Rattle.lt_drive.specs.Outside.{faults_of, side, text_to}
+use Rattle.lt_drive.specs.Outside as driving
+use Rattle.lt_drive.specs.Told.{UndisturbedRunsAreWhole, closed}
+use Rattle.lt_drive.specs.declared.driven.Driven.{Driven}
+use Rattle.lt_drive.specs.declared.driven.Driven.TheVariants as driven
+use Rattle.lt_session.specs.Session.{IsPlayed, Origin, Outside, between}
+use Rattle.lt_session.specs.Session as session
+use Rattle.lt_session.specs.Whole.{AreApart, Gives, UndisturbedSessionsAreWhole}
+use Rattle.lt_session.specs.declared.played.Played.{Played}
+use Rattle.lt_session.specs.declared.played.Played.TheVariants as played
+use Rattle.lt_session.proofs.Drives.{ended_calm, none_rose}
+use Rattle.lt_session.proofs.Links.{faultless, left_by, still_gives}
+use Rattle.lt_session.proofs.laws.undisturbed_sessions_are_whole.Goals as goal
+
+-- no count of links without a fault rose
+none_risen : (old new : driving.Outside) → old.controller.faults ≡ 0 → old.oracle.faults ≡ 0 → ((w : Who) → faults_of (side w) new ≡ faults_of (side w) old) →
+    (w : Who) → Rose (faults_of (side w) old) (faults_of (side w) new) → ⊥
+none_risen old new c o same who.Controller rose = none_rose old.controller.faults new.controller.faults (same who.Controller) c rose
+none_risen old new c o same who.Oracle rose = none_rose old.oracle.faults new.oracle.faults (same who.Oracle) o rose
+
+module _ {State : Type 0} (law : UndisturbedRunsAreWhole State) (k : Course) (controller oracle : Origin) (old new : Outside) (core : Standing State) (e : End) (c o : List ℕ) where
+  whole_by : (how : Played) → IsPlayed k controller oracle old new core how → how ≡ played.Driven (driven.Ended e) → ((w : Who) → e ≢ end.Device w) →
+      AreApart controller oracle → Gives controller old.programs c → Gives oracle old.programs o →
+      ((k.play (closed c) (closed o)).stop ≡ ends e) × Appends old.trace.written new.trace.written (text_to destination.Trace (k.play (closed c) (closed o)).pieces)
+      × (core.written ≡ k.written + step_count (k.play (closed c) (closed o)).pieces)
+  whole_by _ (session.driven l l' m m' p q r how opens opened drove closes closed_later) is calm apart gives_c gives_o =
+      let before = between l m old.trace in
+      let after = between l' m' new.trace in
+      let how_is : how ≡ driven.Ended e = cc is in
+      let drove_so = subst (λ (d : Driven). IsDriven k before after core d) how_is drove in
+      let same = ended_calm k before after core how e drove how_is calm in
+      let whole = law k before after core e c o drove_so
+      (left_by controller old.programs p l c opens gives_c)
+      (left_by oracle p q m o opened (still_gives controller oracle old.programs p l o apart opens gives_o))
+      (none_risen before after (faultless controller old.programs p l opens) (faultless oracle p q m opened) same) in
+      (whole.stop, whole.gives destination.Trace, whole.steps)
+  whole_by _ (session.no_controller command why unstarted trace_is) is calm apart gives_c gives_o = absurd (cc is)
+  whole_by _ (session.no_oracle command l p q why opens unstarted closes trace_is) is calm apart gives_c gives_o = absurd (cc is)
+  whole_by _ (session.memory_at_first same trace_is) is calm apart gives_c gives_o = absurd (cc is)
+  whole_by _ (session.memory_later l p q opens same closes trace_is) is calm apart gives_c gives_o = absurd (cc is)
+
+wholes : {State : Type 0} → UndisturbedRunsAreWhole State → UndisturbedSessionsAreWhole State
+wholes law k controller oracle old new core e c o plays calm apart gives_c gives_o =
+    whole_by law k controller oracle old new core e c o (played.Driven (driven.Ended e)) plays refl calm apart gives_c gives_o
+
+pub returns : goal.returns
+returns g c = wholes c.undisturbed_runs_are_whole.ensures

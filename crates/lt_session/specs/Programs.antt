@@ -1,0 +1,55 @@
+-- Programs that are started and finished beside a run.
+use Rattle.std.specs.Prelude.{◌≡◌, ◌≢◌, ◌≤◌, ℕ, List, [], ◌∷◌, ◌++◌}
+use Rattle.std.specs.declared.option.Option.{Option}
+use Rattle.lt_io.specs.Causes.{Rose, WhereTold}
+use Rattle.lt_io.specs.Spawning.{Closed, Closes, Starts, with_more}
+use Rattle.lt_drive.specs.Outside.{Link}
+
+-- what is known of the programs that may be started
+pub record Programs : Type 0 where
+  -- by command, what each link that it will start has left, in the order of the starts, where that is told
+  pub coming : List ℕ → Option (List (List ℕ))
+  -- what the links that were finished leave behind, in turn, where that is told
+  pub closed : Option (List Closed)
+  -- the commands that were asked for
+  pub asked : List (List ℕ)
+  -- the faults counted
+  pub faults : ℕ
+
+-- nothing changed
+pub record Same (old new : Programs) : Type 0 where
+  pub coming : (command : List ℕ) → new.coming command ≡ old.coming command
+  pub closed : new.closed ≡ old.closed
+  pub asked : new.asked ≡ old.asked
+  pub faults : new.faults ≡ old.faults
+
+-- A program was started by its command, and this is its link.
+pub record IsStarted (command : List ℕ) (old new : Programs) (link : Link) : Type 0 where
+  -- it is the first link that was to come by the command, and nothing else changed of what is to come
+  pub first : Starts (old.coming command) (new.coming command) link.left
+  pub others : (other : List ℕ) → other ≢ command → new.coming other ≡ old.coming other
+  -- it was sent nothing, and has no fault
+  pub unsent : WhereTold link.sent (λ bytes. bytes ≡ [])
+  pub faultless : link.faults ≡ 0
+  -- the command was asked for, and nothing else happened
+  pub asked : new.asked ≡ old.asked ++ command ∷ []
+  pub closed : new.closed ≡ old.closed
+  pub faults : new.faults ≡ old.faults
+
+-- A program was asked for by its command and could not be started, which was counted.
+pub record IsUnstarted (command : List ℕ) (old new : Programs) : Type 0 where
+  pub asked : new.asked ≡ old.asked ++ command ∷ []
+  pub rose : Rose old.faults new.faults
+  pub later : old.faults ≤ new.faults
+  pub coming : (other : List ℕ) → new.coming other ≡ old.coming other
+  pub closed : new.closed ≡ old.closed
+
+-- A link was given back, and its program finished.
+pub record IsFinished (old new : Programs) (link : Link) : Type 0 where
+  -- what it was sent and its faults are the last entry of those that were finished
+  pub closes : Closes old.closed new.closed (record { sent = link.sent; faults = link.faults })
+  -- its faults were added; those of its end may have been too
+  pub adds : with_more old.faults link.faults ≤ new.faults
+  pub later : old.faults ≤ new.faults
+  pub coming : (command : List ℕ) → new.coming command ≡ old.coming command
+  pub asked : new.asked ≡ old.asked
