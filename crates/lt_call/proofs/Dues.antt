@@ -1,127 +1,144 @@
 -- One answer is due to a request and the contents of its files.
-use Rattle.std.proofs.Common.{◌≡◌, ◌≢◌, ℕ, ◌<◌, ◌≤◌, ◌⊎◌, inl, inr, Bool, true, false, nat_le, List, [], ◌∷◌, Option, None, Some, length, refl, ap, sym, ◌∙◌, arith, leb-true}
-use Rattle.std.proofs.lemmas.Bool.{leb-false}
-use Rattle.lt_ast.specs.Syntax.{Declaration}
-use Rattle.lt_expand.specs.Refusals.{refusals_of}
-use Rattle.lt_expand.specs.Scenes.{scene_of}
-use Rattle.lt_expand.specs.declared.refusal.ExpandRefusal.{ExpandRefusal}
-use Rattle.lt_macros.specs.Expanded.{Node}
-use Rattle.lt_macros.specs.Expansion.{expanded_node}
-use Rattle.lt_parser.specs.Text.{IsProgramOf, IsRefusal}
-use Rattle.lt_parser.specs.declared.refusal.ParseRefusal.{ParseRefusal}
-use Rattle.lt_term.specs.Scene.{Scene, Variable}
-use Rattle.lt_types.specs.Law.{WellTypedIsUnrefused}
-use Rattle.lt_types.specs.Refusals.{type_refusals}
-use Rattle.lt_types.specs.Typing.{IsWellTyped}
-use Rattle.lt_types.specs.declared.refusal.TypeRefusal.{TypeRefusal}
-use Rattle.lt_call.specs.Due.{Answer, Contents, IsDue, IsSceneOf, Spells, refused, too_long, no_program, ill_typed, not_expanded, no_controller, runs, prints}
+use Rattle.std.proofs.Common.{◌≡◌, ◌≢◌, ℕ, ◌<◌, ◌≤◌, Bool, true, false, nat_le, List, [], ◌∷◌, Option, None, Some, Result, Ok, Err, length, refl, ap, sym, ◌∙◌, arith, leb-true, le-leb}
+use Rattle.std.proofs.lemmas.Bool.{leb-false, lt-leb}
+use Rattle.lt_loop.specs.Stands.{is_served}
+use Rattle.lt_play.specs.Rules.{known_scene}
+use Rattle.lt_prepare.specs.Laws.{TextsHaveOnePrintedAnswer, TextsHaveOneScenarioAnswer}
+use Rattle.lt_prepare.specs.Prepared.{IsPrintedAnswer, IsScenarioAnswer}
+use Rattle.lt_prepare.specs.declared.refusal.Refusal.{Refusal as Reason}
+use Rattle.lt_term.specs.Scene.{Scene}
+use Rattle.lt_words.specs.Settings.{longest_text, longest_replay}
+use Rattle.lt_words.specs.Words.{Request}
+use Rattle.lt_words.specs.declared.words.Mode.{Mode}
+use Rattle.lt_words.specs.declared.words.Mode.TheVariants as mode
+use Rattle.lt_call.specs.Course.{Giver, by_file, by_nobody, by_program, files_of, giver_of, talk_to}
+use Rattle.lt_call.specs.Due.{Answer, Contents, HasScene, HasShortTrace, IsDue, IsServed, IsShort, by_all, by_scenario, refuses, writes, plays, too_long, no_scenario, unserved, long_trace, runs, unprinted, prints}
 use Rattle.lt_call.specs.Laws.{ContentsHaveOneDueAnswer}
-use Rattle.lt_call.specs.Settings.{longest_text}
-use Rattle.lt_call.specs.Words.{Request}
-use Rattle.lt_call.specs.inner.Programs.{fed_answer, scene_answer, node_answer, expanded_answer, typed_answer, mode_answer, program_answer}
 use Rattle.lt_call.specs.declared.status.Refusal.TheVariants as refusal
-use Rattle.lt_call.specs.declared.words.Mode.{Mode}
-use Rattle.lt_call.specs.declared.words.Mode.TheVariants as mode
 
--- each text has a program or a refusal, one alone, and never both
-pub record OneAnswer : Type 0 where
-  pub some : (text : List ℕ) → ((x : List Declaration) × IsProgramOf text x) ⊎ ((reason : ParseRefusal) × IsRefusal text reason)
-  pub one_program : (text : List ℕ) (x y : List Declaration) → IsProgramOf text x → IsProgramOf text y → x ≡ y
-  pub one_refusal : (text : List ℕ) (reason other : ParseRefusal) → IsRefusal text reason → IsRefusal text other → reason ≡ other
-  pub not_both : (text : List ℕ) (x : List Declaration) (reason : ParseRefusal) → IsProgramOf text x → IsRefusal text reason → ⊥
+-- The answer, computed.
+
+-- whether the earlier trace is short, where one is asked for
+abbrev pub is_short : Giver → Contents → Bool
+is_short by_nobody c = true
+is_short (by_program command) c = true
+is_short (by_file name) c = nat_le (length c.replay) longest_replay
+
+-- of a scenario whose inputs are given values, by whether the earlier trace is short
+abbrev pub traced : Request → Bool → Scene → Answer
+traced r true s = by_all r (plays s)
+traced r false s = by_all r (refuses refusal.TooLong)
+
+-- it takes all files that are asked for
+pub traced_files : (r : Request) (short : Bool) (s : Scene) → (traced r short s).files ≡ r.file ∷ files_of (giver_of r)
+traced_files r true s = refl
+traced_files r false s = refl
+
+-- of a scenario, by whether its inputs are given values
+abbrev served : Request → Contents → Bool → Scene → Answer
+served r c true s = traced r (is_short (giver_of r) c) s
+served r c false s = by_scenario r (refuses refusal.NeedsController)
+
+-- whether they are
+abbrev are_given : Request → Scene → Bool
+are_given r s = is_served (talk_to (giver_of r)) (known_scene s)
+
+-- of what a text has as a scenario
+abbrev of_scene : Request → Contents → Result Scene Reason → Answer
+of_scene r c (Ok s) = served r c (are_given r s) s
+of_scene r c (Err reason) = by_scenario r (refuses (refusal.Scenario reason))
+
+-- of what it has in print
+abbrev of_print : Request → Result (List ℕ) Reason → Answer
+of_print r (Ok text) = by_scenario r (writes text)
+of_print r (Err reason) = by_scenario r (refuses (refusal.Scenario reason))
 
 -- There is one.
-
-fed_due : (r : Request) (c : Contents) (program : List Declaration) (s : Scene) (inputs : List Variable) → s.inputs ≡ inputs → r.mode ≡ mode.Run → Spells c program → IsSceneOf r program s → IsDue r c (fed_answer r s inputs)
-fed_due r c program s [] e run spells is = runs program s run spells is e
-fed_due r c program s (v ∷ vs) e run spells is = no_controller program s run spells is (λ none. let both : v ∷ vs ≡ [] = sym e ∙ none in cc both)
-
-node_due : (r : Request) (c : Contents) (program : List Declaration) (asked : Option Node) (rs : List ExpandRefusal) → expanded_node r.decimals r.node program ≡ asked → refusals_of r.decimals asked ≡ rs → r.mode ≡ mode.Run → Spells c program → IsWellTyped r.decimals program → IsDue r c (node_answer r asked rs)
-node_due r c program asked (reason ∷ others) e f run spells typed = not_expanded program reason run spells typed (others, ap (refusals_of r.decimals) e ∙ f)
-node_due r c program (Some node) [] e f run spells typed = fed_due r c program (scene_of r.decimals node) (scene_of r.decimals node).inputs refl run spells (typed, ap (refusals_of r.decimals) e ∙ f, (node, e, refl))
-node_due r c program None [] e f run spells typed = absurd (cc)
-
-typed_due : WellTypedIsUnrefused → (r : Request) (c : Contents) (program : List Declaration) (rs : List TypeRefusal) → type_refusals r.decimals program ≡ rs → r.mode ≡ mode.Run → Spells c program → IsDue r c (typed_answer r program rs)
-typed_due law r c program [] e run spells =
-    let asked : Option Node = expanded_node r.decimals r.node program in
-    node_due r c program asked (refusals_of r.decimals asked) refl refl run spells ((law r.decimals program).1 e)
-typed_due law r c program (reason ∷ others) e run spells = ill_typed program reason run spells (others, e)
-
-mode_due : WellTypedIsUnrefused → (r : Request) (c : Contents) (program : List Declaration) (m : Mode) → r.mode ≡ m → Spells c program → IsDue r c (mode_answer m r program)
-mode_due law r c program mode.Run e spells = typed_due law r c program (type_refusals r.decimals program) refl e spells
-mode_due law r c program mode.Print e spells = prints program e spells
-
--- that of a program which the file spells
-pub program_due : WellTypedIsUnrefused → (r : Request) (c : Contents) (program : List Declaration) → Spells c program → IsDue r c (program_answer r program)
-program_due law r c program spells = mode_due law r c program r.mode refl spells
 
 -- some answer is due
 abbrev HasDue : Request → Contents → Type 0
 HasDue r c = (answer : Answer) × IsDue r c answer
 
-text_due : WellTypedIsUnrefused → (r : Request) (c : Contents) → length c.scenario ≤ longest_text → ((x : List Declaration) × IsProgramOf c.scenario x) ⊎ ((reason : ParseRefusal) × IsRefusal c.scenario reason) → HasDue r c
-text_due law r c short (inl h) = (program_answer r h.0, program_due law r c h.0 (short, h.1))
-text_due law r c short (inr h) = (refused (refusal.Text h.0), no_program h.0 short h.1)
+short_trace : (g : Giver) (c : Contents) → is_short g c ≡ true → HasShortTrace g c
+short_trace by_nobody c e = tt
+short_trace (by_program command) c e = tt
+short_trace (by_file name) c e = leb-true (length c.replay) longest_replay e
 
-file_due : WellTypedIsUnrefused → OneAnswer → (r : Request) (c : Contents) (is : Bool) → nat_le (length c.scenario) longest_text ≡ is → HasDue r c
-file_due law texts r c true e = text_due law r c (leb-true (length c.scenario) longest_text e) (texts.some c.scenario)
-file_due law texts r c false e = (refused refusal.TooLong, too_long (leb-false (length c.scenario) longest_text e))
+-- an earlier trace that isn't short is one
+pub long_file : (g : Giver) (c : Contents) → is_short g c ≡ false → (name : List ℕ) × (g ≡ by_file name) × (longest_replay < length c.replay)
+long_file by_nobody c e = absurd (cc)
+long_file (by_program command) c e = absurd (cc)
+long_file (by_file name) c e = (name, refl, leb-false (length c.replay) longest_replay e)
 
-pub due : WellTypedIsUnrefused → OneAnswer → (r : Request) (c : Contents) → HasDue r c
-due law texts r c = file_due law texts r c (nat_le (length c.scenario) longest_text) refl
+pub traced_due : (r : Request) (c : Contents) (s : Scene) (short : Bool) → is_short (giver_of r) c ≡ short → r.mode ≡ mode.Run → IsShort c → HasScene r c s → IsServed r s → IsDue r c (traced r short s)
+traced_due r c s true e run fits has given = runs s run fits has given (short_trace (giver_of r) c e)
+traced_due r c s false e run fits has given = let file = long_file (giver_of r) c e in long_trace s file.0 run fits has given file.1 file.2
+
+served_due : (r : Request) (c : Contents) (s : Scene) (given : Bool) → are_given r s ≡ given → r.mode ≡ mode.Run → IsShort c → HasScene r c s → IsDue r c (served r c given s)
+served_due r c s true e run fits has = traced_due r c s (is_short (giver_of r) c) refl run fits has e
+served_due r c s false e run fits has = unserved s run fits has e
+
+scene_due : (r : Request) (c : Contents) (x : Result Scene Reason) → r.mode ≡ mode.Run → IsShort c → IsScenarioAnswer r.decimals r.node c.scenario x → IsDue r c (of_scene r c x)
+scene_due r c (Ok s) run fits is = served_due r c s (are_given r s) refl run fits is
+scene_due r c (Err reason) run fits is = no_scenario reason run fits is
+
+print_due : (r : Request) (c : Contents) (x : Result (List ℕ) Reason) → r.mode ≡ mode.Print → IsShort c → IsPrintedAnswer c.scenario x → IsDue r c (of_print r x)
+print_due r c (Ok text) print fits is = prints text print fits is
+print_due r c (Err reason) print fits is = unprinted reason print fits is
+
+mode_due : TextsHaveOneScenarioAnswer → TextsHaveOnePrintedAnswer → (r : Request) (c : Contents) (m : Mode) → r.mode ≡ m → IsShort c → HasDue r c
+mode_due scenes texts r c mode.Run e fits = let x = (scenes r.decimals r.node c.scenario).0 in (of_scene r c x.0, scene_due r c x.0 e fits x.1)
+mode_due scenes texts r c mode.Print e fits = let x = (texts c.scenario).0 in (of_print r x.0, print_due r c x.0 e fits x.1)
+
+file_due : TextsHaveOneScenarioAnswer → TextsHaveOnePrintedAnswer → (r : Request) (c : Contents) (is : Bool) → nat_le (length c.scenario) longest_text ≡ is → HasDue r c
+file_due scenes texts r c true e = mode_due scenes texts r c r.mode refl (leb-true (length c.scenario) longest_text e)
+file_due scenes texts r c false e = (by_scenario r (refuses refusal.TooLong), too_long (leb-false (length c.scenario) longest_text e))
 
 -- There is no other one.
 
 -- what a row tells of its answer
 data Row (r : Request) (c : Contents) (answer : Answer) : Type 0 where
-  long : longest_text < length c.scenario → answer ≡ refused refusal.TooLong → Row r c answer
-  unread : (reason : ParseRefusal) → length c.scenario ≤ longest_text → IsRefusal c.scenario reason → answer ≡ refused (refusal.Text reason) → Row r c answer
-  read : (program : List Declaration) → Spells c program → answer ≡ program_answer r program → Row r c answer
+  long : longest_text < length c.scenario → answer ≡ by_scenario r (refuses refusal.TooLong) → Row r c answer
+  run : (x : Result Scene Reason) → r.mode ≡ mode.Run → IsShort c → IsScenarioAnswer r.decimals r.node c.scenario x → answer ≡ of_scene r c x → Row r c answer
+  print : (x : Result (List ℕ) Reason) → r.mode ≡ mode.Print → IsShort c → IsPrintedAnswer c.scenario x → answer ≡ of_print r x → Row r c answer
 
--- the answer of a program in the mode `run`
-in_run : (r : Request) (program : List Declaration) (rs : List TypeRefusal) → r.mode ≡ mode.Run → type_refusals r.decimals program ≡ rs → typed_answer r program rs ≡ program_answer r program
-in_run r program rs run e = sym (ap (λ m. mode_answer m r program) run ∙ ap (typed_answer r program) e)
+trace_short : (g : Giver) (c : Contents) → HasShortTrace g c → is_short g c ≡ true
+trace_short by_nobody c h = refl
+trace_short (by_program command) c h = refl
+trace_short (by_file name) c h = le-leb (length c.replay) longest_replay h
 
--- that of one which is well typed
-expanded_read : WellTypedIsUnrefused → (r : Request) (program : List Declaration) → r.mode ≡ mode.Run → IsWellTyped r.decimals program → expanded_answer r program ≡ program_answer r program
-expanded_read law r program run typed = in_run r program [] run ((law r.decimals program).0 typed)
+trace_long : (g : Giver) (c : Contents) (name : List ℕ) → g ≡ by_file name → longest_replay < length c.replay → is_short g c ≡ false
+trace_long by_nobody c name e h = absurd (cc)
+trace_long (by_program command) c name e h = absurd (cc)
+trace_long (by_file other) c name e h = lt-leb (length c.replay) longest_replay h
 
--- that of one whose node has a scenario
-scene_read : WellTypedIsUnrefused → (r : Request) (program : List Declaration) (s : Scene) → r.mode ≡ mode.Run → IsSceneOf r program s → scene_answer r s ≡ program_answer r program
-scene_read law r program s run is =
-    ap (scene_answer r) is.2.2
-    ∙ sym (ap (λ asked. node_answer r asked []) is.2.1)
-    ∙ sym (ap (node_answer r (expanded_node r.decimals r.node program)) is.1)
-    ∙ expanded_read law r program run is.0
+served_as : (r : Request) (c : Contents) (s : Scene) (short : Bool) → IsServed r s → is_short (giver_of r) c ≡ short → traced r short s ≡ of_scene r c (Ok s)
+served_as r c s short given e = sym (ap (λ b. served r c b s) given ∙ ap (λ b. traced r b s) e)
 
--- and inputs
-fed_some : (r : Request) (s : Scene) (inputs : List Variable) → inputs ≢ [] → fed_answer r s inputs ≡ refused refusal.NeedsController
-fed_some r s [] some = absurd (some refl)
-fed_some r s (v ∷ vs) some = refl
+row : (r : Request) (c : Contents) (answer : Answer) → IsDue r c answer → Row r c answer
+row r c answer (too_long l) = long l refl
+row r c answer (no_scenario reason m fits is) = run (Err reason) m fits is refl
+row r c answer (unserved s m fits has e) = run (Ok s) m fits has (sym (ap (λ b. served r c b s) e))
+row r c answer (long_trace s name m fits has given e l) = run (Ok s) m fits has (served_as r c s false given (trace_long (giver_of r) c name e l))
+row r c answer (runs s m fits has given short) = run (Ok s) m fits has (served_as r c s true given (trace_short (giver_of r) c short))
+row r c answer (unprinted reason m fits is) = print (Err reason) m fits is refl
+row r c answer (prints text m fits is) = print (Ok text) m fits is refl
 
-row : WellTypedIsUnrefused → (r : Request) (c : Contents) (answer : Answer) → IsDue r c answer → Row r c answer
-row law r c answer (too_long l) = long l refl
-row law r c answer (no_program reason short is) = unread reason short is refl
-row law r c answer (ill_typed program reason run spells first) = read program spells (in_run r program (reason ∷ first.0) run first.1)
-row law r c answer (not_expanded program reason run spells typed first) =
-    read program spells (sym (ap (node_answer r (expanded_node r.decimals r.node program)) first.1) ∙ expanded_read law r program run typed)
-row law r c answer (no_controller program s run spells is some) = read program spells (sym (fed_some r s s.inputs some) ∙ scene_read law r program s run is)
-row law r c answer (runs program s run spells is none) = read program spells (sym (ap (fed_answer r s) none) ∙ scene_read law r program s run is)
-row law r c answer (prints program print spells) = read program spells (sym (ap (λ m. mode_answer m r program) print))
+-- no mode is both
+modes : (m : Mode) → m ≡ mode.Run → m ≡ mode.Print → ⊥
+modes m e f = let both : mode.Run ≡ mode.Print = sym e ∙ f in cc both
 
-rows_agree : OneAnswer → (r : Request) (c : Contents) (answer other : Answer) → Row r c answer → Row r c other → answer ≡ other
-rows_agree texts r c answer other (long l e) (long k f) = e ∙ sym f
-rows_agree texts r c answer other (long l e) (unread reason short is f) = absurd (omega arith)
-rows_agree texts r c answer other (long l e) (read program spells f) = absurd (let short = spells.0 in omega arith)
-rows_agree texts r c answer other (unread reason short is e) (long k f) = absurd (omega arith)
-rows_agree texts r c answer other (unread reason short is e) (unread reason' short' is' f) = e ∙ ap (λ x. refused (refusal.Text x)) (texts.one_refusal c.scenario reason reason' is is') ∙ sym f
-rows_agree texts r c answer other (unread reason short is e) (read program spells f) = absurd (texts.not_both c.scenario program reason spells.1 is)
-rows_agree texts r c answer other (read program spells e) (long k f) = absurd (let short = spells.0 in omega arith)
-rows_agree texts r c answer other (read program spells e) (unread reason short is f) = absurd (texts.not_both c.scenario program reason spells.1 is)
-rows_agree texts r c answer other (read program spells e) (read program' spells' f) = e ∙ ap (program_answer r) (texts.one_program c.scenario program program' spells.1 spells'.1) ∙ sym f
+rows_agree : TextsHaveOneScenarioAnswer → TextsHaveOnePrintedAnswer → (r : Request) (c : Contents) (answer other : Answer) → Row r c answer → Row r c other → answer ≡ other
+rows_agree scenes texts r c answer other (long l e) (long k f) = e ∙ sym f
+rows_agree scenes texts r c answer other (long l e) (run x m fits is f) = absurd (omega arith)
+rows_agree scenes texts r c answer other (long l e) (print x m fits is f) = absurd (omega arith)
+rows_agree scenes texts r c answer other (run x m fits is e) (long k f) = absurd (omega arith)
+rows_agree scenes texts r c answer other (run x m fits is e) (run y n k has f) = e ∙ ap (of_scene r c) ((scenes r.decimals r.node c.scenario).1 x y is has) ∙ sym f
+rows_agree scenes texts r c answer other (run x m fits is e) (print y n k has f) = absurd (modes r.mode m n)
+rows_agree scenes texts r c answer other (print x m fits is e) (long k f) = absurd (omega arith)
+rows_agree scenes texts r c answer other (print x m fits is e) (run y n k has f) = absurd (modes r.mode n m)
+rows_agree scenes texts r c answer other (print x m fits is e) (print y n k has f) = e ∙ ap (of_print r) ((texts c.scenario).1 x y is has) ∙ sym f
 
-pub one_due : WellTypedIsUnrefused → OneAnswer → (r : Request) (c : Contents) (answer other : Answer) → IsDue r c answer → IsDue r c other → answer ≡ other
-one_due law texts r c answer other h k = rows_agree texts r c answer other (row law r c answer h) (row law r c other k)
-
-pub contents_have_one_due_answer : WellTypedIsUnrefused → OneAnswer → ContentsHaveOneDueAnswer
-contents_have_one_due_answer law texts r c = (due law texts r c, one_due law texts r c)
+pub contents_have_one_due_answer : TextsHaveOneScenarioAnswer → TextsHaveOnePrintedAnswer → ContentsHaveOneDueAnswer
+contents_have_one_due_answer scenes texts r c =
+    (file_due scenes texts r c (nat_le (length c.scenario) longest_text) refl, λ answer other h k. rows_agree scenes texts r c answer other (row r c answer h) (row r c other k))

@@ -1,35 +1,36 @@
--- What a call gives: for a program, for a text, and for a file.
-use Rattle.std.proofs.Common.{◌≡◌, ◌≢◌, ℕ, ◌<◌, ◌≤◌, ◌⊎◌, inl, inr, Bool, true, false, List, [], ◌++◌, length, None, Some, refl, ap, sym, ◌∙◌, subst, arith, append-nil, ◌+◌, OnErr, OnOk, Ok, Err}
+-- What a call gives: for a scenario, for a text, and for a file.
+use Rattle.std.proofs.Common.{◌≡◌, ◌≢◌, ℕ, ◌<◌, ◌≤◌, ◌⊎◌, inl, inr, Bool, true, false, List, [], ◌∷◌, ◌++◌, length, take, None, Some, refl, ap, sym, ◌∙◌, subst, arith, le-leb, append-nil, append_assoc, ◌+◌, OnErr, OnOk, Ok, Err}
 use Rattle.std.proofs.Math.ListN.{replicate}
-use Rattle.std.proofs.Math.Seq.{take-length}
 use Rattle.std.proofs.lemmas.List.{length-replicate}
 use Rattle.std.specs.Io.KnownBytes.{Appends, Keeps}
+use Rattle.std.specs.Borrow.{Bor}
 use Rattle.std.specs.declared.option.Option.{Option}
 use Rattle.std.specs.declared.result.Result.{Result}
-use Rattle.lt_ast.specs.Syntax.{Declaration}
-use Rattle.lt_io.specs.Causes.{HasCause, WhereTold}
-use Rattle.lt_parser.specs.Text.{IsProgramOf, IsRefusal}
-use Rattle.lt_parser.specs.declared.refusal.ParseRefusal.{ParseRefusal}
-use Rattle.lt_parser.specs.declared.refusal.ParseRefusal.TheVariants as parse
-use Rattle.lt_types.specs.Answer.{Leads, first, memory}
-use Rattle.lt_types.specs.Law.{WellTypedIsUnrefused}
-use Rattle.lt_types.specs.Refusals.{type_refusals}
-use Rattle.lt_types.specs.Typing.{IsWellTyped}
-use Rattle.lt_types.specs.declared.refusal.TypeRefusal.{TypeRefusal}
-use Rattle.lt_types.specs.declared.refusal.TypeRefusal.TheVariants as types
-use Rattle.lt_call.proofs.Dues.{program_due}
-use Rattle.lt_call.proofs.Runs.{kept_same}
-use Rattle.lt_call.specs.Call.{GivesDue, Asks, Counts, Says, blames}
-use Rattle.lt_call.specs.Cut.{IsCut, by_file, by_trace, by_memory, Gives}
-use Rattle.lt_call.specs.Due.{Answer, no_program, too_long, refused, done}
-use Rattle.lt_call.specs.Laws.{ContentsHaveOneDueAnswer}
-use Rattle.lt_call.specs.Outside.{Sink, Outside, faults_of}
-use Rattle.lt_call.specs.Settings.{longest_text}
-use Rattle.lt_call.specs.Words.{Request}
+use Rattle.lt_drive.specs.Outside.{Sink}
+use Rattle.lt_io.specs.Causes.{HasCause, Rose, WhereTold}
 use Rattle.lt_io.specs.Sending.{AppendsPart}
-use Rattle.lt_call.specs.inner.Statuses.{IsTextStatus, IsTypeStatus}
-use Rattle.lt_call.specs.inner.Programs.{GivesForText, typed_answer, mode_answer}
-use Rattle.lt_call.specs.declared.words.Mode.{Mode}
+use Rattle.lt_macros.specs.Answer.{asked_name}
+use Rattle.lt_prepare.specs.Prepared.{IfRefused, IsPrintedAnswer, IsScenarioAnswer}
+use Rattle.lt_prepare.specs.declared.refusal.Unprepared.{Unprepared}
+use Rattle.lt_prepare.specs.declared.refusal.Unprepared.TheVariants as unprepared
+use Rattle.lt_words.specs.Asked.{given_word}
+use Rattle.lt_prepare.specs.declared.refusal.Refusal.{Refusal as Reason}
+use Rattle.lt_rif.specs.declared.end.Who.{Who}
+use Rattle.lt_session.specs.Programs.{Programs, Same}
+use Rattle.lt_session.specs.Session.{Outside as Beside}
+use Rattle.lt_term.specs.Scene.{Scene}
+use Rattle.lt_words.specs.Settings.{longest_text, longest_replay}
+use Rattle.lt_words.specs.Words.{Request}
+use Rattle.lt_words.specs.declared.words.Mode.TheVariants as mode
+use Rattle.lt_call.proofs.Dues.{is_short, traced, traced_due, traced_files}
+use Rattle.lt_call.specs.Call.{GivesDue, IsCounted, IsTrace, Says, blames}
+use Rattle.lt_call.specs.Course.{Giver, by_file, by_nobody, by_program, files_of, giver_of, trace_by}
+use Rattle.lt_call.specs.Due.{Answer, Contents, HasScene, IsDue, IsServed, refuses, writes, plays, too_long, no_scenario, unserved, long_trace, runs, unprinted, prints}
+use Rattle.lt_call.specs.Given.{Gives, IsDone, PutsNothing, refused, written, cut, done, by_file as file_cut, by_memory}
+use Rattle.lt_call.specs.Laws.{ContentsHaveOneDueAnswer}
+use Rattle.lt_call.specs.Outside.{Outside, beside, faults_of}
+use Rattle.lt_call.specs.inner.Parts as parts
+use Rattle.lt_call.specs.inner.Parts.{GivesForText, GivesRun, Prints, status_why}
 use Rattle.lt_call.specs.declared.status.Status.{Status}
 use Rattle.lt_call.specs.declared.status.Status.TheVariants as status
 use Rattle.lt_call.specs.declared.status.Refusal.{Refusal}
@@ -37,104 +38,58 @@ use Rattle.lt_call.specs.declared.status.Refusal.TheVariants as refusal
 use Rattle.lt_call.specs.declared.status.Device.{Device}
 use Rattle.lt_call.specs.declared.status.Device.TheVariants as device
 
--- bytes that are kept grow by nothing
-appends_nothing : (old new : Option (List ℕ)) → Keeps old new → Appends old new []
-appends_nothing None new h = tt
-appends_nothing (Some xs) None h = absurd h
-appends_nothing (Some xs) (Some ys) h = h ∙ sym (append-nil xs)
+-- What doesn't change.
 
-same_appends : (old new : Option (List ℕ)) (text same : List ℕ) → text ≡ same → Appends old new text → Appends old new same
-same_appends old new text same e h = let P : List ℕ → Type 0 = λ t. Appends old new t in subst P e h
+kept_same : (o : Option (List ℕ)) → Keeps o o
+kept_same None = tt
+kept_same (Some xs) = refl
 
--- A program.
+pub same : (p : Programs) → Same p p
+same p = record { coming = λ command. refl; closed = refl; asked = refl; faults = refl }
 
--- nothing was written yet when memory ran out
-pub out_of_memory : (answer : Answer) (names : List (List ℕ)) (old : Option (List ℕ)) → Gives answer names old old status.Memory
-out_of_memory answer names old = inr (by_memory (kept_same old))
+pub nothing : (o : Beside) → PutsNothing o o
+nothing o = record { programs = same o.programs; trace = kept_same o.trace.written }
 
--- a refusal
-pub refuses : (reason : Refusal) (old : Option (List ℕ)) → Gives (refused reason) [] old old (status.Refused reason)
-refuses reason old = inl (refl, refl, appends_nothing old old (kept_same old))
+-- a count that stays, where nobody is blamed
+pub stays : (what : Device) (n : ℕ) → IsCounted what false n n
+stays device.File n = refl
+stays (device.Program w) n = omega arith
+stays device.Trace n = refl
 
--- a text was written whole ..
-pub done_whole : (text same : List ℕ) (old new : Option (List ℕ)) → text ≡ same → Appends old new text → Gives (done same) [] old new status.Done
-done_whole text same old new e h = inl (refl, refl, same_appends old new text (same ++ []) (e ∙ sym (append-nil same)) h)
+pub unblamed : (what : Device) (b : Bool) (n : ℕ) → b ≡ false → IsCounted what b n n
+unblamed what true n e = absurd (cc)
+unblamed what false n e = stays what n
 
--- .. or in part
-pub done_part : (text same : List ℕ) (old new : Option (List ℕ)) (s : Status) → text ≡ same → s ≡ status.Device device.Trace 0 → AppendsPart old new text → Gives (done same) [] old new s
-done_part text same old new s e is part =
-    let P : Status → Type 0 = λ t. Gives (done same) [] old new t in
-    subst P (sym is) (inr (by_trace 0 (part.0, part.1, ap Some (sym e ∙ part.2), part.3, part.4)))
+-- a count that rose, where its device is blamed
+pub risen : (what : Device) (b : Bool) (before now : ℕ) → b ≡ true → Rose before now → IsCounted what b before now
+risen what true before now e h = h
+risen what false before now e h = absurd (cc)
 
--- a program that breaks a rule of types
-broken : (r : Request) (program : List Declaration) (reason : TypeRefusal) (rs : List TypeRefusal) (old : Option (List ℕ)) → reason ≢ types.Memory → Leads reason rs → Gives (typed_answer r program rs) [] old old (status.Refused (refusal.Types reason))
-broken r program reason rs old n (first reason' others) = refuses (refusal.Types reason) old
-broken r program reason rs old n (memory others) = absurd (n refl)
+-- each device
+pub counted : (s : Status) (old new : Outside) → IsCounted device.File (blames s device.File) old.files.faults new.files.faults →
+    ((w : Who) → IsCounted (device.Program w) (blames s (device.Program w)) old.programs.faults new.programs.faults) →
+    IsCounted device.Trace (blames s device.Trace) old.trace.faults new.trace.faults → (what : Device) → IsCounted what (blames s what) (faults_of what old) (faults_of what new)
+counted s old new file programs trace device.File = file
+counted s old new file programs trace (device.Program w) = programs w
+counted s old new file programs trace device.Trace = trace
 
-pub ill_typed : (r : Request) (program : List Declaration) (reason : TypeRefusal) (rs : List TypeRefusal) (old : Option (List ℕ)) (s : Status) → Leads reason rs → IsTypeStatus reason s → Gives (typed_answer r program rs) [] old old s
-ill_typed r program reason rs old s leads (inl h) = let P : Status → Type 0 = λ t. Gives (typed_answer r program rs) [] old old t in subst P (sym h.1) (out_of_memory (typed_answer r program rs) [] old)
-ill_typed r program reason rs old s leads (inr h) = let P : Status → Type 0 = λ t. Gives (typed_answer r program rs) [] old old t in subst P (sym h.1) (broken r program reason rs old h.0 leads)
+-- what was said
+pub said : {T E : Type 0} (r : Result T E) (text : List ℕ) (old new : Sink) → OnOk r (Appends old.written new.written text) → OnErr r (AppendsPart old.written new.written text) → HasCause old.faults new.faults r → Says text old new
+said (Ok x) text old new all part cause = inl all
+said (Err e) text old new all part cause = inr (cause.failed, part)
 
--- no device is blamed for that
-pub types_unblamed : (reason : TypeRefusal) (s : Status) (what : Device) → IsTypeStatus reason s → blames s what ≡ false
-types_unblamed reason s what (inl h) = ap (λ t. blames t what) h.1
-types_unblamed reason s what (inr h) = ap (λ t. blames t what) h.1
-
--- a program that breaks none
-pub well_typed : WellTypedIsUnrefused → (r : Request) (program other : List Declaration) (names : List (List ℕ)) (old new : Option (List ℕ)) (s : Status) → other ≡ program → IsWellTyped r.decimals program → Gives (typed_answer r other []) names old new s → Gives (typed_answer r program (type_refusals r.decimals program)) names old new s
-well_typed law r program other names old new s e typed h =
-    let P : List Declaration → Type 0 = λ p. Gives (typed_answer r p []) names old new s in
-    let Q : List TypeRefusal → Type 0 = λ rs. Gives (typed_answer r program rs) names old new s in
-    subst Q (sym ((law r.decimals program).0 typed)) (subst P e h)
-
--- A text.
-
--- what is due where memory ran out before its program was known
-unread : ContentsHaveOneDueAnswer → (r : Request) (text : List ℕ) (old : Option (List ℕ)) → GivesForText r text [] old old status.Memory
-unread law r text old = let due = (law r (record { scenario = text })).0 in (due.0, due.1, out_of_memory due.0 [] old)
-
--- that the code refuses it is right
-right : (text : List ℕ) (reason : ParseRefusal) → reason ≢ parse.Memory → (reason ≡ parse.Memory) ⊎ IsRefusal text reason → IsRefusal text reason
-right text reason n (inl e) = absurd (n e)
-right text reason n (inr is) = is
-
--- it spells no program
-pub text_refused : ContentsHaveOneDueAnswer → (r : Request) (text : List ℕ) (reason : ParseRefusal) (old : Option (List ℕ)) (s : Status) → length text ≤ longest_text → (reason ≡ parse.Memory) ⊎ IsRefusal text reason → IsTextStatus reason s → GivesForText r text [] old old s
-text_refused law r text reason old s short is (inl h) = let P : Status → Type 0 = λ t. GivesForText r text [] old old t in subst P (sym h.1) (unread law r text old)
-text_refused law r text reason old s short is (inr h) =
-    let P : Status → Type 0 = λ t. GivesForText r text [] old old t in
-    subst P (sym h.1) (refused (refusal.Text reason), no_program reason short (right text reason h.0 is), refuses (refusal.Text reason) old)
-
--- no device is blamed for that
-pub text_unblamed : (reason : ParseRefusal) (s : Status) (what : Device) → IsTextStatus reason s → blames s what ≡ false
-text_unblamed reason s what (inl h) = ap (λ t. blames t what) h.1
-text_unblamed reason s what (inr h) = ap (λ t. blames t what) h.1
-
--- it spells this one
-pub text_read : WellTypedIsUnrefused → (r : Request) (text : List ℕ) (program : List Declaration) (m : Mode) (names : List (List ℕ)) (old new : Option (List ℕ)) (s : Status) → length text ≤ longest_text → IsProgramOf text program → r.mode ≡ m → Gives (mode_answer m r program) names old new s → GivesForText r text names old new s
-text_read law r text program m names old new s short is e h =
-    let P : Mode → Type 0 = λ n. Gives (mode_answer n r program) names old new s in
-    (mode_answer r.mode r program, program_due law r (record { scenario = text }) program (short, is), subst P (sym e) h)
-
--- A file.
+-- Contents.
 
 -- some contents are those that are told, where any are
 told_bytes : (o : Option (List ℕ)) → (bytes : List ℕ) × WhereTold o (λ b. bytes ≡ b)
 told_bytes None = ([], tt)
 told_bytes (Some b) = (b, refl)
 
--- nothing was written when memory ran out or the file failed
-cut_early : ContentsHaveOneDueAnswer → (r : Request) (told : List ℕ → Option (List ℕ)) (old : Option (List ℕ)) (s : Status) → ((answer : Answer) → IsCut answer.pieces old old s) → GivesDue r told [] old old s
-cut_early law r told old s cut =
-    let bytes = told_bytes (told r.file) in
-    let due = (law r (record { scenario = bytes.0 })).0 in
-    (record { scenario = bytes.0 }, bytes.1, due.0, due.1, inr (cut due.0))
-
-pub file_unread : ContentsHaveOneDueAnswer → (r : Request) (told : List ℕ → Option (List ℕ)) (old : Option (List ℕ)) → GivesDue r told [] old old status.Memory
-file_unread law r told old = cut_early law r told old status.Memory (λ answer. by_memory (kept_same old))
-
-pub file_failed : ContentsHaveOneDueAnswer → (r : Request) (told : List ℕ → Option (List ℕ)) (old : Option (List ℕ)) → GivesDue r told [] old old (status.Device device.File 0)
-file_failed law r told old = cut_early law r told old (status.Device device.File 0) (λ answer. by_file (kept_same old))
+-- some trace is the one that is asked for
+pub some_trace : (g : Giver) (told : List ℕ → Option (List ℕ)) → (trace : List ℕ) × IsTrace g told trace
+some_trace by_nobody told = ([], refl)
+some_trace (by_program command) told = ([], refl)
+some_trace (by_file name) told = told_bytes (told name)
 
 -- some list is longer than a number
 longer : (n : ℕ) → (bytes : List ℕ) × (n < length bytes)
@@ -145,43 +100,242 @@ long_bytes : (most : ℕ) (o : Option (List ℕ)) → WhereTold o (λ b. most < 
 long_bytes most None h = let bytes = longer most in (bytes.0, tt, bytes.1)
 long_bytes most (Some b) h = (b, refl, h)
 
-pub file_too_long : (r : Request) (told : List ℕ → Option (List ℕ)) (old : Option (List ℕ)) → WhereTold (told r.file) (λ b. longest_text < length b) → GivesDue r told [] old old (status.Refused refusal.TooLong)
-file_too_long r told old h =
+-- a trace is the one that is asked for, where a file is
+file_trace : (g : Giver) (name : List ℕ) (told : List ℕ → Option (List ℕ)) (trace : List ℕ) → g ≡ by_file name → WhereTold (told name) (λ b. trace ≡ b) → IsTrace g told trace
+file_trace g name told trace e h = subst (λ x. IsTrace x told trace) (sym e) h
+
+-- the giver whose trace is in this file
+pub filed : (g : Giver) (name : List ℕ) → trace_by g ≡ Some name → g ≡ by_file name
+filed by_nobody name e = absurd (cc)
+filed (by_program command) name e = absurd (cc)
+filed (by_file other) name e = let same : other ≡ name = cc in ap (λ n. by_file n) same
+
+-- a giver that has no trace
+untraced : (g : Giver) (told : List ℕ → Option (List ℕ)) → trace_by g ≡ None → IsTrace g told []
+untraced by_nobody told e = refl
+untraced (by_program command) told e = refl
+untraced (by_file name) told e = absurd (cc)
+
+-- each answer takes the scenario's file first
+first_file : (r : Request) (c : Contents) (answer : Answer) → IsDue r c answer → take 1 answer.files ≡ r.file ∷ []
+first_file r c answer (too_long l) = refl
+first_file r c answer (no_scenario reason m fits is) = refl
+first_file r c answer (unserved s m fits has e) = refl
+first_file r c answer (long_trace s name m fits has given e l) = refl
+first_file r c answer (runs s m fits has given short) = refl
+first_file r c answer (unprinted reason m fits is) = refl
+first_file r c answer (prints text m fits is) = refl
+
+-- A text.
+
+-- what is done with the text alone is given
+by_text : (r : Request) (told : List ℕ → Option (List ℕ)) (text : List ℕ) (answer : Answer) (old new : Outside) (names : List (List ℕ)) (s : Status) → answer.files ≡ r.file ∷ [] → new.files.asked ≡ old.files.asked →
+    ((trace : List ℕ) → IsDue r (record { scenario = text; replay = trace }) answer) → ((trace : List ℕ) → IsDone r trace (beside old) (beside new) answer.work names s) → GivesForText r told text old new names s
+by_text r told text answer old new names s one same due is = λ asked e.
+    let trace = some_trace (giver_of r) told in
+    (trace.0, trace.1, (answer, due trace.0, done names s (same ∙ e ∙ ap (λ f. asked ++ f) (sym one)) (is trace.0)))
+
+-- a text that has no scenario
+pub no_scene : (r : Request) (told : List ℕ → Option (List ℕ)) (text : List ℕ) (reason : Reason) (old : Outside) → r.mode ≡ mode.Run → length text ≤ longest_text → IsScenarioAnswer r.decimals r.node text (Err reason) → GivesForText r told text old old [] (status.Refused (refusal.Scenario reason))
+no_scene r told text reason old m fits is =
+    by_text r told text (record { work = refuses (refusal.Scenario reason); files = r.file ∷ [] }) old old [] (status.Refused (refusal.Scenario reason)) refl refl (λ trace. no_scenario reason m fits is) (λ trace. refused (refusal.Scenario reason) (nothing (beside old)))
+
+-- a scenario whose inputs nobody gives values
+pub not_served : (r : Request) (told : List ℕ → Option (List ℕ)) (text : List ℕ) (s : Scene) (old : Outside) → r.mode ≡ mode.Run → length text ≤ longest_text → HasScene r (record { scenario = text; replay = [] }) s →
+    (IsServed r s → ⊥) → GivesForText r told text old old [] (status.Refused refusal.NeedsController)
+not_served r told text s old m fits has un =
+    by_text r told text (record { work = refuses refusal.NeedsController; files = r.file ∷ [] }) old old [] (status.Refused refusal.NeedsController) refl refl (λ trace. unserved s m fits has (never _ un)) (λ trace. refused refusal.NeedsController (nothing (beside old)))
+  where
+    never : (b : Bool) → (b ≡ true → ⊥) → b ≡ false
+    never true h = absurd (h refl)
+    never false h = refl
+
+-- memory ran out
+pub out_of_memory : ContentsHaveOneDueAnswer → (r : Request) (told : List ℕ → Option (List ℕ)) (text : List ℕ) (old : Outside) → GivesForText r told text old old [] status.Memory
+out_of_memory law r told text old = λ asked e.
+    let trace = some_trace (giver_of r) told in
+    let c : Contents = record { scenario = text; replay = trace.0 } in
+    let due = (law r c).0 in
+    (trace.0, trace.1, (due.0, due.1, by_memory 1 (e ∙ ap (λ f. asked ++ f) (sym (first_file r c due.0 due.1))) (nothing (beside old))))
+
+-- what is given has these names and this status
+pub as_told : (r : Request) (told : List ℕ → Option (List ℕ)) (text : List ℕ) (old new : Outside) (names names' : List (List ℕ)) (s s' : Status) → names ≡ names' → s ≡ s' → GivesForText r told text old new names' s' → GivesForText r told text old new names s
+as_told r told text old new names names' s s' e f h = subst (λ ns. GivesForText r told text old new ns s) (sym e) (subst (λ t. GivesForText r told text old new names' t) (sym f) h)
+
+-- the same of what is due
+pub as_due : (r : Request) (told : List ℕ → Option (List ℕ)) (asked : List (List ℕ)) (old new : Outside) (names names' : List (List ℕ)) (s s' : Status) → names ≡ names' → s ≡ s' → GivesDue r told asked old new names' s' → GivesDue r told asked old new names s
+as_due r told asked old new names names' s s' e f h = subst (λ ns. GivesDue r told asked old new ns s) (sym e) (subst (λ t. GivesDue r told asked old new names' t) (sym f) h)
+
+-- the node that is asked for
+asked_node : (o : Option (Bor (List ℕ))) → asked_name o ≡ given_word o
+asked_node None = refl
+asked_node (Some name) = refl
+
+pub for_node : (decimals : ℕ) (o : Option (Bor (List ℕ))) (text : List ℕ) (x : Result Scene Reason) → IsScenarioAnswer decimals (asked_name o) text x → IsScenarioAnswer decimals (given_word o) text x
+for_node decimals o text x h = subst (λ n. IsScenarioAnswer decimals n text x) (asked_node o) h
+
+-- a text that nothing is made of
+pub unprepared_text : ContentsHaveOneDueAnswer → (r : Request) (told : List ℕ → Option (List ℕ)) (text : List ℕ) (why : Unprepared) (old : Outside) → r.mode ≡ mode.Run → length text ≤ longest_text →
+    IfRefused why (λ reason. IsScenarioAnswer r.decimals r.node text (Err reason)) → GivesForText r told text old old [] (status_why why)
+unprepared_text law r told text (unprepared.Refused reason) old m fits is = no_scene r told text reason old m fits is
+unprepared_text law r told text unprepared.Memory old m fits is = out_of_memory law r told text old
+
+pub why_for_node : (decimals : ℕ) (o : Option (Bor (List ℕ))) (text : List ℕ) (why : Unprepared) → IfRefused why (λ reason. IsScenarioAnswer decimals (asked_name o) text (Err reason)) → IfRefused why (λ reason. IsScenarioAnswer decimals (given_word o) text (Err reason))
+why_for_node decimals o text why h = subst (λ n. IfRefused why (λ reason. IsScenarioAnswer decimals n text (Err reason))) (asked_node o) h
+
+-- A scenario with an earlier trace.
+
+-- the names that were asked for
+two_asked : (asked : List (List ℕ)) (file name : List ℕ) (before now : List (List ℕ)) → before ≡ asked ++ file ∷ [] → now ≡ before ++ name ∷ [] → now ≡ asked ++ (file ∷ name ∷ [])
+two_asked asked file name before now e f = f ∙ ap (λ b. b ++ name ∷ []) e ∙ append_assoc asked (file ∷ []) (name ∷ [])
+
+-- the files of an answer that takes a trace
+both_files : (r : Request) (short : Bool) (s : Scene) (name : List ℕ) → giver_of r ≡ by_file name → (traced r short s).files ≡ r.file ∷ name ∷ []
+both_files r short s name e = traced_files r short s ∙ ap (λ g. r.file ∷ files_of g) e
+
+-- that couldn't be read
+pub trace_failed : (r : Request) (told : List ℕ → Option (List ℕ)) (text name : List ℕ) (s : Scene) (old new : Outside) → r.mode ≡ mode.Run → length text ≤ longest_text → HasScene r (record { scenario = text; replay = [] }) s → IsServed r s → giver_of r ≡ by_file name →
+    new.files.asked ≡ old.files.asked ++ name ∷ [] → PutsNothing (beside old) (beside new) → GivesForText r told text old new [] (status.Device device.File 0)
+trace_failed r told text name s old new m fits has given e f puts = λ asked a.
+    let trace = some_trace (giver_of r) told in
+    let c : Contents = record { scenario = text; replay = trace.0 } in
+    let short = is_short (giver_of r) c in
+    (trace.0, trace.1, (traced r short s, traced_due r c s short refl m fits has given, file_cut 2 (omega arith) (two_asked asked r.file name _ _ a f ∙ ap (λ fs. asked ++ take 2 fs) (sym (both_files r short s name e))) puts))
+
+-- memory ran out in reading it
+pub trace_unread : (r : Request) (told : List ℕ → Option (List ℕ)) (text : List ℕ) (s : Scene) (old new : Outside) → r.mode ≡ mode.Run → length text ≤ longest_text → HasScene r (record { scenario = text; replay = [] }) s → IsServed r s →
+    new.files.asked ≡ old.files.asked → PutsNothing (beside old) (beside new) → GivesForText r told text old new [] status.Memory
+trace_unread r told text s old new m fits has given f puts = λ asked a.
+    let trace = some_trace (giver_of r) told in
+    let c : Contents = record { scenario = text; replay = trace.0 } in
+    let short = is_short (giver_of r) c in
+    (trace.0, trace.1, (traced r short s, traced_due r c s short refl m fits has given, by_memory 1 (f ∙ a ∙ ap (λ fs. asked ++ take 1 fs) (sym (traced_files r short s))) puts))
+
+-- too long a one
+pub trace_too_long : (r : Request) (told : List ℕ → Option (List ℕ)) (text name : List ℕ) (s : Scene) (old new : Outside) → r.mode ≡ mode.Run → length text ≤ longest_text → HasScene r (record { scenario = text; replay = [] }) s → IsServed r s → giver_of r ≡ by_file name →
+    WhereTold (told name) (λ b. longest_replay < length b) → new.files.asked ≡ old.files.asked ++ name ∷ [] → PutsNothing (beside old) (beside new) → GivesForText r told text old new [] (status.Refused refusal.TooLong)
+trace_too_long r told text name s old new m fits has given e h f puts = λ asked a.
+    let bytes = long_bytes longest_replay (told name) h in (
+      bytes.0,
+      file_trace (giver_of r) name told bytes.0 e bytes.1,
+      (
+        record { work = refuses refusal.TooLong; files = r.file ∷ files_of (giver_of r) },
+        long_trace s name m fits has given e bytes.2,
+        done [] (status.Refused refusal.TooLong) (two_asked asked r.file name _ _ a f ∙ ap (λ g. asked ++ (r.file ∷ files_of g)) (sym e)) (refused refusal.TooLong puts),
+      ),
+    )
+
+-- a run of it, or of a scenario without one
+ran_with : (r : Request) (told : List ℕ → Option (List ℕ)) (text trace : List ℕ) (s : Scene) (old new : Outside) (names : List (List ℕ)) (t : Status) (asked : List (List ℕ)) → r.mode ≡ mode.Run → length text ≤ longest_text → HasScene r (record { scenario = text; replay = [] }) s → IsServed r s →
+    is_short (giver_of r) (record { scenario = text; replay = trace }) ≡ true → IsTrace (giver_of r) told trace → new.files.asked ≡ asked ++ (r.file ∷ files_of (giver_of r)) → GivesRun r trace s (beside old) (beside new) names t →
+    (trace : List ℕ) × IsTrace (giver_of r) told trace × ((answer : Answer) × IsDue r (record { scenario = text; replay = trace }) answer × Gives r (record { scenario = text; replay = trace }) answer asked old new names t)
+ran_with r told text trace s old new names t asked m fits has given short is a (inl h) = (trace, is, (traced r true s, traced_due r (record { scenario = text; replay = trace }) s true short m fits has given, done names t a h))
+ran_with r told text trace s old new names t asked m fits has given short is a (inr h) =
+    let c : Contents = record { scenario = text; replay = trace } in
+    let P : List (List ℕ) → Status → Type 0 = λ ns x. Gives r c (traced r true s) asked old new ns x in
+    let all : new.files.asked ≡ asked ++ take (length (r.file ∷ files_of (giver_of r))) (r.file ∷ files_of (giver_of r)) = a ∙ ap (λ fs. asked ++ fs) (sym (taken (r.file ∷ files_of (giver_of r)))) in
+    (trace, is, (traced r true s, traced_due r c s true short m fits has given, subst (λ ns. P ns t) (sym h.0) (subst (λ x. P [] x) (sym h.1) (by_memory (length (r.file ∷ files_of (giver_of r))) all h.2))))
+  where
+    taken : (fs : List (List ℕ)) → take (length fs) fs ≡ fs
+    taken [] = refl
+    taken (f ∷ fs) = ap (λ x. f ∷ x) (taken fs)
+
+trace_fits : (g : Giver) (c : Contents) → (length c.replay ≤ longest_replay) → is_short g c ≡ true
+trace_fits by_nobody c h = refl
+trace_fits (by_program command) c h = refl
+trace_fits (by_file name) c h = le-leb (length c.replay) longest_replay h
+
+pub ran_from : (r : Request) (told : List ℕ → Option (List ℕ)) (text trace items name : List ℕ) (s : Scene) (old new : Outside) (names : List (List ℕ)) (t : Status) → r.mode ≡ mode.Run → length text ≤ longest_text → HasScene r (record { scenario = text; replay = [] }) s → IsServed r s → giver_of r ≡ by_file name →
+    trace ≡ items → WhereTold (told name) (λ b. items ≡ b) → length items ≤ longest_replay → new.files.asked ≡ old.files.asked ++ name ∷ [] → GivesRun r trace s (beside old) (beside new) names t → GivesForText r told text old new names t
+ran_from r told text trace items name s old new names t m fits has given e same told_items short_items f h = λ asked a.
+    let is : WhereTold (told name) (λ b. trace ≡ b) = subst (λ x. WhereTold (told name) (λ b. x ≡ b)) (sym same) told_items in
+    let short : length trace ≤ longest_replay = subst (λ (x : List ℕ). length x ≤ longest_replay) (sym same) short_items in
+    ran_with r told text trace s old new names t asked m fits has given (trace_fits (giver_of r) _ short) (file_trace (giver_of r) name told trace e is) (two_asked asked r.file name _ _ a f ∙ ap (λ g. asked ++ (r.file ∷ files_of g)) (sym e)) h
+
+no_files : (g : Giver) → trace_by g ≡ None → files_of g ≡ []
+no_files by_nobody e = refl
+no_files (by_program command) e = refl
+no_files (by_file name) e = absurd (cc)
+
+pub ran_alone : (r : Request) (told : List ℕ → Option (List ℕ)) (text : List ℕ) (s : Scene) (old new : Outside) (names : List (List ℕ)) (t : Status) → r.mode ≡ mode.Run → length text ≤ longest_text → HasScene r (record { scenario = text; replay = [] }) s → IsServed r s → trace_by (giver_of r) ≡ None →
+    new.files.asked ≡ old.files.asked → GivesRun r [] s (beside old) (beside new) names t → GivesForText r told text old new names t
+ran_alone r told text s old new names t m fits has given e f h = λ asked a.
+    ran_with r told text [] s old new names t asked m fits has given (trace_fits (giver_of r) _ (omega arith)) (untraced (giver_of r) told e) (f ∙ a ∙ ap (λ fs. asked ++ (r.file ∷ fs)) (sym (no_files (giver_of r) e))) h
+
+-- Printing.
+
+-- a text that has no printed form
+pub unprintable : (text : List ℕ) (old : Option (List ℕ)) (why : Unprepared) → IfRefused why (λ reason. IsPrintedAnswer text (Err reason)) → Prints text old old (status_why why)
+unprintable text old (unprepared.Refused reason) is = parts.refused reason is (kept_same old)
+unprintable text old unprepared.Memory is = parts.memory (kept_same old)
+
+-- what is printed has this status
+pub as_printed : (text : List ℕ) (old new : Option (List ℕ)) (s t : Status) → s ≡ t → Prints text old new t → Prints text old new s
+as_printed text old new s t e h = subst (λ x. Prints text old new x) (sym e) h
+
+-- nobody is blamed for that
+pub unprepared_unblamed : (why : Unprepared) (what : Device) → blames (status_why why) what ≡ false
+unprepared_unblamed (unprepared.Refused reason) what = refl
+unprepared_unblamed unprepared.Memory what = refl
+
+-- one that has one, and bytes of it
+pub printed_whole : (text t bytes : List ℕ) (old new : Option (List ℕ)) → bytes ≡ t → IsPrintedAnswer text (Ok t) → Appends old new bytes → Prints text old new status.Done
+printed_whole text t bytes old new e is h = parts.whole t is (subst (λ b. Appends old new b) e h)
+
+pub printed_part : (text t bytes : List ℕ) (old new : Option (List ℕ)) (s : Status) → bytes ≡ t → IsPrintedAnswer text (Ok t) → s ≡ status.Device device.Trace 0 → AppendsPart old new bytes → Prints text old new s
+printed_part text t bytes old new s e is same h = subst (λ x. Prints text old new x) (sym same) (parts.part t is (subst (λ b. AppendsPart old new b) e h))
+
+pub printed : (r : Request) (told : List ℕ → Option (List ℕ)) (text : List ℕ) (old new : Outside) (s : Status) → ContentsHaveOneDueAnswer → r.mode ≡ mode.Print → length text ≤ longest_text → new.files.asked ≡ old.files.asked → Same old.programs new.programs → Prints text old.trace.written new.trace.written s → GivesForText r told text old new [] s
+printed r told text old new s law m fits f programs (parts.refused reason is keeps) =
+    by_text r told text (record { work = refuses (refusal.Scenario reason); files = r.file ∷ [] }) old new [] _ refl f (λ trace. unprinted reason m fits is) (λ trace. refused (refusal.Scenario reason) (record { programs = programs; trace = keeps }))
+printed r told text old new s law m fits f programs (parts.whole t is all) =
+    by_text r told text (record { work = writes t; files = r.file ∷ [] }) old new [] _ refl f (λ trace. prints t m fits is) (λ trace. written t programs all)
+printed r told text old new s law m fits f programs (parts.part t is some) =
+    by_text r told text (record { work = writes t; files = r.file ∷ [] }) old new [] _ refl f (λ trace. prints t m fits is) (λ trace. cut t programs some)
+printed r told text old new s law m fits f programs (parts.memory keeps) = λ asked e.
+    let trace = some_trace (giver_of r) told in
+    let c : Contents = record { scenario = text; replay = trace.0 } in
+    let due = (law r c).0 in
+    (trace.0, trace.1, (due.0, due.1, by_memory 1 (f ∙ e ∙ ap (λ x. asked ++ x) (sym (first_file r c due.0 due.1))) (record { programs = programs; trace = keeps })))
+
+-- A file.
+
+-- the scenario's file was cut: it couldn't be read, or memory ran out
+cut_early : ContentsHaveOneDueAnswer → (r : Request) (told : List ℕ → Option (List ℕ)) (asked : List (List ℕ)) (old new : Outside) (s : Status) → ((c : Contents) (answer : Answer) → IsDue r c answer → Gives r c answer asked old new [] s) → GivesDue r told asked old new [] s
+cut_early law r told asked old new s how =
+    let bytes = told_bytes (told r.file) in
+    let trace = some_trace (giver_of r) told in
+    let c : Contents = record { scenario = bytes.0; replay = trace.0 } in
+    let due = (law r c).0 in
+    (c, (bytes.1, trace.1), due.0, due.1, how c due.0 due.1)
+
+pub file_unread : ContentsHaveOneDueAnswer → (r : Request) (told : List ℕ → Option (List ℕ)) (asked : List (List ℕ)) (old new : Outside) → new.files.asked ≡ asked → PutsNothing (beside old) (beside new) → GivesDue r told asked old new [] status.Memory
+file_unread law r told asked old new f puts = cut_early law r told asked old new status.Memory (λ c answer due. by_memory 0 (f ∙ sym (append-nil asked)) puts)
+
+pub file_failed : ContentsHaveOneDueAnswer → (r : Request) (told : List ℕ → Option (List ℕ)) (asked : List (List ℕ)) (old new : Outside) → new.files.asked ≡ asked ++ r.file ∷ [] → PutsNothing (beside old) (beside new) → GivesDue r told asked old new [] (status.Device device.File 0)
+file_failed law r told asked old new f puts = cut_early law r told asked old new (status.Device device.File 0) (λ c answer due. file_cut 1 (omega arith) (f ∙ ap (λ fs. asked ++ fs) (sym (first_file r c answer due))) puts)
+
+pub file_too_long : (r : Request) (told : List ℕ → Option (List ℕ)) (asked : List (List ℕ)) (old new : Outside) → WhereTold (told r.file) (λ b. longest_text < length b) → new.files.asked ≡ asked ++ r.file ∷ [] → PutsNothing (beside old) (beside new) → GivesDue r told asked old new [] (status.Refused refusal.TooLong)
+file_too_long r told asked old new h f puts =
     let bytes = long_bytes longest_text (told r.file) h in
-    (record { scenario = bytes.0 }, bytes.1, refused refusal.TooLong, too_long bytes.2, refuses refusal.TooLong old)
+    let trace = some_trace (giver_of r) told in
+    (record { scenario = bytes.0; replay = trace.0 }, (bytes.1, trace.1), record { work = refuses refusal.TooLong; files = r.file ∷ [] }, too_long bytes.2, done [] (status.Refused refusal.TooLong) f (refused refusal.TooLong puts))
 
-pub file_read : (r : Request) (told : List ℕ → Option (List ℕ)) (text given : List ℕ) (names : List (List ℕ)) (old new : Option (List ℕ)) (s : Status) → WhereTold (told r.file) (λ b. text ≡ b) → given ≡ text → GivesForText r given names old new s → GivesDue r told names old new s
-file_read r told text given names old new s is e h =
-    let P : List ℕ → Type 0 = λ t. GivesForText r t names old new s in
-    let gives = subst P e h in
-    (record { scenario = text }, is, gives.0, gives.1, gives.2)
+-- a trace is asked for of other files that tell the same
+same_trace : (g : Giver) (told told' : List ℕ → Option (List ℕ)) (trace : List ℕ) → ((name : List ℕ) → told' name ≡ told name) → IsTrace g told' trace → IsTrace g told trace
+same_trace by_nobody told told' trace e h = h
+same_trace (by_program command) told told' trace e h = h
+same_trace (by_file name) told told' trace e h = subst (λ o. WhereTold o (λ b. trace ≡ b)) (e name) h
 
--- What is asked for and counted.
+-- nothing is asked for or put out between two moments but a file
+changed : (r : Request) (c : Contents) (answer : Answer) (asked : List (List ℕ)) (old mid new : Outside) (names : List (List ℕ)) (s : Status) → beside mid ≡ beside old → Gives r c answer asked mid new names s → Gives r c answer asked old new names s
+changed r c answer asked old mid new names s e (done ns t f is) = done ns t f (subst (λ b. IsDone r c.replay b (beside new) answer.work ns t) e is)
+changed r c answer asked old mid new names s e (file_cut k some f puts) = file_cut k some f (subst (λ b. PutsNothing b (beside new)) e puts)
+changed r c answer asked old mid new names s e (by_memory k f puts) = by_memory k f (subst (λ b. PutsNothing b (beside new)) e puts)
 
--- all names were asked for
-pub asks_all : (names old new : List (List ℕ)) (s : Status) → new ≡ old ++ names → Asks names old new s
-asks_all names old new status.Done e = e
-asks_all names old new (status.Ran ending) e = e
-asks_all names old new (status.Usage kind) e = e
-asks_all names old new (status.Refused reason) e = e
-asks_all names old new (status.Device what at) e = e
-asks_all names old new status.Memory e = (length names, e ∙ ap (λ xs. old ++ xs) (sym (take-length names)))
-
--- none was, since memory ran out
-pub asks_none : (names old new : List (List ℕ)) → new ≡ old → Asks names old new status.Memory
-asks_none names old new e = (0, e ∙ sym (append-nil old))
-
--- nothing failed that isn't blamed
-pub counts_none : (blamed : Bool) (before now : ℕ) → blamed ≡ false → now ≡ before → Counts blamed before now
-counts_none true before now e h = absurd (cc)
-counts_none false before now e h = h
-
--- what was said
-pub said : {T E : Type 0} (r : Result T E) (text : List ℕ) (old new : Sink) → OnOk r (Appends old.written new.written text) → OnErr r (AppendsPart old.written new.written text) → HasCause old.faults new.faults r → Says text old new
-said (Ok x) text old new all part cause = inl all
-said (Err e) text old new all part cause = inr (cause.failed, part)
-
--- each device
-pub blamed : (s : Status) (old new : Outside) → Counts (blames s device.File) old.files.faults new.files.faults → Counts (blames s device.Trace) old.trace.faults new.trace.faults → (what : Device) → Counts (blames s what) (faults_of what old) (faults_of what new)
-blamed s old new file trace device.File = file
-blamed s old new file trace device.Trace = trace
+pub file_read : (r : Request) (told told' : List ℕ → Option (List ℕ)) (text given : List ℕ) (old mid new : Outside) (names : List (List ℕ)) (s : Status) → WhereTold (told r.file) (λ b. text ≡ b) → given ≡ text → ((name : List ℕ) → told' name ≡ told name) →
+    mid.files.asked ≡ old.files.asked ++ r.file ∷ [] → beside mid ≡ beside old → GivesForText r told' given mid new names s → GivesDue r told old.files.asked old new names s
+file_read r told told' text given old mid new names s is e same f put h =
+    let P : List ℕ → Type 0 = λ t. GivesForText r told' t mid new names s in
+    let g = (subst P e h) old.files.asked f in
+    (record { scenario = text; replay = g.0 }, (is, same_trace (giver_of r) told told' g.0 same g.1), g.2.0, g.2.1, changed r _ g.2.0 old.files.asked old mid new names s put g.2.2)

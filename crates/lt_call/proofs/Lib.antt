@@ -1,12 +1,6 @@
 pub mod Dues
 pub mod Ends
 pub mod Gives
-pub mod Leading
-pub mod Printed
-pub mod Numbers
-pub mod Options
-pub mod Rooms
 pub mod Runs
 pub mod Texts
 pub mod Wholes
-pub mod Expansions

@@ -1,81 +1,202 @@
 -- What follows for whole calls.
-use Rattle.std.proofs.Common.{◌≡◌, ◌≢◌, ℕ, ◌⊎◌, inl, inr, List, [], ◌++◌, None, Some, refl, ap, sym, ◌∙◌, subst, arith, append-nil}
+use Rattle.std.proofs.Common.{◌≡◌, ◌≢◌, ℕ, ◌+◌, ◌⊎◌, inl, inr, true, List, [], ◌++◌, None, Some, refl, ap, sym, ◌∙◌, subst, arith, append-nil}
 use Rattle.std.specs.Io.KnownBytes.{Appends, Keeps}
 use Rattle.std.specs.declared.option.Option.{Option}
+use Rattle.lt_drive.specs.Drive.{Course}
+use Rattle.lt_drive.specs.Outside.{text_to}
+use Rattle.lt_drive.specs.Told as told_streams
+use Rattle.lt_drive.specs.declared.driven.Driven.TheVariants as driven
 use Rattle.lt_io.specs.Causes.{Rose, WhereTold}
-use Rattle.lt_call.specs.Call.{AreContents, GivesDue, Counts, blames}
-use Rattle.lt_call.specs.Cut.{IsCutAt, by_file, by_trace, by_memory, by_memory_later, GivesWhole, Gives}
-use Rattle.lt_call.specs.Due.{Answer, Contents, IsDue, refused}
-use Rattle.lt_call.specs.Laws.{ContentsHaveOneDueAnswer, Tell, IsUncut, SameCallSameBytes, IsCutEarly, RefusalsAreExact, UndisturbedCallsAreWhole}
+use Rattle.lt_loop.specs.Play.{Play, Stop, ends, step_count}
+use Rattle.lt_loop.specs.Standing.{Standing}
+use Rattle.lt_loop.specs.declared.event.Destination.TheVariants as destination
+use Rattle.lt_rif.specs.declared.end.End.{End}
+use Rattle.lt_rif.specs.declared.end.End.TheVariants as end
+use Rattle.lt_rif.specs.declared.end.Who.{Who}
+use Rattle.lt_rif.specs.declared.end.Who.TheVariants as who
+use Rattle.lt_session.specs.Session.{IsPlayed, Outside as Beside}
+use Rattle.lt_session.specs.Whole.{UndisturbedSessionsAreWhole}
+use Rattle.lt_session.specs.declared.played.Played.{Played}
+use Rattle.lt_session.specs.declared.played.Played.TheVariants as played
+use Rattle.lt_step.specs.Machine.{State}
+use Rattle.lt_term.specs.Scene.{Scene}
+use Rattle.lt_words.specs.Words.{Request}
+use Rattle.lt_call.specs.Call.{AreContents, GivesDue, IsCounted, IsTrace, blames}
+use Rattle.lt_call.specs.Course.{Giver, IsCourseOf, by_file, by_nobody, by_program, giver_of, oracle_of, origin_of, run_of}
+use Rattle.lt_call.specs.Due.{Answer, Contents, IsDue, Work, refuses, writes, plays}
+use Rattle.lt_call.specs.Given as given
+use Rattle.lt_call.specs.Given.{Gives, IsDone, PutsNothing, number_behind, status_of}
+use Rattle.lt_call.specs.Laws.{ContentsHaveOneDueAnswer, IsCutEarly, IsUnbroken, IsUncut, IsWhole, RefusalsAreExact, SameCallSameBytes, SidesTell, Tell, TellsTrace, UncutCallsAreWhole, UndisturbedCallsAreUncut}
 use Rattle.lt_call.specs.Lines.{status_lines}
-use Rattle.lt_call.specs.Pieces.{trace_of}
-use Rattle.lt_call.specs.Words.{Request}
+use Rattle.lt_call.specs.Outside.{Outside, beside, faults_of}
 use Rattle.lt_call.specs.declared.status.Status.{Status}
 use Rattle.lt_call.specs.declared.status.Status.TheVariants as status
 use Rattle.lt_call.specs.declared.status.Refusal.{Refusal}
 use Rattle.lt_call.specs.declared.status.Device.{Device}
 use Rattle.lt_call.specs.declared.status.Device.TheVariants as device
 
+-- Contents that are told.
+
+same_trace : (g : Giver) (told : List ℕ → Option (List ℕ)) (trace other : List ℕ) → TellsTrace g told trace → IsTrace g told other → other ≡ trace
+same_trace by_nobody told trace other tells is = is ∙ sym tells
+same_trace (by_program command) told trace other tells is = is ∙ sym tells
+same_trace (by_file name) told trace other tells is = let P : Option (List ℕ) → Type 0 = λ o. WhereTold o (λ bytes. other ≡ bytes) in subst P tells is
+
+same_scenario : (told : Option (List ℕ)) (text other : List ℕ) → told ≡ Some text → WhereTold told (λ bytes. other ≡ bytes) → other ≡ text
+same_scenario told text other tells is = let P : Option (List ℕ) → Type 0 = λ o. WhereTold o (λ bytes. other ≡ bytes) in subst P tells is
+
 -- contents that are told are the ones that were read
 same_contents : (r : Request) (told : List ℕ → Option (List ℕ)) (c other : Contents) → Tell r told c → AreContents r told other → other ≡ c
 same_contents r told c other tell are =
-    let P : Option (List ℕ) → Type 0 = λ o. WhereTold o (λ bytes. other.scenario ≡ bytes) in
-    ap (λ bytes. record { scenario = bytes }) (subst P tell are)
+    let a : other.scenario ≡ c.scenario = same_scenario (told r.file) c.scenario other.scenario tell.0 are.0 in
+    let b : other.replay ≡ c.replay = same_trace (giver_of r) told c.replay other.replay tell.1 are.1 in
+    ap (λ bytes. record { scenario = bytes; replay = other.replay }) a ∙ ap (λ bytes. record { scenario = c.scenario; replay = bytes }) b
 
 -- the answer that is due to contents that are told is the one that a call gives
-gives_this : ContentsHaveOneDueAnswer → (r : Request) (c : Contents) (told : List ℕ → Option (List ℕ)) (names : List (List ℕ)) (old new : Option (List ℕ)) (s : Status) (answer : Answer) → Tell r told c → GivesDue r told names old new s → IsDue r c answer → Gives answer names old new s
-gives_this law r c told names old new s answer tell gives due =
+gives_this : ContentsHaveOneDueAnswer → (r : Request) (c : Contents) (told : List ℕ → Option (List ℕ)) (asked names : List (List ℕ)) (old new : Outside) (s : Status) (answer : Answer) → Tell r told c → GivesDue r told asked old new names s → IsDue r c answer → Gives r c answer asked old new names s
+gives_this law r c told asked names old new s answer tell gives due =
+    let same : gives.0 ≡ c = same_contents r told c gives.0 tell gives.1 in
     let P : Contents → Type 0 = λ d. IsDue r d gives.2 in
-    let Q : Answer → Type 0 = λ a. Gives a names old new s in
-    subst Q ((law r c).1 gives.2 answer (subst P (same_contents r told c gives.0 tell gives.1) gives.3) due) gives.4
+    let Q : Contents → Type 0 = λ d. Gives r d gives.2 asked old new names s in
+    let R : Answer → Type 0 = λ a. Gives r c a asked old new names s in
+    subst R ((law r c).1 gives.2 answer (subst P same gives.3) due) (subst Q same gives.4)
 
--- an answer that isn't cut is given whole
-whole : (answer : Answer) (names : List (List ℕ)) (old new : Option (List ℕ)) (s : Status) → IsUncut s → Gives answer names old new s → GivesWhole answer names old new s
-whole answer names old new s u (inl h) = h
-whole answer names old new s u (inr (by_file k)) = absurd u
-whole answer names old new s u (inr (by_trace at k)) = absurd u
-whole answer names old new s u (inr (by_memory k)) = absurd u
-whole answer names old new s u (inr (by_memory_later n l k)) = absurd u
+-- What isn't cut is whole.
 
-pub same_call_same_bytes : ContentsHaveOneDueAnswer → SameCallSameBytes
-same_call_same_bytes law r c told told' names names' old new old' new' s s' tell gives u tell' gives' u' =
-    let answer = (law r c).0 in
-    let first = whole answer.0 names (Some old) (Some new) s u (gives_this law r c told names (Some old) (Some new) s answer.0 tell gives answer.1) in
-    let second = whole answer.0 names' (Some old') (Some new') s' u' (gives_this law r c told' names' (Some old') (Some new') s' answer.0 tell' gives' answer.1) in
-    let same : s ≡ s' = first.0 ∙ sym second.0 in
-    (same, ap (λ ns. status_lines ns s) (first.1 ∙ sym second.1) ∙ ap (status_lines names') same, (trace_of answer.0.pieces, first.2, second.2))
+unbroken : (e : End) → IsUnbroken e → (w : Who) → e ≢ end.Device w
+unbroken e h w is = let P : End → Type 0 = λ x. IsUnbroken x in absurd (subst P is h)
 
--- bytes that grow by nothing are kept
-keeps : (old new : Option (List ℕ)) → Appends old new [] → Keeps old new
-keeps None new h = tt
-keeps (Some xs) None h = absurd h
-keeps (Some xs) (Some ys) h = h ∙ append-nil xs
+-- a run that ended by itself
+ended_whole : UndisturbedSessionsAreWhole State → (r : Request) (trace : List ℕ) (c o : List ℕ) (scene : Scene) (k : Course) (core : Standing State) (e : End) (old new : Outside) → IsCourseOf r scene k →
+    IsPlayed k (origin_of (giver_of r) trace) (oracle_of r.oracle) (beside old) (beside new) core (played.Driven (driven.Ended e)) → IsUnbroken e → SidesTell r (record { scenario = []; replay = trace }) old.programs c o →
+    IsWhole r c o (plays scene) scene.exceptions old new (status_of (played.Driven (driven.Ended e)) core.written)
+ended_whole law r trace c o scene k core e old new course is whole tell =
+    let l = law k (origin_of (giver_of r) trace) (oracle_of r.oracle) (beside old) (beside new) core e c o is (unbroken e whole) tell.0 tell.1 tell.2 in
+    let same : k.play (told_streams.closed c) (told_streams.closed o) ≡ run_of r scene (told_streams.closed c) (told_streams.closed o) = course.plays (told_streams.closed c) (told_streams.closed o) in
+    let steps : core.written ≡ step_count (run_of r scene (told_streams.closed c) (told_streams.closed o)).pieces =
+    (let a = l.2 in let b = course.unwritten in omega arith) ∙ ap (λ (p : Play). step_count p.pieces) same in (
+      e,
+      sym (ap (λ (p : Play). p.stop) same) ∙ l.0,
+      ap (λ n. status.Ran (record { end = e; at = number_behind e n })) steps,
+      refl,
+      subst (λ (p : Play). Appends old.trace.written new.trace.written (text_to destination.Trace p.pieces)) same l.1,
+    )
 
--- nothing is cut in the texts of a refusal
-uncut_refusal : (k : ℕ) (old new : Option (List ℕ)) → IsCutAt k [] old new → ⊥
-uncut_refusal k old new h = let e : None ≡ Some (h.0 ++ h.1) = h.2 in cc e
+played_whole : UndisturbedSessionsAreWhole State → (r : Request) (trace : List ℕ) (c o : List ℕ) (scene : Scene) (k : Course) (core : Standing State) (how : Played) (old new : Outside) → IsCourseOf r scene k →
+    IsPlayed k (origin_of (giver_of r) trace) (oracle_of r.oracle) (beside old) (beside new) core how → IsUncut (status_of how core.written) → SidesTell r (record { scenario = []; replay = trace }) old.programs c o →
+    IsWhole r c o (plays scene) scene.exceptions old new (status_of how core.written)
+played_whole law r trace c o scene k core (played.Driven (driven.Ended e)) old new course is u tell = ended_whole law r trace c o scene k core e old new course is u tell
+played_whole law r trace c o scene k core (played.Driven driven.Starved) old new course is u tell = absurd u
+played_whole law r trace c o scene k core (played.Driven (driven.Untraced step)) old new course is u tell = absurd u
+played_whole law r trace c o scene k core (played.Unstarted w) old new course is u tell = absurd u
+played_whole law r trace c o scene k core played.Memory old new course is u tell = absurd u
 
-refused_so : (reason : Refusal) (names : List (List ℕ)) (old new : Option (List ℕ)) (s : Status) → Gives (refused reason) names old new s → Keeps old new × ((s ≡ status.Refused reason) ⊎ IsCutEarly s)
-refused_so reason names old new s (inl h) = (keeps old new h.2, inl h.0)
-refused_so reason names old new s (inr (by_file k)) = (k, inr tt)
-refused_so reason names old new s (inr (by_trace at k)) = absurd (uncut_refusal at old new k)
-refused_so reason names old new s (inr (by_memory k)) = (k, inr tt)
-refused_so reason names old new s (inr (by_memory_later n l k)) = absurd (omega arith)
+done_whole : UndisturbedSessionsAreWhole State → (r : Request) (trace : List ℕ) (c o : List ℕ) (work : Work) (names : List (List ℕ)) (old new : Outside) (s : Status) → IsDone r trace (beside old) (beside new) work names s → IsUncut s →
+    SidesTell r (record { scenario = []; replay = trace }) old.programs c o → IsWhole r c o work names old new s
+done_whole law r trace c o work names old new s (given.refused reason puts) u tell = (refl, refl, puts)
+done_whole law r trace c o work names old new s (given.written text same all) u tell = (refl, refl, all)
+done_whole law r trace c o work names old new s (given.cut text same part) u tell = absurd u
+done_whole law r trace c o work names old new s (given.ran scene k core how course is) u tell = played_whole law r trace c o scene k core how old new course is u tell
+
+gives_whole : UndisturbedSessionsAreWhole State → (r : Request) (contents : Contents) (c o : List ℕ) (answer : Answer) (asked names : List (List ℕ)) (old new : Outside) (s : Status) → Gives r contents answer asked old new names s → IsUncut s →
+    SidesTell r contents old.programs c o → IsWhole r c o answer.work names old new s
+gives_whole law r contents c o answer asked names old new s (given.done ns t f is) u tell = done_whole law r contents.replay c o answer.work ns old new t is u tell
+gives_whole law r contents c o answer asked names old new s (given.by_file k some f puts) u tell = absurd u
+gives_whole law r contents c o answer asked names old new s (given.by_memory k f puts) u tell = absurd u
+
+pub uncut_calls_are_whole : ContentsHaveOneDueAnswer → UndisturbedSessionsAreWhole State → UncutCallsAreWhole
+uncut_calls_are_whole due law r contents told names asked old new s c o answer tell gives u sides is =
+    gives_whole law r contents c o answer asked names old new s (gives_this due r contents told asked names old new s answer tell gives is) u sides
+
+-- Two calls.
+
+keeps_all : (old new : Option (List ℕ)) (before now : List ℕ) → old ≡ Some before → new ≡ Some now → Keeps old new → now ≡ before ++ []
+keeps_all None new before now e f h = absurd (cc)
+keeps_all (Some xs) None before now e f h = absurd h
+keeps_all (Some xs) (Some ys) before now e f h = let a : xs ≡ before = cc in let b : ys ≡ now = cc in sym b ∙ h ∙ a ∙ sym (append-nil before)
+
+appends_all : (old new : Option (List ℕ)) (before now text : List ℕ) → old ≡ Some before → new ≡ Some now → Appends old new text → now ≡ before ++ text
+appends_all None new before now text e f h = absurd (cc)
+appends_all (Some xs) None before now text e f h = absurd h
+appends_all (Some xs) (Some ys) before now text e f h = let a : xs ≡ before = cc in let b : ys ≡ now = cc in sym b ∙ h ∙ ap (λ t. t ++ text) a
+
+-- the bytes of work
+abbrev bytes_of : Request → List ℕ → List ℕ → Work → List ℕ
+bytes_of r c o (refuses reason) = []
+bytes_of r c o (writes text) = text
+bytes_of r c o (plays scene) = text_to destination.Trace (run_of r scene (told_streams.closed c) (told_streams.closed o)).pieces
+
+whole_bytes : (r : Request) (c o : List ℕ) (work : Work) (names : List (List ℕ)) (old new : Outside) (s : Status) (before now : List ℕ) → old.trace.written ≡ Some before → new.trace.written ≡ Some now → IsWhole r c o work names old new s → now ≡ before ++ bytes_of r c o work
+whole_bytes r c o (refuses reason) names old new s before now e f h = keeps_all old.trace.written new.trace.written before now e f h.2.trace
+whole_bytes r c o (writes text) names old new s before now e f h = appends_all old.trace.written new.trace.written before now text e f h.2
+whole_bytes r c o (plays scene) names old new s before now e f h = appends_all old.trace.written new.trace.written before now _ e f h.4
+
+same_end : (s : Stop) (e f : End) → s ≡ ends e → s ≡ ends f → e ≡ f
+same_end s e f h k = let both : ends e ≡ ends f = sym h ∙ k in cc
+
+same_status : (r : Request) (c o : List ℕ) (work : Work) (names names' : List (List ℕ)) (old new old' new' : Outside) (s s' : Status) → IsWhole r c o work names old new s → IsWhole r c o work names' old' new' s' → (s ≡ s') × (names ≡ names')
+same_status r c o (refuses reason) names names' old new old' new' s s' h k = (h.0 ∙ sym k.0, h.1 ∙ sym k.1)
+same_status r c o (writes text) names names' old new old' new' s s' h k = (h.0 ∙ sym k.0, h.1 ∙ sym k.1)
+same_status r c o (plays scene) names names' old new old' new' s s' h k =
+    let steps = step_count (run_of r scene (told_streams.closed c) (told_streams.closed o)).pieces in
+    let e : h.0 ≡ k.0 = same_end (run_of r scene (told_streams.closed c) (told_streams.closed o)).stop h.0 k.0 h.1 k.1 in
+    (h.2 ∙ ap (λ x. status.Ran (record { end = x; at = number_behind x steps })) e ∙ sym k.2, h.3 ∙ sym k.3)
+
+pub same_call_same_bytes : ContentsHaveOneDueAnswer → UncutCallsAreWhole → SameCallSameBytes
+same_call_same_bytes due law r contents told told' names names' asked asked' old new old' new' before now before' now' s s' c o tell gives u sides tell' gives' u' sides' e f e' f' =
+    let answer = (due r contents).0 in
+    let first = law r contents told names asked old new s c o answer.0 tell gives u sides answer.1 in
+    let second = law r contents told' names' asked' old' new' s' c o answer.0 tell' gives' u' sides' answer.1 in
+    let same = same_status r c o answer.0.work names names' old new old' new' s s' first second in
+    (same.0, ap (λ ns. status_lines ns s) same.1 ∙ ap (status_lines names') same.0, (bytes_of r c o answer.0.work, whole_bytes r c o answer.0.work names old new s before now e f first, whole_bytes r c o answer.0.work names' old' new' s' before' now' e' f' second))
+
+-- Refusals.
+
+refusal_done : (r : Request) (trace : List ℕ) (work : Work) (reason : Refusal) (names : List (List ℕ)) (old new : Beside) (s : Status) → work ≡ refuses reason → IsDone r trace old new work names s → PutsNothing old new × (s ≡ status.Refused reason)
+refusal_done r trace work reason names old new s e (given.refused other puts) = (puts, let same : other ≡ reason = cc in ap (λ x. status.Refused x) same)
+refusal_done r trace work reason names old new s e (given.written text same all) = absurd (cc)
+refusal_done r trace work reason names old new s e (given.cut text same part) = absurd (cc)
+refusal_done r trace work reason names old new s e (given.ran scene k core how course is) = absurd (cc)
+
+refused_so : (r : Request) (c : Contents) (reason : Refusal) (files asked names : List (List ℕ)) (old new : Outside) (s : Status) → Gives r c (record { work = refuses reason; files = files }) asked old new names s →
+    PutsNothing (beside old) (beside new) × ((s ≡ status.Refused reason) ⊎ IsCutEarly s)
+refused_so r c reason files asked names old new s (given.done ns t f is) = let h = refusal_done r c.replay (refuses reason) reason ns (beside old) (beside new) t refl is in (h.0, inl h.1)
+refused_so r c reason files asked names old new s (given.by_file k some f puts) = (puts, inr tt)
+refused_so r c reason files asked names old new s (given.by_memory k f puts) = (puts, inr tt)
 
 pub refusals_are_exact : ContentsHaveOneDueAnswer → RefusalsAreExact
-refusals_are_exact law r c told names old new s reason tell gives due =
-    refused_so reason names old new s (gives_this law r c told names old new s (refused reason) tell gives due)
+refusals_are_exact law r c told names asked files old new s reason tell gives due =
+    refused_so r c reason files asked names old new s (gives_this law r c told asked names old new s (record { work = refuses reason; files = files }) tell gives due)
 
--- a device whose count didn't rise isn't blamed
-calm : (before now : Device → ℕ) (s : Status) → ((what : Device) → Counts (blames s what) (before what) (now what)) → ((what : Device) → Rose (before what) (now what) → ⊥) → s ≢ status.Memory → IsUncut s
-calm before now status.Done counts none lasts = tt
-calm before now (status.Ran ending) counts none lasts = tt
-calm before now (status.Usage kind) counts none lasts = tt
-calm before now (status.Refused reason) counts none lasts = tt
-calm before now (status.Device device.File at) counts none lasts = none device.File (counts device.File)
-calm before now (status.Device device.Trace at) counts none lasts = none device.Trace (counts device.Trace)
-calm before now status.Memory counts none lasts = lasts refl
+-- Nothing is cut where nothing failed.
 
-pub undisturbed_calls_are_whole : ContentsHaveOneDueAnswer → UndisturbedCallsAreWhole
-undisturbed_calls_are_whole law r c told names old new s before now answer tell gives counts none lasts due =
-    whole answer names old new s (calm before now s counts none lasts) (gives_this law r c told names old new s answer tell gives due)
+no_program : (w : Who) (before now : ℕ) → (Rose before now → ⊥) → IsCounted (device.Program w) (blames (status.Device (device.Program w) 0) (device.Program w)) before now → ⊥
+no_program who.Controller before now none counts = none counts
+no_program who.Oracle before now none counts = none counts
+
+no_side : (w : Who) (at before now : ℕ) → (Rose before now → ⊥) → IsCounted (device.Program w) (blames (status.Ran (record { end = end.Device w; at = at })) (device.Program w)) before now → ⊥
+no_side who.Controller at before now none counts = none counts
+no_side who.Oracle at before now none counts = none counts
+
+calm_end : (e : End) (at : ℕ) (old new : Outside) → ((what : Device) → IsCounted what (blames (status.Ran (record { end = e; at = at })) what) (faults_of what old) (faults_of what new)) → ((what : Device) → Rose (faults_of what old) (faults_of what new) → ⊥) → IsUnbroken e
+calm_end (end.Device w) at old new counts none = no_side w at old.programs.faults new.programs.faults (none (device.Program w)) (counts (device.Program w))
+calm_end end.Normal at old new counts none = tt
+calm_end end.Limit at old new counts none = tt
+calm_end end.Oracle at old new counts none = tt
+calm_end end.Deadlock at old new counts none = tt
+calm_end (end.Raise x) at old new counts none = tt
+calm_end (end.Fault f) at old new counts none = tt
+calm_end end.TooLarge at old new counts none = tt
+calm_end (end.Malformed v f place) at old new counts none = tt
+calm_end (end.Ended v n) at old new counts none = tt
+calm_end (end.Budget n) at old new counts none = tt
+
+pub undisturbed_calls_are_uncut : UndisturbedCallsAreUncut
+undisturbed_calls_are_uncut status.Done old new counts none lasts = tt
+undisturbed_calls_are_uncut (status.Ran ending) old new counts none lasts = calm_end ending.end ending.at old new counts none
+undisturbed_calls_are_uncut (status.Usage kind) old new counts none lasts = tt
+undisturbed_calls_are_uncut (status.Refused reason) old new counts none lasts = tt
+undisturbed_calls_are_uncut (status.Device device.File at) old new counts none lasts = none device.File (counts device.File)
+undisturbed_calls_are_uncut (status.Device (device.Program w) at) old new counts none lasts = no_program w old.programs.faults new.programs.faults (none (device.Program w)) (counts (device.Program w))
+undisturbed_calls_are_uncut (status.Device device.Trace at) old new counts none lasts = none device.Trace (counts device.Trace)
+undisturbed_calls_are_uncut status.Memory old new counts none lasts = lasts refl

@@ -1,87 +1,77 @@
 -- What is due to a request.
-use Rattle.std.specs.Prelude.{◌≡◌, ◌≢◌, ℕ, ◌<◌, ◌≤◌, List, [], ◌∷◌, length, Some}
-use Rattle.lt_ast.specs.Syntax.{Declaration}
-use Rattle.lt_ast.specs.Printed.{printed}
-use Rattle.lt_expand.specs.Refusals.{expand_refusals}
-use Rattle.lt_expand.specs.Scenes.{scene_of}
-use Rattle.lt_expand.specs.declared.refusal.ExpandRefusal.{ExpandRefusal}
-use Rattle.lt_macros.specs.Expanded.{Node}
-use Rattle.lt_macros.specs.Expansion.{expanded_node}
-use Rattle.lt_parser.specs.Text.{IsProgramOf, IsRefusal}
-use Rattle.lt_parser.specs.declared.refusal.ParseRefusal.{ParseRefusal}
+use Rattle.std.specs.Prelude.{◌≡◌, ℕ, ◌<◌, ◌≤◌, true, false, List, [], ◌∷◌, ◌++◌, length, Ok, Err}
+use Rattle.lt_loop.specs.Stands.{is_served}
+use Rattle.lt_play.specs.Rules.{known_scene}
+use Rattle.lt_prepare.specs.Prepared.{IsScenarioAnswer, IsPrintedAnswer}
+use Rattle.lt_prepare.specs.declared.refusal.Refusal.{Refusal as Reason}
 use Rattle.lt_term.specs.Scene.{Scene}
-use Rattle.lt_types.specs.Refusals.{type_refusals}
-use Rattle.lt_types.specs.Typing.{IsWellTyped}
-use Rattle.lt_types.specs.declared.refusal.TypeRefusal.{TypeRefusal}
-use Rattle.lt_call.specs.Pieces.{Piece, trace_piece}
-use Rattle.lt_call.specs.Play.{Play, play_of}
-use Rattle.lt_call.specs.Settings.{longest_text}
-use Rattle.lt_call.specs.Words.{Request}
-use Rattle.lt_call.specs.declared.status.Status.{Status}
-use Rattle.lt_call.specs.declared.status.Status.TheVariants as status
+use Rattle.lt_words.specs.Settings.{longest_text, longest_replay}
+use Rattle.lt_words.specs.Words.{Request}
+use Rattle.lt_words.specs.declared.words.Mode.TheVariants as mode
+use Rattle.lt_call.specs.Course.{Giver, by_file, files_of, giver_of, talk_to}
 use Rattle.lt_call.specs.declared.status.Refusal.{Refusal}
 use Rattle.lt_call.specs.declared.status.Refusal.TheVariants as refusal
-use Rattle.lt_call.specs.declared.words.Mode.TheVariants as mode
 
 -- what a call reads
 pub record Contents : Type 0 where
   -- the scenario's file
   pub scenario : List ℕ
+  -- the file of an earlier trace, where one is to be played again
+  pub replay : List ℕ
 
--- how a call is answered: its status, what it puts out, in turn, and what the exceptions are called that it may speak of
+-- what a call does
+pub data Work : Type 0 where
+  -- it refuses what it was asked for
+  refuses : Refusal → Work
+  -- it puts out this text
+  writes : List ℕ → Work
+  -- it runs this scenario
+  plays : Scene → Work
+
+-- how a call is answered: what it does, and the files that it asks for before, in turn
 pub record Answer : Type 0 where
-  pub status : Status
-  pub pieces : List Piece
-  pub names : List (List ℕ)
+  pub work : Work
+  pub files : List (List ℕ)
 
--- a refusal puts out nothing
-abbrev pub refused : Refusal → Answer
-refused reason = record { status = status.Refused reason; pieces = []; names = [] }
+-- an answer that takes the scenario's file alone
+abbrev pub by_scenario : Request → Work → Answer
+by_scenario request work = record { work = work; files = request.file ∷ [] }
 
--- a run puts out its pieces, its ending is the status, and exceptions are called as in its scene
-abbrev pub ran : Scene → Play → Answer
-ran scene play = record { status = status.Ran play.ending; pieces = play.pieces; names = scene.exceptions }
+-- an answer that takes the earlier trace too, where one is asked for
+abbrev pub by_all : Request → Work → Answer
+by_all request work = record { work = work; files = request.file ∷ files_of (giver_of request) }
 
--- a text that was asked for is put out at once
-abbrev pub done : List ℕ → Answer
-done text = record { status = status.Done; pieces = trace_piece text ∷ []; names = [] }
+-- the scenario's file is no longer than allowed
+abbrev pub IsShort : Contents → Type 0
+IsShort contents = length contents.scenario ≤ longest_text
 
--- the scenario's file is no longer than allowed, and spells this program
-abbrev pub Spells : Contents → List Declaration → Type 0
-Spells contents program = (length contents.scenario ≤ longest_text) × IsProgramOf contents.scenario program
+-- this is the scenario that is asked for
+abbrev pub HasScene : Request → Contents → Scene → Type 0
+HasScene request contents scene = IsScenarioAnswer request.decimals request.node contents.scenario (Ok scene)
 
--- this is the first of the rules of types that the program breaks
-abbrev pub IsTypeRefusal : ℕ → List Declaration → TypeRefusal → Type 0
-IsTypeRefusal decimals program reason = (others : List TypeRefusal) × (type_refusals decimals program ≡ reason ∷ others)
+-- its inputs are given values, or it has none
+abbrev pub IsServed : Request → Scene → Type 0
+IsServed request scene = is_served (talk_to (giver_of request)) (known_scene scene) ≡ true
 
--- this is what is refused first of the node that is asked for
-abbrev pub IsExpandRefusal : Request → List Declaration → ExpandRefusal → Type 0
-IsExpandRefusal request program reason = (others : List ExpandRefusal) × (expand_refusals request.decimals request.node program ≡ reason ∷ others)
-
--- The program is well typed, nothing is refused of the node that is asked for, and this is its scenario.
-abbrev pub IsSceneOf : Request → List Declaration → Scene → Type 0
-IsSceneOf request program scene =
-    IsWellTyped request.decimals program × (expand_refusals request.decimals request.node program ≡ [])
-    × ((node : Node) × (expanded_node request.decimals request.node program ≡ Some node) × (scene ≡ scene_of request.decimals node))
-
--- the run of a scenario
-abbrev pub play_of_scene : Request → Scene → Play
-play_of_scene request scene = play_of scene (record { seed = request.seed; budget = request.budget; limit = request.limit })
+-- the earlier trace, where one is asked for, is no longer than allowed
+abbrev pub HasShortTrace : Giver → Contents → Type 0
+HasShortTrace (by_file name) contents = length contents.replay ≤ longest_replay
+HasShortTrace _ contents = Unit {0}
 
 -- The answer that is due to a request where the files have these contents: a row a cause, in the order in which the
 -- causes are tried.
 pub data IsDue (request : Request) (contents : Contents) : Answer → Type 0 where
   -- in each mode: the file is too long
-  too_long : longest_text < length contents.scenario → IsDue request contents (refused refusal.TooLong)
-  -- it is not, and its text spells no program, for this reason
-  no_program : (reason : ParseRefusal) → length contents.scenario ≤ longest_text → IsRefusal contents.scenario reason → IsDue request contents (refused (refusal.Text reason))
-  -- in the mode `run`: the program isn't well typed, for this reason
-  ill_typed : (program : List Declaration) (reason : TypeRefusal) → request.mode ≡ mode.Run → Spells contents program → IsTypeRefusal request.decimals program reason → IsDue request contents (refused (refusal.Types reason))
-  -- it is well typed, and its node has no scenario, for this reason
-  not_expanded : (program : List Declaration) (reason : ExpandRefusal) → request.mode ≡ mode.Run → Spells contents program → IsWellTyped request.decimals program → IsExpandRefusal request program reason → IsDue request contents (refused (refusal.Expand reason))
+  too_long : longest_text < length contents.scenario → IsDue request contents (by_scenario request (refuses refusal.TooLong))
+  -- in the mode `run`: it has no scenario, for this reason
+  no_scenario : (reason : Reason) → request.mode ≡ mode.Run → IsShort contents → IsScenarioAnswer request.decimals request.node contents.scenario (Err reason) → IsDue request contents (by_scenario request (refuses (refusal.Scenario reason)))
   -- the scenario has inputs, which nobody gives values
-  no_controller : (program : List Declaration) (scene : Scene) → request.mode ≡ mode.Run → Spells contents program → IsSceneOf request program scene → scene.inputs ≢ [] → IsDue request contents (refused refusal.NeedsController)
-  -- it has none, and is run
-  runs : (program : List Declaration) (scene : Scene) → request.mode ≡ mode.Run → Spells contents program → IsSceneOf request program scene → scene.inputs ≡ [] → IsDue request contents (ran scene (play_of_scene request scene))
-  -- in the mode `print`: the program is printed
-  prints : (program : List Declaration) → request.mode ≡ mode.Print → Spells contents program → IsDue request contents (done (printed program))
+  unserved : (scene : Scene) → request.mode ≡ mode.Run → IsShort contents → HasScene request contents scene → is_served (talk_to (giver_of request)) (known_scene scene) ≡ false → IsDue request contents (by_scenario request (refuses refusal.NeedsController))
+  -- an earlier trace gives them values, and is too long
+  long_trace : (scene : Scene) (name : List ℕ) → request.mode ≡ mode.Run → IsShort contents → HasScene request contents scene → IsServed request scene → giver_of request ≡ by_file name → longest_replay < length contents.replay → IsDue request contents (by_all request (refuses refusal.TooLong))
+  -- it isn't, and the scenario is run
+  runs : (scene : Scene) → request.mode ≡ mode.Run → IsShort contents → HasScene request contents scene → IsServed request scene → HasShortTrace (giver_of request) contents → IsDue request contents (by_all request (plays scene))
+  -- in the mode `print`: it has no printed form, for this reason
+  unprinted : (reason : Reason) → request.mode ≡ mode.Print → IsShort contents → IsPrintedAnswer contents.scenario (Err reason) → IsDue request contents (by_scenario request (refuses (refusal.Scenario reason)))
+  -- its printed form is put out
+  prints : (text : List ℕ) → request.mode ≡ mode.Print → IsShort contents → IsPrintedAnswer contents.scenario (Ok text) → IsDue request contents (by_scenario request (writes text))

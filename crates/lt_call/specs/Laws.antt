@@ -1,13 +1,23 @@
 -- What follows for whole calls.
-use Rattle.std.specs.Prelude.{◌≡◌, ◌≢◌, ℕ, ◌⊎◌, List, ◌++◌, Some}
-use Rattle.std.specs.Io.KnownBytes.{Keeps}
+use Rattle.std.specs.Prelude.{◌≡◌, ◌≢◌, ℕ, ◌⊎◌, List, [], ◌++◌, Some}
+use Rattle.std.specs.Io.KnownBytes.{Appends}
 use Rattle.std.specs.declared.option.Option.{Option}
+use Rattle.lt_drive.specs.Outside.{text_to}
+use Rattle.lt_drive.specs.Told.{closed}
 use Rattle.lt_io.specs.Causes.{Rose}
-use Rattle.lt_call.specs.Call.{GivesDue, Counts, blames}
-use Rattle.lt_call.specs.Cut.{GivesWhole}
-use Rattle.lt_call.specs.Due.{Answer, Contents, IsDue, refused}
+use Rattle.lt_loop.specs.Play.{ends, step_count}
+use Rattle.lt_loop.specs.declared.event.Destination.TheVariants as destination
+use Rattle.lt_rif.specs.declared.end.End.{End}
+use Rattle.lt_rif.specs.declared.end.End.TheVariants as end
+use Rattle.lt_session.specs.Programs.{Programs, Same}
+use Rattle.lt_session.specs.Whole.{AreApart, Gives as Tells}
+use Rattle.lt_words.specs.Words.{Request}
+use Rattle.lt_call.specs.Call.{GivesDue, IsCounted, blames}
+use Rattle.lt_call.specs.Course.{Giver, by_file, giver_of, oracle_of, origin_of, run_of}
+use Rattle.lt_call.specs.Due.{Answer, Contents, IsDue, Work, refuses, writes, plays}
+use Rattle.lt_call.specs.Given.{PutsNothing, number_behind}
 use Rattle.lt_call.specs.Lines.{status_lines}
-use Rattle.lt_call.specs.Words.{Request}
+use Rattle.lt_call.specs.Outside.{Outside, beside, faults_of}
 use Rattle.lt_call.specs.declared.status.Status.{Status}
 use Rattle.lt_call.specs.declared.status.Status.TheVariants as status
 use Rattle.lt_call.specs.declared.status.Refusal.{Refusal}
@@ -21,43 +31,79 @@ ContentsHaveOneDueAnswer =
     ((answer : Answer) × IsDue request contents answer)
     × ((answer other : Answer) → IsDue request contents answer → IsDue request contents other → answer ≡ other)
 
--- the files that a request asks for tell these contents
+-- the file of the trace that a giver takes tells these contents
+abbrev pub TellsTrace : Giver → (List ℕ → Option (List ℕ)) → List ℕ → Type 0
+TellsTrace (by_file name) told trace = told name ≡ Some trace
+TellsTrace _ told trace = trace ≡ []
+
+-- the files that a request asks for tell these contents; where it asks for no earlier trace, that is empty
 abbrev pub Tell : Request → (List ℕ → Option (List ℕ)) → Contents → Type 0
-Tell request told contents = told request.file ≡ Some contents.scenario
+Tell request told contents = (told request.file ≡ Some contents.scenario) × TellsTrace (giver_of request) told contents.replay
+
+-- what comes of both sides of a run is told to be these bytes, and the sides are started by commands that differ
+abbrev pub SidesTell : Request → Contents → Programs → List ℕ → List ℕ → Type 0
+SidesTell request contents programs c o =
+    AreApart (origin_of (giver_of request) contents.replay) (oracle_of request.oracle)
+    × Tells (origin_of (giver_of request) contents.replay) programs c × Tells (oracle_of request.oracle) programs o
+
+-- no run ended by the fault of a side
+abbrev pub IsUnbroken : End → Type 0
+IsUnbroken (end.Device w) = ⊥
+IsUnbroken _ = Unit {0}
 
 -- no device failed, and memory lasted
 abbrev pub IsUncut : Status → Type 0
 IsUncut (status.Device what at) = ⊥
 IsUncut status.Memory = ⊥
+IsUncut (status.Ran ending) = IsUnbroken ending.end
 IsUncut _ = Unit {0}
 
--- Two calls that ask for the same of the same contents, and that neither a device nor want of memory cuts short, have
--- the same status, say the same, and append the same bytes to their traces, whatever these held before.
+-- Work is done whole, where these bytes come of the two sides: its status, the names of its exceptions, and the text by
+-- which the trace grows.
+abbrev pub IsWhole : Request → List ℕ → List ℕ → Work → List (List ℕ) → Outside → Outside → Status → Type 0
+IsWhole request c o (refuses reason) names old new s = (s ≡ status.Refused reason) × (names ≡ []) × PutsNothing (beside old) (beside new)
+IsWhole request c o (writes text) names old new s = (s ≡ status.Done) × (names ≡ []) × Appends old.trace.written new.trace.written text
+IsWhole request c o (plays scene) names old new s =
+    (e : End) × ((run_of request scene (closed c) (closed o)).stop ≡ ends e)
+    × (s ≡ status.Ran (record { end = e; at = number_behind e (step_count (run_of request scene (closed c) (closed o)).pieces) }))
+    × (names ≡ scene.exceptions)
+    × Appends old.trace.written new.trace.written (text_to destination.Trace (run_of request scene (closed c) (closed o)).pieces)
+
+-- What isn't cut is whole: where files and sides tell what they have, a call that neither a device nor want of memory cuts
+-- short does its work whole.
+abbrev pub UncutCallsAreWhole : Type 0
+UncutCallsAreWhole =
+    (request : Request) (contents : Contents) (told : List ℕ → Option (List ℕ)) (names asked : List (List ℕ)) (old new : Outside) (s : Status) (c o : List ℕ) (answer : Answer) →
+    Tell request told contents → GivesDue request told asked old new names s → IsUncut s → SidesTell request contents old.programs c o → IsDue request contents answer →
+    IsWhole request c o answer.work names old new s
+
+-- Two calls that ask for the same of the same contents, of which the same comes of both sides, and that neither a device
+-- nor want of memory cuts short, have the same status, say the same, and append the same bytes to their traces, whatever
+-- these held before.
 abbrev pub SameCallSameBytes : Type 0
 SameCallSameBytes =
-    (request : Request) (contents : Contents) (told told' : List ℕ → Option (List ℕ)) (names names' : List (List ℕ)) (old new old' new' : List ℕ) (s s' : Status) →
-    Tell request told contents → GivesDue request told names (Some old) (Some new) s → IsUncut s →
-    Tell request told' contents → GivesDue request told' names' (Some old') (Some new') s' → IsUncut s' →
-    (s ≡ s') × (status_lines names s ≡ status_lines names' s') × ((bytes : List ℕ) × (new ≡ old ++ bytes) × (new' ≡ old' ++ bytes))
+    (request : Request) (contents : Contents) (told told' : List ℕ → Option (List ℕ)) (names names' asked asked' : List (List ℕ)) (old new old' new' : Outside) (before now before' now' : List ℕ) (s s' : Status) (c o : List ℕ) →
+    Tell request told contents → GivesDue request told asked old new names s → IsUncut s → SidesTell request contents old.programs c o →
+    Tell request told' contents → GivesDue request told' asked' old' new' names' s' → IsUncut s' → SidesTell request contents old'.programs c o →
+    old.trace.written ≡ Some before → new.trace.written ≡ Some now → old'.trace.written ≡ Some before' → new'.trace.written ≡ Some now' →
+    (s ≡ s') × (status_lines names s ≡ status_lines names' s') × ((bytes : List ℕ) × (now ≡ before ++ bytes) × (now' ≡ before' ++ bytes))
 
--- the file could not be read, or memory ran out
+-- a file could not be read, or memory ran out
 abbrev pub IsCutEarly : Status → Type 0
 IsCutEarly (status.Device device.File at) = Unit {0}
 IsCutEarly status.Memory = Unit {0}
 IsCutEarly _ = ⊥
 
--- Where a refusal is due, nothing is written, and the status is that refusal, unless the file could not be read or memory
+-- Where a refusal is due, nothing is put out, and the status is that refusal, unless a file could not be read or memory
 -- ran out.
 abbrev pub RefusalsAreExact : Type 0
 RefusalsAreExact =
-    (request : Request) (contents : Contents) (told : List ℕ → Option (List ℕ)) (names : List (List ℕ)) (old new : Option (List ℕ)) (s : Status) (reason : Refusal) →
-    Tell request told contents → GivesDue request told names old new s → IsDue request contents (refused reason) →
-    Keeps old new × ((s ≡ status.Refused reason) ⊎ IsCutEarly s)
+    (request : Request) (contents : Contents) (told : List ℕ → Option (List ℕ)) (names asked files : List (List ℕ)) (old new : Outside) (s : Status) (reason : Refusal) →
+    Tell request told contents → GivesDue request told asked old new names s → IsDue request contents (record { work = refuses reason; files = files }) →
+    PutsNothing (beside old) (beside new) × ((s ≡ status.Refused reason) ⊎ IsCutEarly s)
 
--- Where no device's count of faults rose, and memory didn't run out, what is due is given whole.
-abbrev pub UndisturbedCallsAreWhole : Type 0
-UndisturbedCallsAreWhole =
-    (request : Request) (contents : Contents) (told : List ℕ → Option (List ℕ)) (names : List (List ℕ)) (old new : Option (List ℕ)) (s : Status) (before now : Device → ℕ) (answer : Answer) →
-    Tell request told contents → GivesDue request told names old new s → ((what : Device) → Counts (blames s what) (before what) (now what)) →
-    ((what : Device) → Rose (before what) (now what) → ⊥) → s ≢ status.Memory → IsDue request contents answer →
-    GivesWhole answer names old new s
+-- Where no device's count of faults rose, and memory didn't run out, a call isn't cut.
+abbrev pub UndisturbedCallsAreUncut : Type 0
+UndisturbedCallsAreUncut =
+    (s : Status) (old new : Outside) → ((what : Device) → IsCounted what (blames s what) (faults_of what old) (faults_of what new)) →
+    ((what : Device) → Rose (faults_of what old) (faults_of what new) → ⊥) → s ≢ status.Memory → IsUncut s

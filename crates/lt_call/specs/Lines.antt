@@ -1,41 +1,29 @@
 -- What a call says on standard error.
 use Rattle.std.specs.Prelude.{ℕ, List, [], ◌∷◌, ◌++◌, None, Some, codes, decimal}
 use Rattle.std.specs.declared.option.Option.{Option}
-use Rattle.lt_expand.specs.Codes.{expand_code, expand_place}
-use Rattle.lt_parser.specs.Refusals.{parse_code, parse_place}
-use Rattle.lt_rif.specs.Trace.{line, spaced, end_words}
+use Rattle.lt_prepare.specs.Codes.{refusal_code, refusal_place}
+use Rattle.lt_rif.specs.Trace.{line, spaced, end_words, who_text}
 use Rattle.lt_rif.specs.declared.end.End.{End}
 use Rattle.lt_rif.specs.declared.end.End.TheVariants as end
-use Rattle.lt_types.specs.Codes.{type_code, type_place}
+use Rattle.lt_words.specs.Usage.{usage_word, usage_text}
 use Rattle.lt_call.specs.declared.status.Status.{Status}
 use Rattle.lt_call.specs.declared.status.Status.TheVariants as status
-use Rattle.lt_call.specs.declared.status.UsageKind.{UsageKind}
-use Rattle.lt_call.specs.declared.status.UsageKind.TheVariants as usage
 use Rattle.lt_call.specs.declared.status.Refusal.{Refusal}
 use Rattle.lt_call.specs.declared.status.Refusal.TheVariants as refusal
 use Rattle.lt_call.specs.declared.status.Device.{Device}
 use Rattle.lt_call.specs.declared.status.Device.TheVariants as device
 
--- the word of a fault of the words
-abbrev pub usage_word : UsageKind → List ℕ
-usage_word usage.Words = codes "words"
-usage_word usage.Mode = codes "mode"
-
 -- the code of a refusal
-abbrev pub refusal_code : Refusal → List ℕ
-refusal_code refusal.TooLong = codes "file.TooLong"
-refusal_code (refusal.Text reason) = parse_code reason
-refusal_code (refusal.Types reason) = type_code reason
-refusal_code (refusal.Expand reason) = expand_code reason
-refusal_code refusal.NeedsController = codes "run.NeedsController"
+abbrev pub code_of : Refusal → List ℕ
+code_of refusal.TooLong = codes "file.TooLong"
+code_of (refusal.Scenario reason) = refusal_code reason
+code_of refusal.NeedsController = codes "run.NeedsController"
 
 -- its place in the text, where it has one
-abbrev pub refusal_place : Refusal → Option ℕ
-refusal_place refusal.TooLong = None
-refusal_place (refusal.Text reason) = parse_place reason
-refusal_place (refusal.Types reason) = type_place reason
-refusal_place (refusal.Expand reason) = expand_place reason
-refusal_place refusal.NeedsController = None
+abbrev pub place_of : Refusal → Option ℕ
+place_of refusal.TooLong = None
+place_of (refusal.Scenario reason) = refusal_place reason
+place_of refusal.NeedsController = None
 
 -- a place after a code, where there is one
 abbrev pub at_place : Option ℕ → List ℕ
@@ -45,12 +33,8 @@ at_place (Some place) = codes " at " ++ decimal place
 -- the word of a device
 abbrev pub device_word : Device → List ℕ
 device_word device.File = codes "file"
+device_word (device.Program w) = who_text w
 device_word device.Trace = codes "trace"
-
--- how the program is called
-abbrev pub usage_text : List ℕ
-usage_text =
-    codes "lurette MODE FILE [-l N] [--seed N] [--precision N] [--budget N] [--node NAME] [--sut CMD] [--oracle CMD] [--replay FILE] [--locals]"
 
 -- the place of a reply that is refused
 abbrev pub end_place : End → Option ℕ
@@ -69,7 +53,7 @@ abbrev pub status_lines : List (List ℕ) → Status → List ℕ
 status_lines names status.Done = []
 status_lines names (status.Ran ending) = end_lines ending.end names ending.at
 status_lines names (status.Usage kind) = line (codes "lurette: usage: " ++ usage_word kind) ++ line usage_text
-status_lines names (status.Refused reason) = line (codes "lurette: refused " ++ refusal_code reason ++ at_place (refusal_place reason))
+status_lines names (status.Refused reason) = line (codes "lurette: refused " ++ code_of reason ++ at_place (place_of reason))
 status_lines names (status.Device what at) = line (codes "lurette: device " ++ device_word what ++ codes " " ++ decimal at)
 status_lines names status.Memory = line (codes "lurette: memory")
 

@@ -1,37 +1,44 @@
-//! Laws of whole calls.
+//! Laws of whole calls. The functions do nothing: their contracts say it.
 
-ghost use Rattle.lt_call.specs.Laws.{ContentsHaveOneDueAnswer, SameCallSameBytes, RefusalsAreExact, UndisturbedCallsAreWhole};
+ghost use Rattle.lt_call.specs.Laws.{ContentsHaveOneDueAnswer, RefusalsAreExact, SameCallSameBytes, UncutCallsAreWhole, UndisturbedCallsAreUncut};
 
-use lt_parser::one_answer_belongs_to_a_text;
-use lt_types::well_typed_is_unrefused;
+use lt_play::Player;
+use lt_prepare::{texts_have_one_printed_answer, texts_have_one_scenario_answer};
+use lt_session::undisturbed_sessions_are_whole;
 
 /// One answer is due to a request and the contents of its files.
 pub fn contents_have_one_due_answer()
     ensures { ContentsHaveOneDueAnswer }
 {
-    one_answer_belongs_to_a_text();
-    well_typed_is_unrefused();
+    texts_have_one_scenario_answer();
+    texts_have_one_printed_answer();
 }
 
-/// Two calls that ask for the same of the same contents, and that nothing cuts short, have the same status
-/// and write the same bytes.
+/// Where files and programs tell what they have, what no device and no want of memory cuts short is done whole.
+pub fn uncut_calls_are_whole()
+    ensures { UncutCallsAreWhole }
+{
+    contents_have_one_due_answer();
+    undisturbed_sessions_are_whole::<Player>();
+}
+
+/// Two calls that ask for the same of the same contents and of the same streams, and that nothing cuts short, have the
+/// same status and write the same bytes.
 pub fn same_call_same_bytes()
     ensures { SameCallSameBytes }
 {
     contents_have_one_due_answer();
+    uncut_calls_are_whole();
 }
 
-/// What is to be refused is refused so, and nothing is written, unless its file could not be read or memory
-/// ran out.
+/// What is to be refused is refused so, and nothing is put out, unless a file could not be read or memory ran out.
 pub fn refusals_are_exact()
     ensures { RefusalsAreExact }
 {
     contents_have_one_due_answer();
 }
 
-/// Where no device failed and memory lasted, a call gives what is due, whole.
-pub fn undisturbed_calls_are_whole()
-    ensures { UndisturbedCallsAreWhole }
-{
-    contents_have_one_due_answer();
-}
+/// Where no device failed and memory lasted, nothing is cut short.
+pub fn undisturbed_calls_are_uncut()
+    ensures { UndisturbedCallsAreUncut }
+{}

@@ -1,196 +1,285 @@
-//! The run of a scenario with nobody beside the tester.
+//! Runs of scenarios.
 
-ghost use Rattle.std.specs.Prelude.{◌≡◌, ◌≤◌, ℕ, suc, ◌+◌, [], false, Some, IfErr, IfNone, IfOk, IsSome, OnOk, MatchOption};
-ghost use Rattle.std.specs.Io.KnownBytes.{Appends};
-ghost use Rattle.lt_rif.specs.Enough.{IsEndSized};
-ghost use Rattle.lt_rif.specs.Trace.{end_text};
-ghost use Rattle.lt_step.specs.Machine.{started, outputs_in};
-ghost use Rattle.lt_step.specs.View.{machine_state};
-ghost use Rattle.lt_call.specs.Call.{Counts, blames};
-ghost use Rattle.lt_call.specs.Cut.{Gives, IsCut};
-ghost use Rattle.lt_call.specs.Due.{ran};
-ghost use Rattle.lt_call.specs.Pieces.{trace_of};
-ghost use Rattle.lt_call.specs.Play.{header_of, instant_text};
-ghost use Rattle.lt_call.specs.Settings.{most_steps};
+ghost use Rattle.std.specs.Prelude.{◌≡◌, ◌≤◌, ℕ, [], false, length, option_map};
+ghost use Rattle.std.specs.Option.{is_some};
+ghost use Rattle.lt_drive.specs.Outside.{sink};
+ghost use Rattle.lt_loop.specs.Machine.{most_steps};
+ghost use Rattle.lt_loop.specs.Stands.{is_served};
+ghost use Rattle.lt_play.specs.Rules.{known_scene};
+ghost use Rattle.lt_rif.specs.declared.end.Who.{Who};
+ghost use Rattle.lt_session.specs.SidesView.{origin_of as source_of};
+ghost use Rattle.lt_term.specs.SceneView.{scene};
+ghost use Rattle.lt_words.specs.Asked.{request as request_of};
+ghost use Rattle.lt_words.specs.Settings.{longest_text};
+ghost use Rattle.lt_words.specs.Words.{IsWithin};
+ghost use Rattle.lt_words.specs.declared.usage.UsageKind.{UsageKind};
+ghost use Rattle.lt_words.specs.declared.words.Mode.TheVariants.{Run};
+ghost use Rattle.lt_call.specs.Call.{IsCounted, blames};
+ghost use Rattle.lt_call.specs.Course.{giver_of, origin_of, talk_to, trace_by};
+ghost use Rattle.lt_call.specs.Due.{HasScene, IsServed};
+ghost use Rattle.lt_call.specs.Given.{number_behind, status_of};
+ghost use Rattle.lt_call.specs.Outside.{faults_of};
 ghost use Rattle.lt_call.specs.declared.status.Device.{Device};
-ghost use Rattle.lt_call.specs.inner.Running.{ending_of, play_by, rest_of, IsAt, WritesStep, WritesEnd, FailsIn, FailsFirst};
-ghost use Rattle.lt_call.specs.inner.Writer.{IsFor};
+ghost use Rattle.lt_call.specs.declared.status.Status.{Status};
+ghost use Rattle.lt_call.specs.inner.Parts.{GivesForText, GivesRun};
+ghost use Rattle.lt_call.specs.inner.ServedView.{names_of};
 
-use crate::put::put_text;
-use crate::status::{Ending, Status};
-use crate::writer::Writer;
-use lt_io::Sink;
+use crate::laws::contents_have_one_due_answer;
+use crate::served::Served;
+use crate::status::{Device, Ending, Refusal, Status};
+use lt_drive::Driven;
+use lt_io::{FileRefusal, Files, Sink, Spawner};
+use lt_loop::{Core, Setup, Talk};
+use lt_play::Player;
+use lt_prepare::scenario_of;
 use lt_rif::End;
-use lt_step::{Machine, Outcome};
+use lt_session::{Played, Sides, Source, blame_has_a_cause, play};
+use lt_term::Scenario;
+use lt_words::{LONGEST_REPLAY, Request};
 use std::alloc::Global;
 
-/// Runs a machine that has not stepped, for at most `limit` steps, and writes the trace. The machine has this seed.
-pub fn run<S: Sink>(
+/// Runs the scenario of a text, where it has one.
+pub fn run_text<F: Files, P: Spawner, S: Sink>(
     alloc: Global,
-    machine: &mut Machine,
-    seed: u64,
-    limit: u64,
+    request: &Request<'_>,
+    text: &[u8],
+    files: &mut F,
+    spawner: &mut P,
     trace: &mut S,
-) -> Status
-    requires fresh { machine_state machine.old ≡ started (machine_state machine.old).scene seed (machine_state machine.old).budget }
-    requires inputs { (machine_state machine.old).scene.inputs ≡ [] }
-    requires few { limit ≤ most_steps }
-    ensures scene { (machine_state machine.new).scene ≡ (machine_state machine.old).scene }
-    ensures gives { Gives (ran (machine_state machine.old).scene (play_by (machine_state machine.old) limit)) (machine_state machine.old).scene.exceptions (S.written trace.old) (S.written trace.new) result }
-    ensures no_file { blames result Device.File ≡ false }
-    ensures faults { Counts (blames result Device.Trace) (S.faults trace.old) (S.faults trace.new) }
+) -> Served
+    requires within { IsWithin (request_of request.now) }
+    requires short { length text.now ≤ longest_text }
+    requires mode { request.now.mode ≡ Run }
+    ensures gives { GivesForText (request_of request.now) (F.contents files.old) text.now
+        (record {
+          files = record { contents = F.contents files.old; asked = F.asked files.old; faults = F.faults files.old };
+          programs = record { coming = P.coming spawner.old; closed = P.closed spawner.old; asked = P.asked spawner.old; faults = P.faults spawner.old };
+          trace = sink (S.written trace.old) (S.faults trace.old);
+        })
+        (record {
+          files = record { contents = F.contents files.new; asked = F.asked files.new; faults = F.faults files.new };
+          programs = record { coming = P.coming spawner.new; closed = P.closed spawner.new; asked = P.asked spawner.new; faults = P.faults spawner.new };
+          trace = sink (S.written trace.new) (S.faults trace.new);
+        })
+        (names_of result) result.status }
+    ensures no_usage { (kind : UsageKind) → result.status ≡ Status.Usage kind → ⊥ }
+    ensures counts { (what : Device) → IsCounted what (blames result.status what)
+        (faults_of what (record {
+          files = record { contents = F.contents files.old; asked = F.asked files.old; faults = F.faults files.old };
+          programs = record { coming = P.coming spawner.old; closed = P.closed spawner.old; asked = P.asked spawner.old; faults = P.faults spawner.old };
+          trace = sink (S.written trace.old) (S.faults trace.old);
+        }))
+        (faults_of what (record {
+          files = record { contents = F.contents files.new; asked = F.asked files.new; faults = F.faults files.new };
+          programs = record { coming = P.coming spawner.new; closed = P.closed spawner.new; asked = P.asked spawner.new; faults = P.faults spawner.new };
+          trace = sink (S.written trace.new) (S.faults trace.new);
+        })) }
 {
-    match steps(alloc, machine, seed, limit, trace) {
-        Ok(ending) => Status::Ran(ending),
-        Err(status) => status,
+    // A law that the proof needs: where memory runs out, an answer is due all the same.
+    contents_have_one_due_answer();
+    match scenario_of(alloc, text, request.decimals, request.node) {
+        Ok(scenario) => run_scenario(alloc, request, text, scenario, files, spawner, trace),
+        Err(why) => Served::without_run(Status::from(why)),
     }
 }
 
-// Makes and writes the header, the steps and the end line. How the run ended, or what cut it short.
-fn steps<S: Sink>(
+// Runs the scenario of a text, where its inputs are given values. An earlier trace is read that is to be played again.
+fn run_scenario<F: Files, P: Spawner, S: Sink>(
     alloc: Global,
-    machine: &mut Machine,
-    seed: u64,
-    limit: u64,
+    request: &Request<'_>,
+    text: &[u8],
+    scenario: Scenario,
+    files: &mut F,
+    spawner: &mut P,
     trace: &mut S,
-) -> Result<Ending, Status>
-    requires fresh { machine_state machine.old ≡ started (machine_state machine.old).scene seed (machine_state machine.old).budget }
-    requires inputs { (machine_state machine.old).scene.inputs ≡ [] }
-    requires few { limit ≤ most_steps }
-    ensures scene { (machine_state machine.new).scene ≡ (machine_state machine.old).scene }
-    ensures ends { IfOk result (λ ending. ending ≡ (play_by (machine_state machine.old) limit).ending) }
-    ensures all { OnOk result (Appends (S.written trace.old) (S.written trace.new) (trace_of (play_by (machine_state machine.old) limit).pieces)) }
-    ensures cut { IfErr result (IsCut (play_by (machine_state machine.old) limit).pieces (S.written trace.old) (S.written trace.new)) }
-    ensures no_file { IfErr result (λ s. blames s Device.File ≡ false) }
-    ensures calm { OnOk result (S.faults trace.new ≡ S.faults trace.old) }
-    ensures blame { IfErr result (λ s. Counts (blames s Device.Trace) (S.faults trace.old) (S.faults trace.new)) }
+) -> Served
+    requires within { IsWithin (request_of request.now) }
+    requires short { length text.now ≤ longest_text }
+    requires mode { request.now.mode ≡ Run }
+    requires scene { HasScene (request_of request.now) (record { scenario = text.now; replay = [] }) (scene scenario) }
+    ensures gives { GivesForText (request_of request.now) (F.contents files.old) text.now
+        (record {
+          files = record { contents = F.contents files.old; asked = F.asked files.old; faults = F.faults files.old };
+          programs = record { coming = P.coming spawner.old; closed = P.closed spawner.old; asked = P.asked spawner.old; faults = P.faults spawner.old };
+          trace = sink (S.written trace.old) (S.faults trace.old);
+        })
+        (record {
+          files = record { contents = F.contents files.new; asked = F.asked files.new; faults = F.faults files.new };
+          programs = record { coming = P.coming spawner.new; closed = P.closed spawner.new; asked = P.asked spawner.new; faults = P.faults spawner.new };
+          trace = sink (S.written trace.new) (S.faults trace.new);
+        })
+        (names_of result) result.status }
+    ensures no_usage { (kind : UsageKind) → result.status ≡ Status.Usage kind → ⊥ }
+    ensures counts { (what : Device) → IsCounted what (blames result.status what)
+        (faults_of what (record {
+          files = record { contents = F.contents files.old; asked = F.asked files.old; faults = F.faults files.old };
+          programs = record { coming = P.coming spawner.old; closed = P.closed spawner.old; asked = P.asked spawner.old; faults = P.faults spawner.old };
+          trace = sink (S.written trace.old) (S.faults trace.old);
+        }))
+        (faults_of what (record {
+          files = record { contents = F.contents files.new; asked = F.asked files.new; faults = F.faults files.new };
+          programs = record { coming = P.coming spawner.new; closed = P.closed spawner.new; asked = P.asked spawner.new; faults = P.faults spawner.new };
+          trace = sink (S.written trace.new) (S.faults trace.new);
+        })) }
 {
-    let mut writer = begin(alloc, machine, seed, trace)?;
-    for steps in 0..limit {
-        if let Some(ending) = advance(alloc, machine, steps + 1, &mut writer, trace)? {
-            return Ok(ending);
-        }
+    // A law that the proof needs: where memory runs out, an answer is due all the same.
+    contents_have_one_due_answer();
+    if !is_served(request, &scenario) {
+        return Served::refused(Refusal::NeedsController);
     }
-    let ending = Ending {
-        end: End::Limit,
-        at: limit,
+    let Some(name) = trace_name(request) else {
+        return run(alloc, request, scenario, &[], spawner, trace);
     };
-    finish(machine, ending, limit + 1, &mut writer, trace)
-}
-
-// Reserves the room for all texts, and writes the header.
-fn begin<S: Sink>(
-    alloc: Global,
-    machine: &Machine,
-    seed: u64,
-    trace: &mut S,
-) -> Result<Writer, Status>
-    ensures is_for { IfOk result (IsFor (machine_state machine.now).scene) }
-    ensures all { OnOk result (Appends (S.written trace.old) (S.written trace.new) (header_of (machine_state machine.now).scene seed)) }
-    ensures fails { IfErr result (FailsIn 0 (header_of (machine_state machine.now).scene seed) (S.written trace.old) (S.written trace.new)) }
-    ensures calm { OnOk result (S.faults trace.new ≡ S.faults trace.old) }
-    ensures blame { IfErr result (λ s. Counts (blames s Device.Trace) (S.faults trace.old) (S.faults trace.new)) }
-{
-    let writer = Writer::make(alloc, machine, seed)?;
-    put_text(trace, &writer.text, 0)?;
-    Ok(writer)
-}
-
-// Makes and writes the step of this number; or the end line, where the run ends instead.
-#[tactic(auto, using(crate::proofs::Runs::is_next))]
-fn advance<S: Sink>(
-    alloc: Global,
-    machine: &mut Machine,
-    step: u64,
-    writer: &mut Writer,
-    trace: &mut S,
-) -> Result<Option<Ending>, Status>
-    requires inputs { (machine_state machine.old).scene.inputs ≡ [] }
-    requires at { IsAt step (machine_state machine.old).phase }
-    requires first { 1 ≤ step }
-    requires few { step ≤ most_steps }
-    requires writer { IsFor (machine_state machine.old).scene writer.old }
-    ensures scene { (machine_state machine.new).scene ≡ (machine_state machine.old).scene }
-    ensures writer { IfOk result (λ end. IfNone end (IsFor (machine_state machine.new).scene writer.new)) }
-    ensures goes { IfOk result (λ end. MatchOption end
-        (WritesStep step (machine_state machine.old) (machine_state machine.new) (S.written trace.old) (S.written trace.new))
-        (λ ending. (left : ℕ) → WritesEnd (machine_state machine.old).scene ending (rest_of (machine_state machine.old) (suc left)) (S.written trace.old) (S.written trace.new))) }
-    ensures fails { IfErr result (λ s. (left : ℕ) → FailsFirst step (rest_of (machine_state machine.old) (suc left)) (S.written trace.old) (S.written trace.new) s) }
-    ensures calm { OnOk result (S.faults trace.new ≡ S.faults trace.old) }
-    ensures blame { IfErr result (λ s. Counts (blames s Device.Trace) (S.faults trace.old) (S.faults trace.new)) }
-{
-    match machine.step(alloc, &[]) {
-        Outcome::Values => {
-            write_out(machine, step, writer, trace)?;
-            Ok(None)
-        }
-        Outcome::Memory => Err(Status::Memory),
-        last => {
-            let ending = finish(machine, ending(last, step), step, writer, trace)?;
-            Ok(Some(ending))
-        }
+    match files.read(alloc, name, LONGEST_REPLAY) {
+        Ok(replay) => run(alloc, request, scenario, &replay, spawner, trace),
+        Err(FileRefusal::Failed) => Served::unread(),
+        Err(FileRefusal::TooLong) => Served::refused(Refusal::TooLong),
+        Err(FileRefusal::Memory) => Served::starved(),
     }
 }
 
-// How a run ends whose machine answers this last, in the instant of this number.
-fn ending(last: Outcome, step: u64) -> Ending
-    requires last { IsSome (ending_of last step) }
-    requires first { 1 ≤ step }
-    ensures is { ending_of last step ≡ Some result }
-    ensures sized { IsEndSized result.end }
+// Runs a scenario whose inputs are given values, by these bytes where an earlier trace gives them.
+fn run<P: Spawner, S: Sink>(
+    alloc: Global,
+    request: &Request<'_>,
+    scenario: Scenario,
+    replay: &[u8],
+    spawner: &mut P,
+    trace: &mut S,
+) -> Served
+    requires within { IsWithin (request_of request.now) }
+    requires served { IsServed (request_of request.now) (scene scenario) }
+    ensures runs { GivesRun (request_of request.now) replay.now (scene scenario)
+        (record {
+          programs = record { coming = P.coming spawner.old; closed = P.closed spawner.old; asked = P.asked spawner.old; faults = P.faults spawner.old };
+          trace = sink (S.written trace.old) (S.faults trace.old);
+        })
+        (record {
+          programs = record { coming = P.coming spawner.new; closed = P.closed spawner.new; asked = P.asked spawner.new; faults = P.faults spawner.new };
+          trace = sink (S.written trace.new) (S.faults trace.new);
+        })
+        (names_of result) result.status }
+    ensures no_usage { (kind : UsageKind) → result.status ≡ Status.Usage kind → ⊥ }
+    ensures no_file { blames result.status Device.File ≡ false }
+    ensures trace { IsCounted Device.Trace (blames result.status Device.Trace) (S.faults trace.old) (S.faults trace.new) }
+    ensures programs { (w : Who) → IsCounted (Device.Program w) (blames result.status (Device.Program w)) (P.faults spawner.old) (P.faults spawner.new) }
 {
-    let end = match last {
-        Outcome::Normal => {
-            return Ending {
-                end: End::Normal,
-                at: step - 1,
-            };
-        }
-        Outcome::Raise(exception) => End::Raise { exception },
-        Outcome::Deadlock => End::Deadlock,
-        Outcome::Fault(fault) => End::Fault(fault),
-        Outcome::TooLarge => End::TooLarge,
-        Outcome::Budget(need) => End::Budget { need },
-        Outcome::Values | Outcome::Ended | Outcome::Memory => unreachable!(),
+    // A law that the proof needs: a program is blamed only where a fault was counted.
+    blame_has_a_cause::<Player>();
+    let Ok(player) = Player::make(alloc, scenario, request.seed, request.budget) else {
+        return Served::starved();
     };
-    Ending { end, at: step }
+    let Ok(mut core) = Core::make(alloc, player, setup(request)) else {
+        return Served::starved();
+    };
+    let sides = Sides {
+        controller: source(request, replay),
+        oracle: request.oracle,
+    };
+    let played = play(alloc, &mut core, sides, spawner, trace);
+    Served {
+        status: status_of(played, core.steps()),
+        core: Some(core),
+    }
 }
 
-// Writes the end line, which is the text of this number in the trace.
-fn finish<S: Sink>(
-    machine: &Machine,
-    ending: Ending,
-    number: u64,
-    writer: &mut Writer,
-    trace: &mut S,
-) -> Result<Ending, Status>
-    requires writer { IsFor (machine_state machine.now).scene writer.old }
-    requires sized { IsEndSized ending.end }
-    ensures ends { IfOk result (λ last. last ≡ ending) }
-    ensures all { OnOk result (Appends (S.written trace.old) (S.written trace.new) (end_text ending.end (machine_state machine.now).scene.exceptions ending.at)) }
-    ensures fails { IfErr result (FailsIn number (end_text ending.end (machine_state machine.now).scene.exceptions ending.at) (S.written trace.old) (S.written trace.new)) }
-    ensures calm { OnOk result (S.faults trace.new ≡ S.faults trace.old) }
-    ensures blame { IfErr result (λ s. Counts (blames s Device.Trace) (S.faults trace.old) (S.faults trace.new)) }
+// Whether the inputs of a scenario are given values, or it has none.
+fn is_served(request: &Request<'_>, scenario: &Scenario) -> bool
+    ensures { result ≡ is_served (talk_to (giver_of (request_of request.now))) (known_scene (scene scenario.now)) }
 {
-    writer.make_end(machine, ending.end, ending.at);
-    put_text(trace, &writer.text, number)?;
-    Ok(ending)
+    match talk(request) {
+        Talk::Nobody => scenario.inputs.is_empty(),
+        Talk::Live | Talk::Replay => true,
+    }
 }
 
-// Writes the step that the machine has made.
-fn write_out<S: Sink>(
-    machine: &Machine,
-    step: u64,
-    writer: &mut Writer,
-    trace: &mut S,
-) -> Result<(), Status>
-    requires { IsFor (machine_state machine.now).scene writer.old }
-    ensures writer { IsFor (machine_state machine.now).scene writer.new }
-    ensures all { OnOk result (Appends (S.written trace.old) (S.written trace.new) (instant_text (machine_state machine.now).scene step (outputs_in (machine_state machine.now).phase))) }
-    ensures fails { IfErr result (FailsIn step (instant_text (machine_state machine.now).scene step (outputs_in (machine_state machine.now).phase)) (S.written trace.old) (S.written trace.new)) }
-    ensures calm { OnOk result (S.faults trace.new ≡ S.faults trace.old) }
-    ensures blame { IfErr result (λ s. Counts (blames s Device.Trace) (S.faults trace.old) (S.faults trace.new)) }
+// What the core of a run is told.
+fn setup(request: &Request<'_>) -> Setup
+    ensures { result ≡ record {
+      seed = request.now.seed;
+      limit = request.now.limit;
+      locals = request.now.locals;
+      controller = talk_to (giver_of (request_of request.now));
+      oracle = is_some request.now.oracle;
+    } }
 {
-    writer.make_step(machine, step);
-    put_text(trace, &writer.text, step)
+    Setup {
+        seed: request.seed,
+        limit: request.limit,
+        locals: request.locals,
+        controller: talk(request),
+        oracle: request.oracle.is_some(),
+    }
+}
+
+// Whether the run tells its controller the outputs, if it has one.
+fn talk(request: &Request<'_>) -> Talk
+    ensures { result ≡ talk_to (giver_of (request_of request.now)) }
+{
+    match (request.sut, request.replay) {
+        (Some(_), _) => Talk::Live,
+        (None, Some(_)) => Talk::Replay,
+        (None, None) => Talk::Nobody,
+    }
+}
+
+// The name of the file of an earlier trace, where one gives the inputs.
+fn trace_name<'a>(request: &Request<'a>) -> Option<&'a str>
+    ensures { option_map (λ name. name.now) result ≡ trace_by (giver_of (request_of request.now)) }
+{
+    match request.sut {
+        Some(_) => None,
+        None => request.replay,
+    }
+}
+
+// Where the controller's replies come from, where these are the bytes of an earlier trace.
+fn source<'a>(request: &Request<'a>, replay: &'a [u8]) -> Source<'a>
+    ensures { source_of result ≡ origin_of (giver_of (request_of request.now)) replay.now }
+{
+    match (request.sut, request.replay) {
+        (Some(command), _) => Source::Program(command),
+        (None, Some(_)) => Source::Recorded(replay),
+        (None, None) => Source::Nobody,
+    }
+}
+
+// The status of a run that was played so, and put out so many steps.
+fn status_of(played: Played, steps: u64) -> Status
+    requires { steps ≤ most_steps }
+    ensures { result ≡ status_of played steps }
+{
+    match played {
+        Played::Driven(Driven::Ended(end)) => Status::Ran(Ending {
+            end,
+            at: number_behind(end, steps),
+        }),
+        Played::Driven(Driven::Starved) | Played::Memory => Status::Memory,
+        Played::Driven(Driven::Untraced { step }) => Status::Device {
+            device: Device::Trace,
+            text: step,
+        },
+        Played::Unstarted(who) => Status::Device {
+            device: Device::Program(who),
+            text: 0,
+        },
+    }
+}
+
+// The number of an end line behind so many steps: that of the last one, or of the one at hand.
+fn number_behind(end: End, steps: u64) -> u64
+    requires { steps ≤ most_steps }
+    ensures { result ≡ number_behind end steps }
+{
+    match end {
+        End::Normal | End::Limit | End::Oracle => steps,
+        End::Deadlock
+        | End::Raise { .. }
+        | End::Fault(_)
+        | End::TooLarge
+        | End::Malformed { .. }
+        | End::Ended { .. }
+        | End::Device(_)
+        | End::Budget { .. } => steps + 1,
+    }
 }

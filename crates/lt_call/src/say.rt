@@ -4,17 +4,14 @@ ghost use Rattle.std.specs.Prelude.{◌≡◌, [], OnErr, OnOk, map, string_byte
 ghost use Rattle.std.specs.Io.KnownBytes.{Appends};
 ghost use Rattle.lt_io.specs.Causes.{HasCause};
 ghost use Rattle.lt_io.specs.Sending.{AppendsPart};
-ghost use Rattle.lt_call.specs.Lines.{status_lines, end_lines, usage_word, refusal_code, refusal_place, device_word};
+ghost use Rattle.lt_call.specs.Lines.{status_lines, end_lines, code_of, place_of, device_word};
 
 use crate::put::put_all;
-use crate::status::{Device, Ending, Refusal, Status, UsageKind};
+use crate::status::{Device, Ending, Refusal, Status};
 use itoa::Buffer;
 use lt_io::{Failed, Sink};
 use lt_rif::{End, exception_name, fault_word, refusal_word, who_word};
-
-// How the program is called.
-const USAGE: &[u8] =
-    b"lurette MODE FILE [-l N] [--seed N] [--precision N] [--budget N] [--node NAME] [--sut CMD] [--oracle CMD] [--replay FILE] [--locals]";
+use lt_words::{usage_text, usage_word};
 
 /// Says the line of a status, if any. Where that fails, a front of it was said, but not all. Exceptions have these
 /// names.
@@ -29,7 +26,13 @@ pub fn say<M: Sink>(says: &mut M, status: Status, names: &[String]) -> Result<()
         Status::Ran(ending) => say_ending(says, ending, names),
         Status::Usage(kind) => put_all(
             says,
-            &[b"lurette: usage: ", usage_name(kind), b"\n", USAGE, b"\n"],
+            &[
+                b"lurette: usage: ",
+                usage_word(kind),
+                b"\n",
+                usage_text(),
+                b"\n",
+            ],
         ),
         Status::Refused(reason) => say_refusal(says, reason),
         Status::Device { device, text } => put_all(
@@ -95,23 +98,14 @@ fn say_ending<M: Sink>(says: &mut M, ending: Ending, names: &[String]) -> Result
     }
 }
 
-fn usage_name(kind: UsageKind) -> &'static [u8]
-    ensures { result.now ≡ usage_word kind }
-{
-    match kind {
-        UsageKind::Words => b"words",
-        UsageKind::Mode => b"mode",
-    }
-}
-
 // Says why a file is refused, and where, if that is a place in its text.
 fn say_refusal<M: Sink>(says: &mut M, reason: Refusal) -> Result<(), Failed>
     ensures all { OnOk result (Appends (M.written says.old) (M.written says.new) (status_lines [] (Status.Refused reason))) }
     ensures front { OnErr result (AppendsPart (M.written says.old) (M.written says.new) (status_lines [] (Status.Refused reason))) }
     ensures cause { HasCause (M.faults says.old) (M.faults says.new) result }
 {
-    let code = refusal_code(reason);
-    match refusal_place(reason) {
+    let code = code_of(reason);
+    match place_of(reason) {
         None => put_all(says, &[b"lurette: refused ", code, b"\n"]),
         Some(place) => {
             let mut digits = Buffer::new();
@@ -121,25 +115,21 @@ fn say_refusal<M: Sink>(says: &mut M, reason: Refusal) -> Result<(), Failed>
     }
 }
 
-fn refusal_code(reason: Refusal) -> &'static [u8]
-    ensures { result.now ≡ refusal_code reason }
+fn code_of(reason: Refusal) -> &'static [u8]
+    ensures { result.now ≡ code_of reason }
 {
     match reason {
         Refusal::TooLong => b"file.TooLong",
-        Refusal::Text(refusal) => refusal.code().as_bytes(),
-        Refusal::Types(refusal) => refusal.code().as_bytes(),
-        Refusal::Expand(refusal) => refusal.code().as_bytes(),
+        Refusal::Scenario(refusal) => refusal.code().as_bytes(),
         Refusal::NeedsController => b"run.NeedsController",
     }
 }
 
-fn refusal_place(reason: Refusal) -> Option<usize>
-    ensures { result ≡ refusal_place reason }
+fn place_of(reason: Refusal) -> Option<usize>
+    ensures { result ≡ place_of reason }
 {
     match reason {
-        Refusal::Text(refusal) => refusal.place(),
-        Refusal::Types(refusal) => refusal.place(),
-        Refusal::Expand(refusal) => refusal.place(),
+        Refusal::Scenario(refusal) => refusal.place(),
         Refusal::TooLong | Refusal::NeedsController => None,
     }
 }
@@ -149,6 +139,7 @@ fn device_name(device: Device) -> &'static [u8]
 {
     match device {
         Device::File => b"file",
+        Device::Program(who) => who_word(who),
         Device::Trace => b"trace",
     }
 }

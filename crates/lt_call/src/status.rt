@@ -3,11 +3,9 @@
 ghost use Rattle.std.specs.Prelude.{◌≡◌};
 ghost use Rattle.lt_call.specs.Lines.{end_code, status_code};
 
-use lt_expand::ExpandRefusal;
-use lt_parser::ParseRefusal;
-use lt_rif::End;
-use lt_types::TypeRefusal;
-use std::alloc::AllocError;
+use lt_prepare::Unprepared;
+use lt_rif::{End, Who};
+use lt_words::UsageKind;
 
 /// How a call of the program ended, with all that its line on standard error says.
 #[derive(Clone, Copy, Debug, PartialEq, Eq)]
@@ -21,7 +19,7 @@ pub enum Status {
     /// The words of the call are wrong.
     Usage(UsageKind),
 
-    /// The scenario's file is refused.
+    /// What was asked for is refused.
     Refused(Refusal),
 
     /// Something outside failed.
@@ -30,7 +28,8 @@ pub enum Status {
         device: Device,
 
         /// For the trace of a run, the number of the text that wasn't written whole: 0 for the header, and
-        /// then 1 more than the number of steps that were. For a printed program and for the file, 0.
+        /// then 1 more than the number of steps that were. For a printed program, a file, and a program that wasn't
+        /// started, 0.
         text: u64,
     },
 
@@ -49,40 +48,28 @@ pub struct Ending {
     pub at: u64,
 }
 
-/// What is wrong with the words of a call.
-#[derive(Clone, Copy, Debug, PartialEq, Eq)]
-pub enum UsageKind {
-    /// They aren't MODE, FILE and options.
-    Words,
-
-    /// There is no such mode.
-    Mode,
-}
-
-/// Why a scenario's file is refused.
+/// Why what was asked for is refused.
 #[derive(Clone, Copy, Debug, PartialEq, Eq)]
 pub enum Refusal {
-    /// It is longer than [`LONGEST_TEXT`](crate::settings::LONGEST_TEXT).
+    /// A file is longer than [`LONGEST_TEXT`](lt_words::LONGEST_TEXT), or an earlier trace than
+    /// [`LONGEST_REPLAY`](lt_words::LONGEST_REPLAY).
     TooLong,
 
-    /// Its text spells no program.
-    Text(ParseRefusal),
+    /// The scenario's file has no scenario.
+    Scenario(lt_prepare::Refusal),
 
-    /// Its program isn't well typed.
-    Types(TypeRefusal),
-
-    /// Its node has no scenario.
-    Expand(ExpandRefusal),
-
-    /// Its scenario has inputs, and there is no controller to give them values.
+    /// Its scenario has inputs, and nobody gives them values.
     NeedsController,
 }
 
 /// What failed outside.
 #[derive(Clone, Copy, Debug, PartialEq, Eq)]
 pub enum Device {
-    /// The scenario's file.
+    /// A file.
     File,
+
+    /// The program of this side.
+    Program(Who),
 
     /// The trace.
     Trace,
@@ -123,51 +110,15 @@ fn end_code(end: End) -> u8
     }
 }
 
-impl From<AllocError> for Status {
-    ghost use Rattle.lt_call.specs.declared.status.Status.TheVariants.{Memory};
+impl From<Unprepared> for Status {
+    ghost use Rattle.lt_call.specs.inner.Parts.{status_why};
 
-    ghost from_gives = { λ _ answer. answer ≡ Memory };
+    ghost from_gives = { λ why status. status ≡ status_why why };
 
-    fn from(_error: AllocError) -> Status {
-        Status::Memory
-    }
-}
-
-impl From<ParseRefusal> for Status {
-    ghost use Rattle.lt_call.specs.inner.Statuses.{IsTextStatus};
-
-    ghost from_gives = { λ refusal status. IsTextStatus refusal status };
-
-    fn from(refusal: ParseRefusal) -> Status {
-        match refusal {
-            ParseRefusal::Memory => Status::Memory,
-            other => Status::Refused(Refusal::Text(other)),
-        }
-    }
-}
-
-impl From<TypeRefusal> for Status {
-    ghost use Rattle.lt_call.specs.inner.Statuses.{IsTypeStatus};
-
-    ghost from_gives = { λ refusal status. IsTypeStatus refusal status };
-
-    fn from(refusal: TypeRefusal) -> Status {
-        match refusal {
-            TypeRefusal::Memory => Status::Memory,
-            other => Status::Refused(Refusal::Types(other)),
-        }
-    }
-}
-
-impl From<ExpandRefusal> for Status {
-    ghost use Rattle.lt_call.specs.inner.Statuses.{IsExpandStatus};
-
-    ghost from_gives = { λ refusal status. IsExpandStatus refusal status };
-
-    fn from(refusal: ExpandRefusal) -> Status {
-        match refusal {
-            ExpandRefusal::Memory => Status::Memory,
-            other => Status::Refused(Refusal::Expand(other)),
+    fn from(why: Unprepared) -> Status {
+        match why {
+            Unprepared::Refused(reason) => Status::Refused(Refusal::Scenario(reason)),
+            Unprepared::Memory => Status::Memory,
         }
     }
 }

@@ -1,6 +1,7 @@
 //! The call over the system.
 
 ghost use Rattle.std.specs.Prelude.{◌≡◌, map, string_bytes};
+ghost use Rattle.lt_drive.specs.Outside.{sink};
 ghost use Rattle.lt_call.specs.Call.{IsCall};
 ghost use Rattle.lt_call.specs.Lines.{status_code};
 ghost use Rattle.lt_call.specs.declared.status.Status.{Status};
@@ -8,40 +9,42 @@ ghost use Rattle.lt_call.specs.declared.status.Status.{Status};
 use crate::say::say;
 use crate::status::Status;
 use crate::top::lurette;
-use lt_io::{DirFiles, Files, Sink, StdSink};
+use lt_io::{ChildSpawner, DirFiles, Files, Sink, Spawner, StdSink};
 use std::alloc::Global;
 use std::io::{ErrorKind, Write};
-use std::process::ExitCode;
+use std::process::{ExitCode, Processes};
 use std::rt::Env;
 use std::{env, io, rt};
 
 /// Does what the words ask for, as [`lurette`] does, and gives the number that the program ends with.
-pub fn program<F: Files, S: Sink, M: Sink>(
+pub fn program<F: Files, P: Spawner, S: Sink, M: Sink>(
     alloc: Global,
     words: &[String],
     files: &mut F,
+    spawner: &mut P,
     trace: &mut S,
     says: &mut M,
 ) -> u8
     ensures { (status : Status) × (result ≡ status_code status) × IsCall (map string_bytes words.now)
         (record {
           files = record { contents = F.contents files.old; asked = F.asked files.old; faults = F.faults files.old };
-          trace = record { written = S.written trace.old; faults = S.faults trace.old };
-          says = record { written = M.written says.old; faults = M.faults says.old };
+          programs = record { coming = P.coming spawner.old; closed = P.closed spawner.old; asked = P.asked spawner.old; faults = P.faults spawner.old };
+          trace = sink (S.written trace.old) (S.faults trace.old);
         })
         (record {
           files = record { contents = F.contents files.new; asked = F.asked files.new; faults = F.faults files.new };
-          trace = record { written = S.written trace.new; faults = S.faults trace.new };
-          says = record { written = M.written says.new; faults = M.faults says.new };
+          programs = record { coming = P.coming spawner.new; closed = P.closed spawner.new; asked = P.asked spawner.new; faults = P.faults spawner.new };
+          trace = sink (S.written trace.new) (S.faults trace.new);
         })
+        (sink (M.written says.old) (M.faults says.old)) (sink (M.written says.new) (M.faults says.new))
         status }
 {
-    lurette(alloc, words, files, trace, says).code()
+    lurette(alloc, words, files, spawner, trace, says).code()
 }
 
-/// Runs the program: hands the system's words, files and standard output to [`program`], with a writer for what it says,
+/// Runs the program: hands the system's words, files, programs and standard output to [`program`], with a writer for what it says,
 /// and gives its number to the system.
-pub fn start<R: Env + rt::Files + Print + AllocGlobal, W: Write + Drop>(
+pub fn start<R: Env + rt::Files + Processes + Print + AllocGlobal, W: Write + Drop>(
     rt: &R,
     standard_error: W,
 ) -> ExitCode {
@@ -57,8 +60,16 @@ pub fn start<R: Env + rt::Files + Print + AllocGlobal, W: Write + Drop>(
         Err(_) => Vec::new(rt.alloc()),
     };
     let mut files = DirFiles::new(rt, rt.alloc());
+    let mut programs = ChildSpawner::new(rt, rt.alloc());
     let mut trace = StdSink::new(io::writer(rt));
-    ExitCode::from(program(rt.alloc(), &words, &mut files, &mut trace, &mut says))
+    ExitCode::from(program(
+        rt.alloc(),
+        &words,
+        &mut files,
+        &mut programs,
+        &mut trace,
+        &mut says,
+    ))
 }
 
 // The words after the program's name.

@@ -8,9 +8,6 @@ use lt_call::start;
 use std::io::Lock;
 use std::process::ExitCode;
 
-#[cfg(test)]
-mod tests;
-
 fn main(rt: HostRuntime) -> ExitCode {
     start(&rt, rt.stderr().lock())
 }

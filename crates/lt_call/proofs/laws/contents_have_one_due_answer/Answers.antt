@@ -2,11 +2,4 @@ use Rattle.lt_call.proofs.Dues.{contents_have_one_due_answer}
 use Rattle.lt_call.proofs.laws.contents_have_one_due_answer.Goals as goal
 
 pub returns : goal.returns
-returns c =
-    let texts = c.one_answer_belongs_to_a_text.ensures in
-    contents_have_one_due_answer c.well_typed_is_unrefused.ensures (record {
-      some = texts.some;
-      one_program = texts.one_program;
-      one_refusal = texts.one_refusal;
-      not_both = texts.not_both;
-    })
+returns c = contents_have_one_due_answer c.texts_have_one_scenario_answer.ensures c.texts_have_one_printed_answer.ensures

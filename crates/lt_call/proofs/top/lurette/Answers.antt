@@ -1,9 +1,9 @@
 use Rattle.std.proofs.Common.{ℕ, List, map, string_bytes, subst}
+use Rattle.lt_drive.specs.Outside.{Sink}
 use Rattle.lt_call.specs.Call.{Says}
 use Rattle.lt_call.specs.Lines.{status_lines}
-use Rattle.lt_call.specs.Outside.{Sink}
 use Rattle.lt_call.specs.inner.ServedView.{names_of}
-use Rattle.lt_call.proofs.Gives.{blamed, said}
+use Rattle.lt_call.proofs.Gives.{said}
 use Rattle.lt_call.proofs.top.lurette.Goals as goal
 
 pub returns : goal.returns
@@ -18,7 +18,6 @@ returns g c =
       usage = served.ensures.usage;
       untouched = served.ensures.untouched;
       answers = served.ensures.answers;
-      asks = served.ensures.asks;
-      blame = blamed served.result.status _ _ served.ensures.file served.ensures.trace;
+      blame = served.ensures.counts;
       says = subst P c.names.ensures (said c.say.result line old new c.say.ensures.all c.say.ensures.front c.say.ensures.cause);
     }

@@ -1,0 +1,3 @@
+-- Words that private contracts and proofs alone use.
+-- what refusals of the layers are told as
+pub mod Wants

@@ -1,0 +1,43 @@
+-- The request that the code makes of words.
+use Rattle.std.specs.Prelude.{ℕ, List, None, Some}
+use Rattle.std.specs.Borrow.{Bor}
+use Rattle.std.specs.declared.option.Option.{Option}
+use Rattle.lt_words.specs.Options.{Options}
+use Rattle.lt_words.specs.Words.{Request}
+use Rattle.lt_words.specs.declared.options.Options.{Options as CodeOptions}
+use Rattle.lt_words.specs.declared.words.Request.{Request as CodeRequest}
+
+-- the word that is given, if one is
+abbrev pub given_word : Option (Bor (List ℕ)) → Option (List ℕ)
+given_word None = None
+given_word (Some word) = Some word.now
+
+-- the pure twin of options
+abbrev pub given_by : CodeOptions → Options
+given_by given = record {
+  limit = given.limit;
+  seed = given.seed;
+  decimals = given.decimals;
+  budget = given.budget;
+  node = given_word given.node;
+  sut = given_word given.sut;
+  oracle = given_word given.oracle;
+  replay = given_word given.replay;
+  locals = given.locals;
+}
+
+-- and of a request
+abbrev pub request : CodeRequest → Request
+request asked = record {
+  mode = asked.mode;
+  file = asked.file.now;
+  limit = asked.limit;
+  seed = asked.seed;
+  decimals = asked.decimals;
+  budget = asked.budget;
+  node = given_word asked.node;
+  sut = given_word asked.sut;
+  oracle = given_word asked.oracle;
+  replay = given_word asked.replay;
+  locals = asked.locals;
+}
