@@ -2,6 +2,7 @@
 
 use lt_draw::{StepWords, pick, target, word};
 use lt_num::Range;
+use std::process::Abort;
 
 // How many slots a step has.
 const SLOTS: u32 = 16_777_216;
@@ -34,9 +35,11 @@ const WORDS: [(u64, u64, u32, u64); 14] = [
 fn words_are_those_of_pcg64(rt: HostRuntime) {
     for (seed, step, slot, expected) in WORDS {
         assert!(rt; slot < SLOTS);
-        assert_eq!(rt; word(seed, step, slot), expected, "{seed} {step} {slot}");
-        let words = StepWords::new(seed, step);
-        assert_eq!(rt; words.word(slot), expected, "{seed} {step} {slot}");
+        let found = [
+            word(seed, step, slot),
+            StepWords::new(seed, step).word(slot),
+        ];
+        assert_eq!(rt; found, [expected, expected], "{seed} {step} {slot}");
     }
 }
 
@@ -87,20 +90,27 @@ fn targets_go_round_the_range(rt: HostRuntime) {
     }
 }
 
-// The values of a run's first variable, which nothing constrains, as another program wrote them in a trace.
+// Sees that a run's first variable, which nothing constrains, has these values in the order of the steps.
+fn check_targets(rt: &impl Abort, seed: u64, range: Range, values: &[i64]) {
+    assert!(rt; range.low <= range.high);
+    let mut step = 0u64;
+    for value in values {
+        step = step.wrapping_add(1);
+        let word = StepWords::new(seed, step).word(FIRST_VARIABLE);
+        assert_eq!(rt; target(range, word), *value, "{step}");
+    }
+}
+
+// The values are those that another program wrote in a trace.
 #[test]
 fn a_free_variable_takes_its_targets(rt: HostRuntime) {
     let four = Range { low: 0, high: 3 };
-    for (step, value) in (1..13u64).zip([3, 3, 0, 1, 1, 3, 0, 0, 0, 3, 2, 3]) {
-        let word = StepWords::new(2_689_535_733_758_285_068, step).word(FIRST_VARIABLE);
-        assert_eq!(rt; target(four, word), value, "{step}");
-    }
+    let values = [3, 3, 0, 1, 1, 3, 0, 0, 0, 3, 2, 3];
+    check_targets(&rt, 2_689_535_733_758_285_068, four, &values);
     let wide = Range {
         low: -10_000,
         high: 10_000,
     };
-    for (step, value) in (1..4u64).zip([891, -3_257, 9_264]) {
-        let word = StepWords::new(8_755_260_454_800_672_976, step).word(FIRST_VARIABLE);
-        assert_eq!(rt; target(wide, word), value, "{step}");
-    }
+    let values = [891, -3_257, 9_264];
+    check_targets(&rt, 8_755_260_454_800_672_976, wide, &values);
 }

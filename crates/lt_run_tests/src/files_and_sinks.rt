@@ -43,25 +43,36 @@ fn a_sink_in_memory_fails_where_told(rt: HostRuntime) -> Result<(), Fail> {
     Ok(())
 }
 
-#[test]
-fn files_in_memory_fail_where_told(rt: HostRuntime) -> Result<(), Fail> {
-    let alloc = rt.alloc();
+// Files in memory, by name. The second one of a name is never read.
+const ENTRIES: [(&str, &str); 3] = [
+    ("one", "abcd"),
+    ("none", ""),
+    ("one", "the second of a name"),
+];
+
+// A file with this name and text.
+fn entry(alloc: Global, name: &str, text: &str) -> Result<(String, Vec<u8>), Fail> {
+    let bytes = Vec::from_slice(alloc, text.as_bytes())?;
+    Ok((String::from_str(alloc, name)?, bytes))
+}
+
+// These files, where the third and the tenth call fail.
+fn files_of_entries(alloc: Global) -> Result<MemFiles, Fail> {
     let mut entries = Vec::new(alloc);
-    for (name, bytes) in [
-        ("one", "abcd"),
-        ("none", ""),
-        ("one", "the second of a name"),
-    ] {
-        entries.push((
-            String::from_str(alloc, name)?,
-            Vec::from_slice(alloc, bytes.as_bytes())?,
-        ))?;
+    for (name, text) in &ENTRIES {
+        entries.push(entry(alloc, name, text)?)?;
     }
-    let mut files = MemFiles {
+    Ok(MemFiles {
         entries,
         asked: Vec::new(alloc),
         calls: Calls::new([2, 9].to_vec(alloc)?),
-    };
+    })
+}
+
+#[test]
+fn files_in_memory_fail_where_told(rt: HostRuntime) -> Result<(), Fail> {
+    let alloc = rt.alloc();
+    let mut files = files_of_entries(alloc)?;
     check_reads(
         &rt,
         alloc,

@@ -60,6 +60,14 @@ impl Sheet {
         assert!(rt; has_parts(node.shape(), before));
         Ok(self.table.push(node)?)
     }
+
+    // The same of an expression that isn't there yet.
+    fn put_new(&mut self, rt: &impl Abort, node: ExpNode) -> Result<u32, Fail> {
+        let before = self.table.len();
+        let number = self.put(rt, node)?;
+        assert_eq!(rt; number as usize, before, "{node:?} is new");
+        Ok(number)
+    }
 }
 
 // Whether the parts of a shape are among so many, and its variable is one of three of its role.
@@ -104,20 +112,27 @@ fn instant() -> Valuation<'static>
     }
 }
 
+// The value of the last of some expressions, each of which is new and stands over those before it.
+fn value_of_last(
+    rt: &impl Abort,
+    alloc: Global,
+    nodes: &[ExpNode],
+) -> Result<Result<Value, Arith>, Fail> {
+    let mut sheet = Sheet::new(alloc)?;
+    let mut last = 0;
+    for node in nodes {
+        last = sheet.put_new(rt, *node)?;
+    }
+    assert!(rt; (last as usize) < sheet.table.len());
+    Ok(value_under(&instant(), &sheet.table, last))
+}
+
 // Each case is expressions, each over those before it, and the value of the last one.
 type Cases<'a> = &'a [(&'a [ExpNode], Result<Value, Arith>)];
 
 fn check(rt: &impl Abort, alloc: Global, cases: Cases<'_>) -> Result<(), Fail> {
     for (nodes, wanted) in cases {
-        let mut sheet = Sheet::new(alloc)?;
-        for node in *nodes {
-            let number = sheet.put(rt, *node)?;
-            assert_eq!(rt; number as usize + 1, sheet.table.len(), "{node:?} is new");
-            if sheet.table.len() == nodes.len() {
-                let value = value_under(&instant(), &sheet.table, number);
-                assert_eq!(rt; value, *wanted, "{nodes:?}");
-            }
-        }
+        assert_eq!(rt; value_of_last(rt, alloc, nodes)?, *wanted, "{nodes:?}");
     }
     Ok(())
 }
@@ -228,51 +243,60 @@ fn variables_have_their_values(rt: HostRuntime) -> Result<(), Fail> {
     )
 }
 
+// Expressions in the order in which they are put, each with its number, and how many there are then.
+const NUMBERED: [(ExpNode, u32, usize); 9] = [
+    (Output(1), 0, 1),
+    (Int(3), 1, 2),
+    (Lt(0, 1), 2, 3),
+    (Output(1), 0, 3),
+    (Lt(0, 1), 2, 3),
+    (Lt(1, 0), 3, 4),
+    (PreOutput(1), 4, 5),
+    (Real(3), 5, 6),
+    (Int(3), 1, 6),
+];
+
 #[test]
 fn equal_expressions_have_one_number(rt: HostRuntime) -> Result<(), Fail> {
     let mut sheet = Sheet::new(rt.alloc())?;
-    for (node, number, len) in [
-        (Output(1), 0, 1),
-        (Int(3), 1, 2),
-        (Lt(0, 1), 2, 3),
-        (Output(1), 0, 3),
-        (Lt(0, 1), 2, 3),
-        (Lt(1, 0), 3, 4),
-        (PreOutput(1), 4, 5),
-        (Real(3), 5, 6),
-        (Int(3), 1, 6),
-    ] {
-        assert_eq!(rt; sheet.put(&rt, node)?, number, "{node:?}");
-        assert_eq!(rt; sheet.table.len(), len, "{node:?}");
+    for (node, number, len) in &NUMBERED {
+        let found = sheet.put(&rt, *node)?;
+        assert!(rt; found == *number && sheet.table.len() == *len, "{node:?}");
     }
     Ok(())
 }
 
-#[test]
-fn known_values_need_no_outputs(rt: HostRuntime) -> Result<(), Fail> {
-    let mut sheet = Sheet::new(rt.alloc())?;
-    let known = Known {
+// What is known where no output and no local is.
+fn known() -> Known<'static>
+    ensures { result.decimals ≡ 2 }
+{
+    Known {
         inputs: &[Value::Bool(true), Value::Num(7), Value::Num(250)],
         pre_inputs: &[None, None, None],
         pre_outputs: &[None, Some(Value::Num(4)), None],
         pre_locals: &[None, None, Some(Value::Num(-75))],
         decimals: 2,
-    };
-    for (node, wanted) in [
-        (Input(1), num(7)),
-        (PreOutput(1), num(4)),
-        (Mul(0, 1), num(28)),
-        (Input(2), num(250)),
-        (PreLocal(2), num(-75)),
-        (Mul(3, 4), num(-188)),
-        (PreInput(0), NO_PREVIOUS),
-    ] {
-        let number = sheet.put(&rt, node)?;
-        assert_eq!(rt;
-            known_value(&sheet.table, number, &known),
-            wanted,
-            "{node:?}"
-        );
+    }
+}
+
+// Expressions in the order in which they are put, each with its value.
+const KNOWN: [(ExpNode, Result<Value, Arith>); 7] = [
+    (Input(1), Ok(Value::Num(7))),
+    (PreOutput(1), Ok(Value::Num(4))),
+    (Mul(0, 1), Ok(Value::Num(28))),
+    (Input(2), Ok(Value::Num(250))),
+    (PreLocal(2), Ok(Value::Num(-75))),
+    (Mul(3, 4), Ok(Value::Num(-188))),
+    (PreInput(0), NO_PREVIOUS),
+];
+
+#[test]
+fn known_values_need_no_outputs(rt: HostRuntime) -> Result<(), Fail> {
+    let mut sheet = Sheet::new(rt.alloc())?;
+    for (node, wanted) in &KNOWN {
+        let number = sheet.put(&rt, *node)?;
+        let value = known_value(&sheet.table, number, &known());
+        assert_eq!(rt; value, *wanted, "{node:?}");
     }
     Ok(())
 }

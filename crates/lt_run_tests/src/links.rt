@@ -92,42 +92,77 @@ fn script(alloc: Global, command: &str, left: &str) -> Result<(String, ScriptLin
     Ok((String::from_str(alloc, command)?, link))
 }
 
-#[test]
-fn a_spawner_in_memory_starts_links_in_turn(rt: HostRuntime) -> Result<(), Fail> {
-    let alloc = rt.alloc();
+// A command, the pieces that its link in memory gives, none where it is refused, and the faults counted behind it.
+const STARTS: [(&str, &[Result<&[u8], Failed>], u64); 6] = [
+    ("one", &[Ok(b"abc"), Ok(b"")], 1),
+    ("two", &[Ok(b"d"), Ok(b"")], 2),
+    ("one", &[Ok(b"e"), Ok(b"")], 3),
+    ("two", &[], 4),
+    ("one", &[], 5),
+    ("two", &[Ok(b"f"), Ok(b"")], 6),
+];
+
+// That a link takes what is sent, or not all of it, and gives these pieces then, which are some.
+fn check_talk<L: Link>(
+    rt: &impl Abort,
+    link: &mut L,
+    text: &[u8],
+    is_taken: bool,
+    pieces: &[Result<&[u8], Failed>],
+) {
+    assert!(rt; !pieces.is_empty());
+    assert_eq!(rt; link.send(text).is_ok(), is_taken);
+    check_receives(rt, link, pieces);
+}
+
+// That a command is started and its link takes and gives this, or that it is refused, where no pieces are wanted.
+fn check_start<S: Spawner>(
+    rt: &impl Abort,
+    alloc: Global,
+    spawner: &mut S,
+    command: &str,
+    text: &[u8],
+    is_taken: bool,
+    pieces: &[Result<&[u8], Failed>],
+) {
+    match spawner.start(alloc, command) {
+        Ok(mut link) => {
+            check_talk(rt, &mut link, text, is_taken, pieces);
+            spawner.finish(link);
+        }
+        Err(refusal) => {
+            assert_eq!(rt; refusal, StartRefusal::Failed, "{command}");
+            assert!(rt; pieces.is_empty(), "{command}");
+        }
+    }
+}
+
+// The links of a spawner in memory, each by its command and what it has left.
+const LINKS: [(&str, &str); 4] = [("one", "abc"), ("two", "d"), ("one", "e"), ("two", "f")];
+
+// A spawner of these links, whose fourth start fails.
+fn spawner_of_links(alloc: Global) -> Result<MemSpawner, Fail> {
     let mut links = Vec::new(alloc);
-    for (command, left) in [("one", "abc"), ("two", "d"), ("one", "e"), ("two", "f")] {
+    for (command, left) in &LINKS {
         links.push(script(alloc, command, left)?)?;
     }
-    let mut spawner = MemSpawner {
+    Ok(MemSpawner {
         links,
         asked: Vec::new(alloc),
         calls: Calls::new([3].to_vec(alloc)?),
-    };
-    // Each start with what its link has left, or none where it is refused, and the faults behind it: sending
-    // more than the room is one of the link, which is added where the link is finished.
-    let cases: [(&str, Option<&[u8]>, u64); 6] = [
-        ("one", Some(b"abc"), 1),
-        ("two", Some(b"d"), 2),
-        ("one", Some(b"e"), 3),
-        ("two", None, 4),
-        ("one", None, 5),
-        ("two", Some(b"f"), 6),
-    ];
-    for (command, wanted, faults) in cases {
-        match (spawner.start(alloc, command), wanted) {
-            (Ok(mut link), Some(left)) => {
-                check_receives(&rt, &mut link, &[Ok(left), Ok(b"")]);
-                assert_eq!(rt; link.send(b"xy"), Err(Failed));
-                spawner.finish(link);
-            }
-            (Err(refusal), None) => assert_eq!(rt; refusal, StartRefusal::Failed),
-            _ => assert!(rt; false, "{command}"),
-        }
+    })
+}
+
+#[test]
+fn a_spawner_in_memory_starts_links_in_turn(rt: HostRuntime) -> Result<(), Fail> {
+    let mut spawner = spawner_of_links(rt.alloc())?;
+    for (command, pieces, faults) in STARTS {
+        // Sending more than the room is one of the faults of the link, which is added where the link is finished.
+        check_start(&rt, rt.alloc(), &mut spawner, command, b"xy", false, pieces);
         assert_eq!(rt; spawner.calls.faults, faults, "{command}");
     }
     assert_eq!(rt; spawner.asked.len(), 6);
-    for (asked, (command, _, _)) in spawner.asked.iter().zip(cases) {
+    for (asked, (command, _, _)) in spawner.asked.iter().zip(STARTS) {
         assert_eq!(rt; asked.as_str(), command);
     }
     Ok(())
@@ -156,37 +191,44 @@ fn many_bytes(alloc: Global) -> Result<Vec<u8>, AllocError> {
     Ok(bytes)
 }
 
+// Commands of the system that can't be started, with the faults. A form feed is no blank, so the last one is the name of a
+// program.
+const REFUSED: [(&str, u64); 4] = [
+    ("", 2),
+    ("  ", 3),
+    ("/no/such/program of any kind", 4),
+    ("cat\u{c}-", 5),
+];
+
 #[test]
 fn programs_of_the_system_are_started(rt: HostRuntime) -> Result<(), Fail> {
     let many = many_bytes(rt.alloc())?;
     let mut spawner = ChildSpawner::new(&rt, rt.alloc());
-    // A command with whether it can be started, what is sent, whether all of it can be, what comes then, and
-    // how many faults were counted in all behind it.
-    let cases: [(&str, bool, &[u8], bool, &[u8], u64); 8] = [
-        ("cat", true, b"ab\n", true, b"ab\n", 0),
-        (" cat  - ", true, b"ab\n", true, b"ab\n", 0),
-        ("\tcat\r\n-", true, b"ab\n", true, b"ab\n", 0),
-        // A program that has ended: its output is at its end, and what is sent to it is a fault and no signal.
-        ("true", true, many.as_slice(), false, b"", 1),
-        ("", false, b"", true, b"", 2),
-        ("  ", false, b"", true, b"", 3),
-        ("/no/such/program of any kind", false, b"", true, b"", 4),
-        // A form feed is no blank, so this is the name of a program.
-        ("cat\u{c}-", false, b"", true, b"", 5),
-    ];
-    for (command, is_there, text, is_taken, answer, faults) in cases {
-        match spawner.start(rt.alloc(), command) {
-            Ok(mut link) => {
-                assert!(rt; is_there, "{command}");
-                assert_eq!(rt; link.send(text).is_ok(), is_taken, "{command}");
-                check_receives(&rt, &mut link, &[Ok(answer)]);
-                spawner.finish(link);
-            }
-            Err(refusal) => {
-                assert!(rt; !is_there, "{command}");
-                assert_eq!(rt; refusal, StartRefusal::Failed, "{command}");
-            }
-        }
+    for command in ["cat", " cat  - ", "\tcat\r\n-"] {
+        check_start(
+            &rt,
+            rt.alloc(),
+            &mut spawner,
+            command,
+            b"ab\n",
+            true,
+            &[Ok(b"ab\n")],
+        );
+        assert_eq!(rt; spawner.faults, 0, "{command}");
+    }
+    // A program that has ended: its output is at its end, and what is sent to it is a fault and no signal.
+    check_start(
+        &rt,
+        rt.alloc(),
+        &mut spawner,
+        "true",
+        &many,
+        false,
+        &[Ok(b"")],
+    );
+    assert_eq!(rt; spawner.faults, 1);
+    for (command, faults) in REFUSED {
+        check_start(&rt, rt.alloc(), &mut spawner, command, b"", true, &[]);
         assert_eq!(rt; spawner.faults, faults, "{command}");
     }
     assert_eq!(rt; spawner.asked.len(), 8);

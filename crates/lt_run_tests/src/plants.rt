@@ -3,6 +3,7 @@
 use lt_io::ScriptLink;
 use lt_plants::{Plant, Playing, plant_of, reply, serve};
 use std::alloc::{AllocError, Global};
+use std::process::Abort;
 use std::test::Fail;
 
 // Words, with the plant that they name.
@@ -178,51 +179,92 @@ fn served(
     Ok((number, link))
 }
 
+// Sees with which number a plant is served so, and what is sent.
+fn check_served(
+    rt: &impl Abort,
+    alloc: Global,
+    plant: Plant,
+    text: &[u8],
+    cut: Option<usize>,
+    failing: &[u64],
+    wanted: u8,
+    replies: &str,
+) -> Result<(), Fail> {
+    let (number, link) = served(alloc, plant, text, cut, failing)?;
+    assert_eq!(rt; number, wanted, "{replies:?} {cut:?}");
+    assert_eq!(rt; link.sent(), replies.as_bytes(), "{cut:?}");
+    assert_eq!(rt; link.faults(), failing.len() as u64, "{replies:?} {cut:?}");
+    Ok(())
+}
+
 #[test]
 fn lines_are_served_in_any_pieces(rt: HostRuntime) -> Result<(), Fail> {
+    let alloc = rt.alloc();
     for (plant, text, wanted, replies) in SERVED {
         for cut in [None, Some(1), Some(3)] {
-            let (number, link) = served(rt.alloc(), plant, text.as_bytes(), cut, &[])?;
-            assert_eq!(rt; number, wanted, "{text:?} {cut:?}");
-            assert_eq!(rt; link.sent(), replies.as_bytes(), "{text:?} {cut:?}");
+            check_served(
+                &rt,
+                alloc,
+                plant,
+                text.as_bytes(),
+                cut,
+                &[],
+                wanted,
+                replies,
+            )?;
         }
     }
     Ok(())
 }
+
+// So many bytes before what ends the text.
+fn long_text(alloc: Global, length: usize, end: &str) -> Result<Vec<u8>, AllocError> {
+    let mut text = Vec::new(alloc);
+    for _ in 0..length {
+        text.push(b'x')?;
+    }
+    text.extend_from_slice(end.as_bytes())?;
+    Ok(text)
+}
+
+// How many bytes stand before what ends the text, and what is wanted then.
+const LENGTHS: [(usize, &str, u8, &str); 6] = [
+    (4096, "\n", 0, "5\n"),
+    (4097, "\n", 2, ""),
+    (4096, "", 0, ""),
+    (4097, "", 2, ""),
+    (4096, "\nx\n", 0, "5\n5\n"),
+    (9000, "\nx\n", 2, ""),
+];
 
 #[test]
 fn a_line_has_so_many_bytes(rt: HostRuntime) -> Result<(), Fail> {
-    // How many bytes stand before what ends the text, and what is wanted then.
-    for (length, end, wanted, replies) in [
-        (4096, "\n", 0, "5\n"),
-        (4097, "\n", 2, ""),
-        (4096, "", 0, ""),
-        (4097, "", 2, ""),
-        (4096, "\nx\n", 0, "5\n5\n"),
-        (9000, "\nx\n", 2, ""),
-    ] {
-        let mut text = Vec::new(rt.alloc());
-        for _ in 0..length {
-            text.push(b'x')?;
-        }
-        text.extend_from_slice(end.as_bytes())?;
+    let (alloc, five) = (rt.alloc(), Plant::Constant(5));
+    for (length, end, wanted, replies) in LENGTHS {
+        let text = long_text(alloc, length, end)?;
         for cut in [None, Some(1), Some(1000)] {
-            let (number, link) = served(rt.alloc(), Plant::Constant(5), &text, cut, &[])?;
-            assert_eq!(rt; number, wanted, "{length} {end:?} {cut:?}");
-            assert_eq!(rt; link.sent(), replies.as_bytes(), "{length} {end:?} {cut:?}");
+            check_served(&rt, alloc, five, &text, cut, &[], wanted, replies)?;
         }
     }
     Ok(())
 }
 
+// A call that fails, and what is sent then. The calls are: a piece, a reply, a piece, a reply, the end.
+const FAILING: [(u64, &str); 5] = [(0, ""), (1, ""), (2, "f\n"), (3, "f\n"), (4, "f\nt\n")];
+
 #[test]
 fn a_fault_of_the_link_ends_a_service(rt: HostRuntime) -> Result<(), Fail> {
-    // The calls are: a piece, a reply, a piece, a reply, the end.
-    for (failing, sent) in [(0, ""), (1, ""), (2, "f\n"), (3, "f\n"), (4, "f\nt\n")] {
-        let (number, link) = served(rt.alloc(), Plant::Gate, b"t\nt\n", Some(2), &[failing])?;
-        assert_eq!(rt; number, 9, "{failing}");
-        assert_eq!(rt; link.sent(), sent.as_bytes(), "{failing}");
-        assert_eq!(rt; link.faults(), 1, "{failing}");
+    for (failing, sent) in FAILING {
+        check_served(
+            &rt,
+            rt.alloc(),
+            Plant::Gate,
+            b"t\nt\n",
+            Some(2),
+            &[failing],
+            9,
+            sent,
+        )?;
     }
     Ok(())
 }

@@ -62,6 +62,11 @@ fn line(alloc: Global, values: &[Value], kinds: &[Kind], decimals: u32) -> Resul
     Ok(into)
 }
 
+// That a text is the one that is wanted.
+fn check(rt: &impl Abort, found: Vec<u8>, wanted: &str) {
+    assert_eq!(rt; found.as_slice(), wanted.as_bytes());
+}
+
 #[test]
 fn lines_have_values_by_their_kinds(rt: HostRuntime) -> Result<(), Fail> {
     let values = [
@@ -72,12 +77,17 @@ fn lines_have_values_by_their_kinds(rt: HostRuntime) -> Result<(), Fail> {
         Value::Bool(false),
     ];
     let kinds = [Kind::Real, Kind::Bool, Kind::Real, Kind::Int, Kind::Bool];
-    let two = line(rt.alloc(), &values, &kinds, 2)?;
-    assert_eq!(rt; two.as_slice(), b"-0.05 t 0.00 -150 f\n".as_slice());
-    let none = line(rt.alloc(), &values, &kinds, 0)?;
-    assert_eq!(rt; none.as_slice(), b"-5 t 0 -150 f\n".as_slice());
-    let empty = line(rt.alloc(), &[], &[], 6)?;
-    assert_eq!(rt; empty.as_slice(), b"\n".as_slice());
+    check(
+        &rt,
+        line(rt.alloc(), &values, &kinds, 2)?,
+        "-0.05 t 0.00 -150 f\n",
+    );
+    check(
+        &rt,
+        line(rt.alloc(), &values, &kinds, 0)?,
+        "-5 t 0 -150 f\n",
+    );
+    check(&rt, line(rt.alloc(), &[], &[], 6)?, "\n");
     Ok(())
 }
 
@@ -151,15 +161,15 @@ fn a_header_declares_variables(rt: HostRuntime) -> Result<(), Fail> {
         name: String::from_str(alloc, "gust.1")?,
         kind: Kind::Int,
     }];
-    let without = header(alloc, 7, &outputs, &inputs, None)?;
-    assert_eq!(rt;
-        without.as_slice(),
-        b"#seed 7\n#inputs \"temp\":real\n#outputs \"heat\":bool\n".as_slice()
+    check(
+        &rt,
+        header(alloc, 7, &outputs, &inputs, None)?,
+        "#seed 7\n#inputs \"temp\":real\n#outputs \"heat\":bool\n",
     );
-    let with = header(alloc, 0, &[], &inputs, Some(&locals))?;
-    assert_eq!(rt;
-        with.as_slice(),
-        b"#seed 0\n#inputs\n#outputs \"heat\":bool\n#locals \"gust.1\":int\n".as_slice()
+    check(
+        &rt,
+        header(alloc, 0, &[], &inputs, Some(&locals))?,
+        "#seed 0\n#inputs\n#outputs \"heat\":bool\n#locals \"gust.1\":int\n",
     );
     Ok(())
 }
@@ -169,29 +179,29 @@ fn steps_and_ends_are_lines(rt: HostRuntime) -> Result<(), Fail> {
     let alloc = rt.alloc();
     let x = [Value::Num(-5), Value::Bool(true)];
     let y = [Value::Bool(false)];
-    let whole = step_and_end(
-        alloc,
-        12,
-        &x,
-        &y,
-        Some(&[Some(Value::Num(-12))]),
-        &KINDS,
-        End::Normal,
-        &[],
-    )?;
-    assert_eq!(rt;
-        whole.as_slice(),
-        b"#step 12\n-0.05 t #outs f #locs -12\n#end normal 12\n".as_slice()
+    check(
+        &rt,
+        step_and_end(
+            alloc,
+            12,
+            &x,
+            &y,
+            Some(&[Some(Value::Num(-12))]),
+            &KINDS,
+            End::Normal,
+            &[],
+        )?,
+        "#step 12\n-0.05 t #outs f #locs -12\n#end normal 12\n",
     );
-    let outputs = step_and_end(alloc, 1, &x, &[], Some(&[None]), &KINDS, End::Limit, &[])?;
-    assert_eq!(rt;
-        outputs.as_slice(),
-        b"#step 1\n-0.05 t #outs #locs ?\n#end limit 1\n".as_slice()
+    check(
+        &rt,
+        step_and_end(alloc, 1, &x, &[], Some(&[None]), &KINDS, End::Limit, &[])?,
+        "#step 1\n-0.05 t #outs #locs ?\n#end limit 1\n",
     );
-    let inputs = step_and_end(alloc, 1, &[], &y, None, &KINDS, End::Oracle, &[])?;
-    assert_eq!(rt;
-        inputs.as_slice(),
-        b"#step 1\n#outs f\n#end oracle 1\n".as_slice()
+    check(
+        &rt,
+        step_and_end(alloc, 1, &[], &y, None, &KINDS, End::Oracle, &[])?,
+        "#step 1\n#outs f\n#end oracle 1\n",
     );
     let names = [
         String::from_str(alloc, "Crash")?,
