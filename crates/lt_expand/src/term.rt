@@ -15,6 +15,7 @@ use lt_formula::{Memory, Table};
 use lt_macros::{Exception, Expanded, Parts};
 use lt_term::{Last, Term};
 use std::alloc::Global;
+use std::rc::Rc;
 
 // A trace as a term. Its expressions are put into the table, where they aren't there.
 #[cycle(terms)]
@@ -37,16 +38,16 @@ pub(crate) fn put_term(
         }
         Expanded::Raise(raised) => Ok(Term::Raise(exception_number(known, raised))),
         Expanded::Seq(first, second) => {
-            let first = put_box(alloc, table, known, first)?;
-            let second = put_box(alloc, table, known, second)?;
+            let first = put_part(alloc, table, known, first)?;
+            let second = put_part(alloc, table, known, second)?;
             Ok(Term::Seq(first, second))
         }
         Expanded::Loop(body) => {
-            let body = put_box(alloc, table, known, body)?;
+            let body = put_part(alloc, table, known, body)?;
             Ok(Term::Loop(body))
         }
         Expanded::Count(counter, _, body) => {
-            let body = put_box(alloc, table, known, body)?;
+            let body = put_part(alloc, table, known, body)?;
             Ok(Term::Count {
                 counter: *counter,
                 done: 0,
@@ -58,22 +59,22 @@ pub(crate) fn put_term(
             Ok(Term::Any(alternatives))
         }
         Expanded::Pri(first, second) => {
-            let first = put_box(alloc, table, known, first)?;
-            let second = put_box(alloc, table, known, second)?;
+            let first = put_part(alloc, table, known, first)?;
+            let second = put_part(alloc, table, known, second)?;
             Ok(Term::Pri(first, second))
         }
         Expanded::Par(first, second) => {
-            let first = put_box(alloc, table, known, first)?;
-            let second = put_box(alloc, table, known, second)?;
+            let first = put_part(alloc, table, known, first)?;
+            let second = put_part(alloc, table, known, second)?;
             Ok(Term::Par(first, second))
         }
         Expanded::Assert(constraint, body) => {
             let constraint = put_expression(table, constraint)?;
-            let body = put_box(alloc, table, known, body)?;
+            let body = put_part(alloc, table, known, body)?;
             Ok(Term::Assert(constraint, body))
         }
         Expanded::Exist(local, _, body) => {
-            let body = put_box(alloc, table, known, body)?;
+            let body = put_part(alloc, table, known, body)?;
             Ok(Term::Exist {
                 local: *local,
                 last: Last::First,
@@ -82,8 +83,8 @@ pub(crate) fn put_term(
         }
         Expanded::Catch(caught, body, otherwise) => {
             let exception = exception_number(known, caught);
-            let body = put_box(alloc, table, known, body)?;
-            let otherwise = put_box(alloc, table, known, otherwise)?;
+            let body = put_part(alloc, table, known, body)?;
+            let otherwise = put_part(alloc, table, known, otherwise)?;
             Ok(Term::Catch {
                 exception,
                 body,
@@ -91,27 +92,27 @@ pub(crate) fn put_term(
             })
         }
         Expanded::Try(body, otherwise) => {
-            let body = put_box(alloc, table, known, body)?;
-            let otherwise = put_box(alloc, table, known, otherwise)?;
+            let body = put_part(alloc, table, known, body)?;
+            let otherwise = put_part(alloc, table, known, otherwise)?;
             Ok(Term::Try { body, otherwise })
         }
     }
 }
 
-// The same in a box.
+// The same as a part of another term.
 #[cycle(terms)]
-fn put_box(
+fn put_part(
     alloc: Global,
     table: &mut Table,
     known: &Exceptions<'_>,
     trace: &Expanded,
-) -> Result<Box<Term>, Memory>
+) -> Result<Rc<Term>, Memory>
     requires { AreReady (table_kinds table.old) (exceptions known.now) (expanded trace.now) }
     ensures term { IfOk result (λ made. IsTerm (table_expressions table.new) (exceptions known.now) (expanded trace.now) (process made.value)) }
     ensures grown { OnOk result (IsGrown table.old table.new) }
 {
     let made = put_term(alloc, table, known, trace)?;
-    Ok(Box::new(alloc, made)?)
+    Ok(Rc::new(alloc, made)?)
 }
 
 // Traces to choose from, each behind the number of its weight.

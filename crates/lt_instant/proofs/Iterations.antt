@@ -95,7 +95,7 @@ leaf_is m (nodes.Raise z) p a = record { leaf = raised z; is = refl; found = ref
 leaf_is m nodes.Pri p a = absurd (p refl)
 leaf_is m (nodes.Any ws ls) p a = absurd (a ws ls refl)
 leaf_is m (nodes.Go cs ls next) p a = record {
-  leaf = outlook (worth_of m) (t.go (map (meaning_of m.scenario.now.table) cs.items) ls.items (process_over m.scenario.now.table next));
+  leaf = outlook (worth_of m) (t.go (map (meaning_of m.scenario.now.table) cs.items) ls.items (process_over m.scenario.now.table next.value));
   is = refl;
   found = refl;
 }

@@ -146,7 +146,7 @@ after_passing tests nodes.Vanish h = tt
 after_passing tests (nodes.Raise z) h = tt
 after_passing tests nodes.Pri h = tt
 after_passing tests (nodes.Any ws ls) h = tt
-after_passing tests (nodes.Go cs ls next) h = right_of (lasts_pass tests ls.items) (passes tests (process next)) (right_of (list_all tests.constraint cs.items) _ h)
+after_passing tests (nodes.Go cs ls next) h = right_of (lasts_pass tests ls.items) (passes tests (process next.value)) (right_of (list_all tests.constraint cs.items) _ h)
 
 after_done : (j : ℕ) (n : TreeNode) → NextIsDoneTo j (tree_node n) → AfterNode (IsDoneTo j) n
 after_done j nodes.None h = tt

@@ -1,6 +1,7 @@
 -- What is taken at leaves.
 use Rattle.std.proofs.Common.{◌≡◌, ℕ, zero, suc, ◌+◌, ◌<◌, Bool, true, false, nat_lt, if◌then◌else◌, List, [], ◌∷◌, length, map, get_or, slice_get, Some, None, Ok, Err, IfOk, ℤ, Vec, Global, refl, ap, sym, ◌∙◌, subst, arith}
 use Rattle.std.specs.declared.option.Option.{Option}
+use Rattle.std.specs.declared.rc.Rc.{Rc}
 use Rattle.std.specs.declared.result.Result.{Result}
 use Rattle.lt_num.specs.declared.fault.Arith.{Arith}
 use Rattle.lt_num.specs.declared.value.Value.{Value}
@@ -169,29 +170,30 @@ module _ (m : Moment) (raws : List ℤ) (ns : List TreeNode) (x : Drawn) where
   fault_at a e n g = record { takes = λ o s f. fault_by (scene_of m) seed m.budget c m.inputs.now a o (sym (ap (finding raws) e) ∙ f); within = λ ts h. tt; done = λ j h. tt }
 
   -- an instant
-  go_is : x.finding ≡ findings.Solved → (cs : Vec ℕ Global) (ls : Vec (ℕ × Last) Global) (next : Term) (k : Taken) → IsGoing m ls.items next raws k → IsTakenOf m raws (nodes.Go cs ls next) x k
+  go_is : x.finding ≡ findings.Solved → (cs : Vec ℕ Global) (ls : Vec (ℕ × Last) Global) (next : Rc Term Global) (k : Taken) → IsGoing m ls.items next.value raws k → IsTakenOf m raws (nodes.Go cs ls next) x k
   go_is e cs ls next k g = record {
     takes = λ o s f.
-        let same : going ((worth_of m).formula ls.items (map (meaning_of m.scenario.now.table) cs.items)) ls.items (process_over m.scenario.now.table next) ≡ o = cc in
-        g.takes ∙ solved_by_worth (scene_of m) seed m.budget c m.inputs.now raws ((worth_of m).formula ls.items (map (meaning_of m.scenario.now.table) cs.items)) ls.items (process_over m.scenario.now.table next) o same (sym (ap (finding raws) e) ∙ f);
+        let same : going ((worth_of m).formula ls.items (map (meaning_of m.scenario.now.table) cs.items)) ls.items (process_over m.scenario.now.table next.value) ≡ o = cc in
+        g.takes ∙ solved_by_worth (scene_of m) seed m.budget c m.inputs.now raws ((worth_of m).formula ls.items (map (meaning_of m.scenario.now.table) cs.items)) ls.items (process_over m.scenario.now.table next.value) o same (sym (ap (finding raws) e) ∙ f);
     within = g.within;
     done = g.done;
   }
 
-  pub go_at : (r : Result Taken Memory) (here : TreeNode) (cs : Vec ℕ Global) (ls : Vec (ℕ × Last) Global) (next : Term) (lasts : Lasts) → x.position < length ns → here ≡ get_or ns x.position here → here ≡ nodes.Go cs ls next → lasts ≡ ls.items → x.finding ≡ findings.Solved
-      → IfOk r (IsGoing m lasts next raws) → IfOk r (IsTakenAt m raws ns x)
-  go_at (Err a) here cs ls next lasts l is n s e g = tt
-  go_at (Ok k) here cs ls next lasts l is n s e g = λ y there.
+  pub go_at : (r : Result Taken Memory) (here : TreeNode) (cs : Vec ℕ Global) (ls : Vec (ℕ × Last) Global) (next : Rc Term Global) (term : Term) (lasts : Lasts) → x.position < length ns → here ≡ get_or ns x.position here → here ≡ nodes.Go cs ls next → lasts ≡ ls.items → term ≡ next.value → x.finding ≡ findings.Solved
+      → IfOk r (IsGoing m lasts term raws) → IfOk r (IsTakenAt m raws ns x)
+  go_at (Err a) here cs ls next term lasts l is n s t e g = tt
+  go_at (Ok k) here cs ls next term lasts l is n s t e g = λ y there.
       let P : TreeNode → Type 0 = λ z. IsTakenOf m raws z x k in
-      let Q : Lasts → Type 0 = λ ms. IsGoing m ms next raws k in
-      subst P (sym n ∙ same_node ns x.position here y l is there) (go_is e cs ls next k (subst Q s g))
+      let Q : Lasts → Type 0 = λ ms. IsGoing m ms next.value raws k in
+      let R : Term → Type 0 = λ u. IsGoing m lasts u raws k in
+      subst P (sym n ∙ same_node ns x.position here y l is there) (go_is e cs ls next k (subst Q s (subst R t g)))
 
   choice_faulty : (r : Result (List ℕ) Arith) (o : Leaf) → choice_by r ≡ seen_leaf o → HasNone o
   choice_faulty (Ok ws) o h = absurd (cc)
   choice_faulty (Err f) o h = let e : faulty f ≡ o = cc in let P : Leaf → Type 0 = HasNone in subst P e tt
 
   -- a node that is no instant
-  none_there : (y : TreeNode) (o : Leaf) → ((cs : Vec ℕ Global) (ls : Vec (ℕ × Last) Global) (next : Term) → y ≡ nodes.Go cs ls next → ⊥) → seen (worth_of m) (node_over m.scenario.now.table y) ≡ seen_leaf o → HasNone o
+  none_there : (y : TreeNode) (o : Leaf) → ((cs : Vec ℕ Global) (ls : Vec (ℕ × Last) Global) (next : Rc Term Global) → y ≡ nodes.Go cs ls next → ⊥) → seen (worth_of m) (node_over m.scenario.now.table y) ≡ seen_leaf o → HasNone o
   none_there nodes.None o not_go h = let e : nothing ≡ o = cc in let P : Leaf → Type 0 = HasNone in subst P e tt
   none_there nodes.Vanish o not_go h = let e : vanish ≡ o = cc in let P : Leaf → Type 0 = HasNone in subst P e tt
   none_there (nodes.Raise z) o not_go h = let e : raised z ≡ o = cc in let P : Leaf → Type 0 = HasNone in subst P e tt
@@ -199,7 +201,7 @@ module _ (m : Moment) (raws : List ℤ) (ns : List TreeNode) (x : Drawn) where
   none_there (nodes.Any ws ls) o not_go h = choice_faulty (worths (worth_of m) ls.items (map (weight_mapped (meaning_of m.scenario.now.table)) (map weight ws.items))) o h
   none_there (nodes.Go cs ls next) o not_go h = absurd (not_go cs ls next refl)
 
-  pub none_at : (node : TreeNode) → x.position < length ns → node ≡ get_or ns x.position node → x.finding ≡ findings.Solved → ((cs : Vec ℕ Global) (ls : Vec (ℕ × Last) Global) (next : Term) → node ≡ nodes.Go cs ls next → ⊥) → IsTakenAt m raws ns x took.Nothing
+  pub none_at : (node : TreeNode) → x.position < length ns → node ≡ get_or ns x.position node → x.finding ≡ findings.Solved → ((cs : Vec ℕ Global) (ls : Vec (ℕ × Last) Global) (next : Rc Term Global) → node ≡ nodes.Go cs ls next → ⊥) → IsTakenAt m raws ns x took.Nothing
   none_at node l is e not_go y there = record {
     takes = λ o s f.
         let P : TreeNode → Type 0 = λ z. seen (worth_of m) (node_over m.scenario.now.table z) ≡ seen_leaf o in

@@ -163,7 +163,7 @@ fn taken_at(
         Finding::Raise(exception) => Ok(Taken::Raise(exception)),
         Finding::Fault(fault) => Ok(Taken::Fault(fault)),
         Finding::Solved => match nodes.swap_remove(drawn.position as usize) {
-            TreeNode::Go { lasts, next, .. } => going(alloc, moment, &lasts, next, raws),
+            TreeNode::Go { lasts, next, .. } => going(alloc, moment, &lasts, &next, raws),
             _ => Ok(Taken::Nothing),
         },
     }
@@ -174,17 +174,17 @@ fn going(
     alloc: Global,
     moment: &Moment<'_>,
     lasts: &[(u32, Last)],
-    mut next: Term,
+    next: &Term,
     raws: &[i64],
 ) -> Result<Taken, Memory>
-    ensures { IfOk result (IsGoing moment.now lasts.now next raws.now) }
+    ensures { IfOk result (IsGoing moment.now lasts.now next.now raws.now) }
 {
     let scenario = moment.scenario;
     let outputs = values_from(alloc, 0, &scenario.outputs, raws)?;
     let drawn_locals = values_from(alloc, scenario.outputs.len(), &scenario.locals, raws)?;
     let values = values_of(alloc, lasts, &drawn_locals)?;
     let locals = scoped(alloc, lasts, &drawn_locals)?;
-    advance(&mut next, &values);
+    let next = advance(alloc, next, &values)?;
     let inputs = Vec::from_slice(alloc, moment.inputs)?;
     let reaction = Reaction { inputs, outputs };
     Ok(Taken::Go {

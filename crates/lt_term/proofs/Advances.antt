@@ -1,15 +1,27 @@
 -- Terms behind an instant.
-use Rattle.std.proofs.Common.{◌≡◌, ◌≤◌, ℕ, Bool, ◌&&◌, List, [], ◌∷◌, ◌++◌, length, map, take, drop, refl, ap, sym, ◌∙◌, arith}
-use Rattle.std.proofs.lemmas.List.{take_all, take_at}
+use Rattle.std.proofs.Common.{◌≡◌, ◌≤◌, ℕ, Bool, true, false, ◌&&◌, ◌||◌, List, [], ◌∷◌, length, map, take, refl, ap, ◌∙◌}
+use Rattle.std.proofs.lemmas.List.{take_all}
 use Rattle.lt_num.specs.declared.value.Value.{Value}
 use Rattle.lt_term.specs.Advanced.{advanced, advanced_each, next_last}
 use Rattle.lt_term.specs.Counted.{IsDoneTo, AreDoneTo}
 use Rattle.lt_term.specs.Process.{Process, eps, dead, con, raise, seq, loop, count, any, pri, par, assert, exist, catch, try, Choices, no_choice, choice, with_constraints, choices_with_constraints}
 use Rattle.lt_term.specs.View.{choices, choices_from, part, process}
 use Rattle.lt_term.specs.Within.{Tests, passes, each_passes}
+use Rattle.lt_term.specs.declared.last.Last.{Last}
+use Rattle.lt_term.specs.declared.last.Last.TheVariants as last
 use Rattle.lt_term.specs.declared.term.Term.{Term}
+use Rattle.lt_term.specs.inner.Entered.{has_value, is_entered, is_entered_anywhere}
+
+-- of two tests of which none holds, neither does
+neither : (x y : Bool) → x || y ≡ false → (x ≡ false) × (y ≡ false)
+neither true y h = absurd (cc)
+neither false y h = (refl, h)
 
 module _ (vs : List (ℕ × Value)) where
+  last-unentered : (x : ℕ) (v : Last) → has_value v ≡ false → next_last vs x v ≡ v
+  last-unentered x last.First h = refl
+  last-unentered x (last.Kept v) h = absurd (cc)
+
   -- Constraints are left alone.
   module _ {C D : Type 0} (f : C → D) where
     mutual
@@ -79,14 +91,33 @@ module _ (vs : List (ℕ × Value)) where
       advanced_each-done no_choice h = tt
       advanced_each-done (choice w t cs) h = (advanced-done t h.0, advanced_each-done cs h.1)
 
+  -- A term of which no scope is entered stays as it is.
+  mutual
+    pub advanced-unentered : {C : Type 0} (p : Process C) → is_entered p ≡ false → advanced vs p ≡ p
+    advanced-unentered eps h = refl
+    advanced-unentered dead h = refl
+    advanced-unentered (con c) h = refl
+    advanced-unentered (raise z) h = refl
+    advanced-unentered (seq a b) h = let n = neither (is_entered a) (is_entered b) h in λ i. seq (advanced-unentered a n.0 i) (advanced-unentered b n.1 i)
+    advanced-unentered (loop t) h = ap loop (advanced-unentered t h)
+    advanced-unentered (count i done t) h = ap (count i done) (advanced-unentered t h)
+    advanced-unentered (any cs) h = ap any (advanced_each-unentered cs h)
+    advanced-unentered (pri a b) h = let n = neither (is_entered a) (is_entered b) h in λ i. pri (advanced-unentered a n.0 i) (advanced-unentered b n.1 i)
+    advanced-unentered (par a b) h = let n = neither (is_entered a) (is_entered b) h in λ i. par (advanced-unentered a n.0 i) (advanced-unentered b n.1 i)
+    advanced-unentered (assert c t) h = ap (assert c) (advanced-unentered t h)
+    advanced-unentered (exist x v t) h = let n = neither (has_value v) (is_entered t) h in λ i. exist x (last-unentered x v n.0 i) (advanced-unentered t n.1 i)
+    advanced-unentered (catch z t b) h = let n = neither (is_entered t) (is_entered b) h in λ i. catch z (advanced-unentered t n.0 i) (advanced-unentered b n.1 i)
+    advanced-unentered (try t b) h = let n = neither (is_entered t) (is_entered b) h in λ i. try (advanced-unentered t n.0 i) (advanced-unentered b n.1 i)
+
+    pub advanced_each-unentered : {C : Type 0} (cs : Choices C) → is_entered_anywhere cs ≡ false → advanced_each vs cs ≡ cs
+    advanced_each-unentered no_choice h = refl
+    advanced_each-unentered (choice w t cs) h = let n = neither (is_entered t) (is_entered_anywhere cs) h in λ i. choice w (advanced-unentered t n.0 i) (advanced_each-unentered cs n.1 i)
+
   -- the parts of a choice, one by one
   advanced_parts : (parts : List (ℕ × Term)) → choices_from (map (λ p. (p.0, advanced vs (process p.1))) parts) ≡ advanced_each vs (choices parts)
   advanced_parts [] = refl
   advanced_parts (p ∷ parts) = ap (choice p.0 (advanced vs (process p.1))) (advanced_parts parts)
 
-  -- a choice once all its parts are done
-  pub parts_advance : (len index : ℕ) (now was old : List (ℕ × Term)) → was ≡ old → length now ≡ length was → len ≡ length old → length now ≤ index
-      → map part (take index now) ≡ map (λ p. (p.0, advanced vs (process p.1))) (take index was) → choices (take len (now ++ drop (length now) old)) ≡ advanced_each vs (choices old)
-  parts_advance len index now was old e l m n h =
-      ap choices (take_at now (drop (length now) old) len (omega (arith, l, m, ap length e))) ∙ ap (λ ps. choices_from (map part ps)) (sym (take_all index now n)) ∙ ap choices_from h
-      ∙ ap (λ ps. choices_from (map (λ p. (p.0, advanced vs (process p.1))) ps)) (take_all index was (omega (arith, l, n)) ∙ e) ∙ advanced_parts old
+  -- the parts of a choice once all are done
+  pub parts_advance : (made parts : List (ℕ × Term)) (index : ℕ) → length parts ≤ index → map part made ≡ map (λ p. (p.0, advanced vs (process p.1))) (take index parts) → choices made ≡ advanced_each vs (choices parts)
+  parts_advance made parts index n h = ap choices_from h ∙ ap (λ ps. choices_from (map (λ p. (p.0, advanced vs (process p.1))) ps)) (take_all index parts n) ∙ advanced_parts parts

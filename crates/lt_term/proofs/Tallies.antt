@@ -139,23 +139,22 @@ repeated_weighs body m n e d w =
     (times_alike_left n ((body.others + body.vanishes) + 1) w.other all) refl refl refl
     ∙ ap capped (sums body.others body.vanishes body.goes (raises_weight w.raise body.raises.items) w.other w.vanish w.go)
 
-pub beside_weighs : (r : Result Tally AllocError) (first second rest : Tally) (s : ℕ) → s ≡ capped (second.goes + second.vanishes)
-    → ((w : Weights) → IsAlike (tally_weight w rest) (tally_weight w (record first { vanishes = 0; goes = 0 }) + first.vanishes * tally_weight w second))
-    → IfOk r (λ k. (w : Weights) → IsAlike (tally_weight w k) (tally_weight w rest + first.goes * tally_weight w (record second { goes = s; vanishes = 0 })))
-    → IfOk r (λ k. (w : Weights) → IsAlike (tally_weight w k) (tally_weight (record w { vanish = tally_weight w second; go = tally_weight (record w { vanish = w.go }) second }) first))
-beside_weighs r first second rest s e hr h =
-    let sums : (o v g t b x wo wv wg : ℕ) → ((o * wo + (0 * wv + (0 * wg + t))) + v * b) + g * x ≡ o * wo + (v * b + (g * x + t)) = λ o v g t b x wo wv wg. omega arith in
-    let going : (o v g t wo wv wg : ℕ) → o * wo + (0 * wv + ((g + v) * wg + t)) ≡ o * wo + (v * wg + (g * wg + t)) = λ o v g t wo wv wg. omega arith in
-    refined r (λ w. tally_weight w rest + first.goes * tally_weight w (record second { goes = s; vanishes = 0 }))
-    (λ w. tally_weight (record w { vanish = tally_weight w second; go = tally_weight (record w { vanish = w.go }) second }) first)
-    (λ w.
-    let x : ℕ = tally_weight (record w { vanish = w.go }) second in
-    let g : IsAlike (tally_weight w (record second { goes = s; vanishes = 0 })) (tally_weight (record w { vanish = w.go }) second) =
-    four_alike (second.others * w.other) (0 * w.vanish) (s * w.go) (raises_weight w.raise second.raises.items) _ _ ((second.goes + second.vanishes) * w.go) _ refl refl
-    (times_alike_left s (second.goes + second.vanishes) w.go (ap capped e ∙ capped_alike (second.goes + second.vanishes))) refl
-    ∙ ap capped (going second.others second.vanishes second.goes (raises_weight w.raise second.raises.items) w.other w.vanish w.go) in
-    plus_alike _ _ _ _ (hr w) (times_alike_right first.goes (tally_weight w (record second { goes = s; vanishes = 0 })) (tally_weight (record w { vanish = w.go }) second) g)
-    ∙ ap capped (sums first.others first.vanishes first.goes (raises_weight w.raise first.raises.items) (tally_weight w second) (tally_weight (record w { vanish = w.go }) second) w.other w.vanish w.go)) h
+pub beside_weighs : (first second all : Tally) (n x v y g : ℕ) → n ≡ capped (first.vanishes + first.goes) → x ≡ capped (first.vanishes * second.vanishes) → v ≡ capped (all.vanishes + x) → y ≡ capped (first.goes * second.vanishes) → g ≡ capped (all.goes + y)
+    → ((w : Weights) → IsAlike (tally_weight w all) (tally_weight w (record first { vanishes = 0; goes = 0 }) + n * tally_weight w (record second { vanishes = 0 })))
+    → (w : Weights) → IsAlike (tally_weight w (record all { vanishes = v; goes = g })) (tally_weight (record w { vanish = tally_weight w second; go = tally_weight (record w { vanish = w.go }) second }) first)
+beside_weighs first second all n x v y g hn hx hv hy hg h w =
+    let more : (n m p q : ℕ) → q ≡ capped p → n ≡ capped (m + q) → IsAlike n (m + p) = λ n m p q e d. ap capped d ∙ capped_alike (m + q) ∙ plus_alike m m q p refl (ap capped e ∙ capped_alike p) in
+    let ends : ℕ = first.vanishes * second.vanishes * w.vanish + first.goes * second.vanishes * w.go in
+    let apart : (o v g r ae be wo wv wg : ℕ) → o * wo + ((v + ae) * wv + ((g + be) * wg + r)) ≡ (o * wo + (v * wv + (g * wg + r))) + (ae * wv + be * wg) = λ o v g r ae be wo wv wg. omega arith in
+    let sums : (o t a b p q f e wo wv wg : ℕ) → (o * wo + (0 * wv + (0 * wg + t)) + (a + b) * (p * wo + (0 * wv + (q * wg + f)))) + (a * e * wv + b * e * wg)
+    ≡ o * wo + (a * (p * wo + (e * wv + (q * wg + f))) + (b * (p * wo + (e * wg + (q * wg + f))) + t)) = λ o t a b p q f e wo wv wg. omega arith in
+    four_alike (all.others * w.other) (v * w.vanish) (g * w.go) (raises_weight w.raise all.raises.items) _ _ _ _ refl
+    (times_alike_left v (all.vanishes + first.vanishes * second.vanishes) w.vanish (more v all.vanishes (first.vanishes * second.vanishes) x hx hv))
+    (times_alike_left g (all.goes + first.goes * second.vanishes) w.go (more g all.goes (first.goes * second.vanishes) y hy hg)) refl
+    ∙ ap capped (apart all.others all.vanishes all.goes (raises_weight w.raise all.raises.items) (first.vanishes * second.vanishes) (first.goes * second.vanishes) w.other w.vanish w.go)
+    ∙ plus_alike _ _ ends ends (h w ∙ plus_alike (tally_weight w (record first { vanishes = 0; goes = 0 })) _ _ _ refl
+    (times_alike_left n (first.vanishes + first.goes) (tally_weight w (record second { vanishes = 0 })) (ap capped hn ∙ capped_alike (first.vanishes + first.goes)))) refl
+    ∙ ap capped (sums first.others (raises_weight w.raise first.raises.items) first.vanishes first.goes second.others second.goes (raises_weight w.raise second.raises.items) second.vanishes w.other w.vanish w.go)
 
 pub caught_weighs : (r : Result Tally AllocError) (z : ℕ) (body rest handler : Tally) (c : ℕ) → c ≡ capped (count_in z body.raises.items) → rest.others ≡ body.others → rest.vanishes ≡ body.vanishes → rest.goes ≡ body.goes → rest.raises.items ≡ without z body.raises.items
     → IfOk r (λ k. (w : Weights) → IsAlike (tally_weight w k) (tally_weight w rest + c * tally_weight w handler))

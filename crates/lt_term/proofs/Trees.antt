@@ -94,10 +94,10 @@ on_ok : {T E A B : Type 0} (r : Result T E) → (A → B) → OnOk r A → OnOk 
 on_ok (Ok x) f h = f h
 on_ok (Err e) f h = tt
 
-pub loop_put : {T E : Type 0} (kinds : List Kind) (r : Result T E) (whole t : Process ℕ) (old before behind new ns : List (Node ℕ (Process ℕ))) → whole ≡ loop t → ns ≡ flattened (offers_of kinds t) → before ≡ old ++ ordered_node ∷ []
-    → behind ≡ before ++ flat_map (replaced (in_turn whole)) ns → OnOk r (new ≡ behind ++ leaf_node vanish ∷ []) → OnOk r (new ≡ old ++ flattened (offers_of kinds whole))
-loop_put kinds r whole t old before behind new ns w n b e = on_ok r (λ l.
-    let middle : behind ≡ before ++ flattened (with_leaves (in_turn (loop t)) (offers_of kinds t)) = leaves_put (in_turn (loop t)) (offers_of kinds t) before behind ns n (e ∙ ap (λ u. before ++ flat_map (replaced (in_turn u)) ns) w) in
+pub loop_put : {T E : Type 0} (kinds : List Kind) (r : Result T E) (whole again t : Process ℕ) (old before behind new ns : List (Node ℕ (Process ℕ))) → whole ≡ loop t → again ≡ loop t → ns ≡ flattened (offers_of kinds t) → before ≡ old ++ ordered_node ∷ []
+    → behind ≡ before ++ flat_map (replaced (in_turn again)) ns → OnOk r (new ≡ behind ++ leaf_node vanish ∷ []) → OnOk r (new ≡ old ++ flattened (offers_of kinds whole))
+loop_put kinds r whole again t old before behind new ns w a n b e = on_ok r (λ l.
+    let middle : behind ≡ before ++ flattened (with_leaves (in_turn (loop t)) (offers_of kinds t)) = leaves_put (in_turn (loop t)) (offers_of kinds t) before behind ns n (e ∙ ap (λ u. before ++ flat_map (replaced (in_turn u)) ns) a) in
     rw w (rw (l, middle, b) (simp append_assoc)))
 
 pub count_put : {T E : Type 0} (kinds : List Kind) (r : Result T E) (whole again t : Process ℕ) (i done : ℕ) (old before behind new ns : List (Node ℕ (Process ℕ))) → whole ≡ count i done t → again ≡ count i (suc done) t → ns ≡ flattened (offers_of kinds t)

@@ -19,7 +19,7 @@ abbrev pub tree_node : TreeNode → Node ℕ (Process ℕ)
 tree_node nodes.Vanish = leaf_node vanish
 tree_node nodes.None = leaf_node nothing
 tree_node (nodes.Raise z) = leaf_node (raised z)
-tree_node (nodes.Go constraints lasts next) = leaf_node (go constraints.items lasts.items (process next))
+tree_node (nodes.Go constraints lasts next) = leaf_node (go constraints.items lasts.items (process next.value))
 tree_node nodes.Pri = ordered_node
 tree_node (nodes.Any ws lasts) = weighted_node lasts.items (map weight ws.items)
 

@@ -4,3 +4,7 @@
 pub mod Alike
 -- What a tally weighs.
 pub mod TallyView
+-- Which scopes are entered.
+pub mod Entered
+-- What stands for a term behind an instant.
+pub mod Renewed

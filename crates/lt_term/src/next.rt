@@ -1,4 +1,6 @@
 //! What comes after an instant: round a term that is over there is nothing.
+//!
+//! The parts of what comes next are shared with the term that it comes from.
 
 ghost use Rattle.std.specs.Prelude.{◌≡◌, IfOk};
 ghost use Rattle.lt_term.specs.Next.{asserting, beside, catching, followed_by, kept, trying, with_scope};
@@ -8,36 +10,50 @@ use crate::last::Last;
 use crate::term::Term;
 use lt_num::Value;
 use std::alloc::{AllocError, Global};
+use std::rc::Rc;
 
-/// What is left of a first term, and then a copy of the second.
-pub(crate) fn sequence(alloc: Global, first: Term, second: &Term) -> Result<Term, AllocError>
-    ensures { IfOk result (λ t. process t ≡ followed_by (process first) (process second.now)) }
+/// What is left of a first term, and then the second.
+pub(crate) fn sequence(
+    alloc: Global,
+    first: Rc<Term>,
+    second: &Rc<Term>,
+) -> Result<Rc<Term>, AllocError>
+    ensures { IfOk result (λ t. process t.value ≡ followed_by (process first.value) (process second.now.value)) }
 {
     let second = second.clone()?;
-    match first {
+    match &*first {
         Term::Eps => Ok(second),
-        first => Ok(Term::Seq(Box::new(alloc, first)?, Box::new(alloc, second)?)),
+        _ => Ok(Rc::new(alloc, Term::Seq(first, second))?),
     }
 }
 
 /// Two terms at once.
-pub(crate) fn side_by_side(alloc: Global, first: Term, second: Term) -> Result<Term, AllocError>
-    ensures { IfOk result (λ t. process t ≡ beside (process first) (process second)) }
+pub(crate) fn side_by_side(
+    alloc: Global,
+    first: &Rc<Term>,
+    second: Rc<Term>,
+) -> Result<Rc<Term>, AllocError>
+    ensures { IfOk result (λ t. process t.value ≡ beside (process first.now.value) (process second.value)) }
 {
-    match (first, second) {
-        (Term::Eps, second) => Ok(second),
-        (first, Term::Eps) => Ok(first),
-        (first, second) => Ok(Term::Par(Box::new(alloc, first)?, Box::new(alloc, second)?)),
+    let first = first.clone()?;
+    match (&*first, &*second) {
+        (Term::Eps, _) => Ok(second),
+        (_, Term::Eps) => Ok(first),
+        (_, _) => Ok(Rc::new(alloc, Term::Par(first, second))?),
     }
 }
 
 /// What is left of a term under a constraint.
-pub(crate) fn asserted(alloc: Global, constraint: u32, body: Term) -> Result<Term, AllocError>
-    ensures { IfOk result (λ t. process t ≡ asserting constraint (process body)) }
+pub(crate) fn asserted(
+    alloc: Global,
+    constraint: u32,
+    body: Rc<Term>,
+) -> Result<Rc<Term>, AllocError>
+    ensures { IfOk result (λ t. process t.value ≡ asserting constraint (process body.value)) }
 {
-    match body {
-        Term::Eps => Ok(Term::Eps),
-        body => Ok(Term::Assert(constraint, Box::new(alloc, body)?)),
+    match &*body {
+        Term::Eps => Ok(body),
+        _ => Ok(Rc::new(alloc, Term::Assert(constraint, body))?),
     }
 }
 
@@ -47,17 +63,14 @@ pub(crate) fn scoped(
     start: Value,
     local: u32,
     last: Last,
-    body: Term,
-) -> Result<Term, AllocError>
-    ensures { IfOk result (λ t. process t ≡ with_scope local (kept start last) (process body)) }
+    body: Rc<Term>,
+) -> Result<Rc<Term>, AllocError>
+    ensures { IfOk result (λ t. process t.value ≡ with_scope local (kept start last) (process body.value)) }
 {
-    match body {
-        Term::Eps => Ok(Term::Eps),
-        body => Ok(Term::Exist {
-            local,
-            last: kept_value(start, last),
-            body: Box::new(alloc, body)?,
-        }),
+    let last = kept_value(start, last);
+    match &*body {
+        Term::Eps => Ok(body),
+        _ => Ok(Rc::new(alloc, Term::Exist { local, last, body })?),
     }
 }
 
@@ -75,30 +88,36 @@ fn kept_value(start: Value, last: Last) -> Last
 pub(crate) fn caught(
     alloc: Global,
     exception: u32,
-    body: Term,
-    handler: &Term,
-) -> Result<Term, AllocError>
-    ensures { IfOk result (λ t. process t ≡ catching exception (process body) (process handler.now)) }
+    body: Rc<Term>,
+    handler: &Rc<Term>,
+) -> Result<Rc<Term>, AllocError>
+    ensures { IfOk result (λ t. process t.value ≡ catching exception (process body.value) (process handler.now.value)) }
 {
-    match body {
-        Term::Eps => Ok(Term::Eps),
-        body => Ok(Term::Catch {
-            exception,
-            body: Box::new(alloc, body)?,
-            otherwise: Box::new(alloc, handler.clone()?)?,
-        }),
+    let otherwise = handler.clone()?;
+    match &*body {
+        Term::Eps => Ok(body),
+        _ => {
+            let caught = Term::Catch {
+                exception,
+                body,
+                otherwise,
+            };
+            Ok(Rc::new(alloc, caught)?)
+        }
     }
 }
 
 /// What is left of a term with another one for where nothing can be done.
-pub(crate) fn tried(alloc: Global, body: Term, otherwise: &Term) -> Result<Term, AllocError>
-    ensures { IfOk result (λ t. process t ≡ trying (process body) (process otherwise.now)) }
+pub(crate) fn tried(
+    alloc: Global,
+    body: Rc<Term>,
+    otherwise: &Rc<Term>,
+) -> Result<Rc<Term>, AllocError>
+    ensures { IfOk result (λ t. process t.value ≡ trying (process body.value) (process otherwise.now.value)) }
 {
-    match body {
-        Term::Eps => Ok(Term::Eps),
-        body => Ok(Term::Try {
-            body: Box::new(alloc, body)?,
-            otherwise: Box::new(alloc, otherwise.clone()?)?,
-        }),
+    let otherwise = otherwise.clone()?;
+    match &*body {
+        Term::Eps => Ok(body),
+        _ => Ok(Rc::new(alloc, Term::Try { body, otherwise })?),
     }
 }

@@ -7,7 +7,7 @@ ghost use Rattle.lt_term.specs.Counted.{IsCounted};
 ghost use Rattle.lt_formula.specs.Limits.{most_turns};
 ghost use Rattle.lt_term.specs.Mapped.{node_passes, node_with_constraints};
 ghost use Rattle.lt_term.specs.Offers.{in_catch, in_par, in_seq, offers_of};
-ghost use Rattle.lt_term.specs.Process.{count, with_constraints};
+ghost use Rattle.lt_term.specs.Process.{count, loop, with_constraints};
 ghost use Rattle.lt_term.specs.Replaced.{replaced};
 ghost use Rattle.lt_term.specs.Tree.{expression, flattened, more, stop, weighted_node};
 ghost use Rattle.lt_term.specs.TreeView.{tree_nodes, weight};
@@ -22,6 +22,7 @@ use crate::term::Term;
 use crate::tree::{Tree, TreeNode, Weight};
 use crate::variable::Var;
 use std::alloc::{AllocError, Global};
+use std::rc::Rc;
 
 /// What a term of a scenario offers.
 #[tactic(auto, using(crate::proofs::Natural::nodes_natural, crate::proofs::Passing::nodes_pass))]
@@ -68,7 +69,7 @@ fn emit(
         Term::Con(constraint) => {
             let constraints = vec![in alloc; *constraint]?;
             let lasts = Vec::new(alloc);
-            let next = Term::Eps;
+            let next = Rc::new(alloc, Term::Eps)?;
             put(
                 out,
                 TreeNode::Go {
@@ -86,7 +87,8 @@ fn emit(
         Term::Loop(body) => {
             let nodes = nodes_of(alloc, locals, body)?;
             put(out, TreeNode::Pri)?;
-            put_turn(alloc, out, nodes, term)?;
+            let again = once_more(alloc, body)?;
+            put_turn(alloc, out, nodes, &again)?;
             put(out, TreeNode::Vanish)
         }
         Term::Count {
@@ -185,18 +187,30 @@ fn put_count(
     put(out, TreeNode::Any { weights, lasts })
 }
 
-// A counted loop of which one more turn is done.
-fn one_more_done(alloc: Global, counter: u32, done: u64, body: &Term) -> Result<Term, AllocError>
-    requires { done ≤ most_turns }
-    ensures { IfOk result (λ t. process t ≡ count counter (suc done) (process body.now)) }
+// A loop that begins again.
+fn once_more(alloc: Global, body: &Rc<Term>) -> Result<Rc<Term>, AllocError>
+    ensures { IfOk result (λ t. process t.value ≡ loop (process body.now.value)) }
 {
-    let body = Box::new(alloc, body.clone()?)?;
-    let done = done + 1;
-    Ok(Term::Count {
+    let again = Term::Loop(body.clone()?);
+    Ok(Rc::new(alloc, again)?)
+}
+
+// A counted loop of which one more turn is done.
+fn one_more_done(
+    alloc: Global,
+    counter: u32,
+    done: u64,
+    body: &Rc<Term>,
+) -> Result<Rc<Term>, AllocError>
+    requires { done ≤ most_turns }
+    ensures { IfOk result (λ t. process t.value ≡ count counter (suc done) (process body.now.value)) }
+{
+    let again = Term::Count {
         counter,
-        done,
-        body,
-    })
+        done: done + 1,
+        body: body.clone()?,
+    };
+    Ok(Rc::new(alloc, again)?)
 }
 
 // The nodes of a first part for a sequence: those of the second part where the first is over.
@@ -206,10 +220,10 @@ fn put_seq(
     locals: &[Var],
     out: &mut Vec<TreeNode>,
     nodes: Vec<TreeNode>,
-    second: &Term,
+    second: &Rc<Term>,
 ) -> Result<(), AllocError>
-    requires { IsCounted (process second.now) }
-    ensures { OnOk result (tree_nodes out.new.items ≡ tree_nodes out.old.items ++ flat_map (replaced (in_seq (process second.now) (offers_of (kinds_of locals.now) (process second.now)))) (tree_nodes nodes.items)) }
+    requires { IsCounted (process second.now.value) }
+    ensures { OnOk result (tree_nodes out.new.items ≡ tree_nodes out.old.items ++ flat_map (replaced (in_seq (process second.now.value) (offers_of (kinds_of locals.now) (process second.now.value)))) (tree_nodes nodes.items)) }
 {
     for node in nodes {
         match node {
@@ -273,10 +287,10 @@ fn put_catch(
     out: &mut Vec<TreeNode>,
     nodes: Vec<TreeNode>,
     exception: u32,
-    handler: &Term,
+    handler: &Rc<Term>,
 ) -> Result<(), AllocError>
-    requires { IsCounted (process handler.now) }
-    ensures { OnOk result (tree_nodes out.new.items ≡ tree_nodes out.old.items ++ flat_map (replaced (in_catch exception (process handler.now) (offers_of (kinds_of locals.now) (process handler.now)))) (tree_nodes nodes.items)) }
+    requires { IsCounted (process handler.now.value) }
+    ensures { OnOk result (tree_nodes out.new.items ≡ tree_nodes out.old.items ++ flat_map (replaced (in_catch exception (process handler.now.value) (offers_of (kinds_of locals.now) (process handler.now.value)))) (tree_nodes nodes.items)) }
 {
     for node in nodes {
         match node {

@@ -16,6 +16,7 @@ use crate::tree::TreeNode;
 use crate::variable::Var;
 use lt_num::Value;
 use std::alloc::{AllocError, Global};
+use std::rc::Rc;
 
 /// One more node.
 pub(crate) fn put(out: &mut Vec<TreeNode>, node: TreeNode) -> Result<(), AllocError>
@@ -30,9 +31,9 @@ pub(crate) fn put_turn(
     alloc: Global,
     out: &mut Vec<TreeNode>,
     nodes: Vec<TreeNode>,
-    again: &Term,
+    again: &Rc<Term>,
 ) -> Result<(), AllocError>
-    ensures { OnOk result (tree_nodes out.new.items ≡ tree_nodes out.old.items ++ flat_map (replaced (in_turn (process again.now))) (tree_nodes nodes.items)) }
+    ensures { OnOk result (tree_nodes out.new.items ≡ tree_nodes out.old.items ++ flat_map (replaced (in_turn (process again.now.value))) (tree_nodes nodes.items)) }
 {
     for node in nodes {
         match node {
@@ -64,10 +65,10 @@ pub(crate) fn put_joined(
     out: &mut Vec<TreeNode>,
     constraints: &Vec<u32>,
     lasts: &Vec<(u32, Last)>,
-    next: &Term,
+    next: &Rc<Term>,
     nodes: Vec<TreeNode>,
 ) -> Result<(), AllocError>
-    ensures { OnOk result (tree_nodes out.new.items ≡ tree_nodes out.old.items ++ flat_map (replaced (joined constraints.now.items lasts.now.items (process next.now))) (tree_nodes nodes.items)) }
+    ensures { OnOk result (tree_nodes out.new.items ≡ tree_nodes out.old.items ++ flat_map (replaced (joined constraints.now.items lasts.now.items (process next.now.value))) (tree_nodes nodes.items)) }
 {
     for node in nodes {
         put(out, join(alloc, constraints, lasts, next, node)?)?;
@@ -80,10 +81,10 @@ fn join(
     alloc: Global,
     constraints: &Vec<u32>,
     lasts: &Vec<(u32, Last)>,
-    next: &Term,
+    next: &Rc<Term>,
     node: TreeNode,
 ) -> Result<TreeNode, AllocError>
-    ensures { IfOk result (λ n. tree_node n ∷ [] ≡ replaced (joined constraints.now.items lasts.now.items (process next.now)) (tree_node node)) }
+    ensures { IfOk result (λ n. tree_node n ∷ [] ≡ replaced (joined constraints.now.items lasts.now.items (process next.now.value)) (tree_node node)) }
 {
     match node {
         TreeNode::Vanish => Ok(TreeNode::Go {
@@ -98,7 +99,7 @@ fn join(
         } => Ok(TreeNode::Go {
             constraints: appended(constraints, &others)?,
             lasts: appended(lasts, &other_lasts)?,
-            next: side_by_side(alloc, next.clone()?, other)?,
+            next: side_by_side(alloc, next, other)?,
         }),
         other => Ok(other),
     }
@@ -181,9 +182,9 @@ pub(crate) fn put_try(
     alloc: Global,
     out: &mut Vec<TreeNode>,
     nodes: Vec<TreeNode>,
-    otherwise: &Term,
+    otherwise: &Rc<Term>,
 ) -> Result<(), AllocError>
-    ensures { OnOk result (tree_nodes out.new.items ≡ tree_nodes out.old.items ++ flat_map (replaced (in_try (process otherwise.now))) (tree_nodes nodes.items)) }
+    ensures { OnOk result (tree_nodes out.new.items ≡ tree_nodes out.old.items ++ flat_map (replaced (in_try (process otherwise.now.value))) (tree_nodes nodes.items)) }
 {
     for node in nodes {
         match node {

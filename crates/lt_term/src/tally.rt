@@ -177,18 +177,21 @@ fn repeated(mut body: Tally) -> Tally
 }
 
 // Two sides at once: the second one for each leaf of the first that vanishes or goes on, and in the latter case
-// its leaves that vanish go on.
+// its leaves that vanish go on. What the second one raises is put down once for all these leaves, so that it doesn't
+// grow with each side.
 fn beside(mut first: Tally, mut second: Tally) -> Result<Tally, AllocError>
     ensures { IfOk result (λ k. (w : Weights) → IsAlike (tally_weight w k) (tally_weight (record w { vanish = tally_weight w second; go = tally_weight (record w { vanish = w.go }) second }) first)) }
 {
     let over = first.vanishes;
     let going = first.goes;
+    let ending = second.vanishes;
     first.vanishes = 0;
     first.goes = 0;
-    let rest = with_copies(first, over, &second)?;
-    second.goes = sum(second.goes, second.vanishes);
     second.vanishes = 0;
-    with_copies(rest, going, &second)
+    let mut all = with_copies(first, sum(over, going), &second)?;
+    all.vanishes = sum(all.vanishes, product(over, ending));
+    all.goes = sum(all.goes, product(going, ending));
+    Ok(all)
 }
 
 // A part, with its handler for each of its leaves that raise an exception.

@@ -2,6 +2,7 @@
 
 use crate::last::Last;
 use crate::term::Term;
+use std::rc::Rc;
 
 /// The weight of a tree to choose.
 #[derive(Clone, Copy, Debug, PartialEq, Eq)]
@@ -43,7 +44,7 @@ pub enum TreeNode {
     Go {
         constraints: Vec<u32>,
         lasts: Vec<(u32, Last)>,
-        next: Term,
+        next: Rc<Term>,
     },
 }
 

@@ -19,7 +19,7 @@ use Rattle.lt_instant.specs.inner.Walk.{seen, seen_leaf}
 
 -- a fact of what comes after a node, if anything does
 abbrev pub AfterNode : (Process ℕ → Type 0) → TreeNode → Type 0
-AfterNode P (nodes.Go cs ls next) = P (process next)
+AfterNode P (nodes.Go cs ls next) = P (process next.value)
 AfterNode P other = Unit {0}
 
 -- This is taken at a node where this was found: its instant is the leaf's, and what is left to be done has the numbers of what

@@ -45,35 +45,35 @@ put_term-returns-in_ok-alternatives-in-Any-clause-term t c =
 
 pub put_term-returns-in_ok-second-in-Seq-clause-term : goal.put_term-returns-in_ok-second-in-Seq-clause-term
 put_term-returns-in_ok-second-in-Seq-clause-term t c =
-    seq_put (table_expressions c.put_box.new.table) (table_expressions c.put_box-in-Seq.new.table) (exceptions c.args.known.now) (expanded c.args.trace.now) (expanded c.deref.result.now)
+    seq_put (table_expressions c.put_part.new.table) (table_expressions c.put_part-in-Seq.new.table) (exceptions c.args.known.now) (expanded c.args.trace.now) (expanded c.deref.result.now)
     (expanded c.deref-in-Seq.result.now) _ _
     (ap expanded c.in-Seq.is ∙ (λ i. x.seq (expanded (sym c.deref.ensures i)) (expanded (sym c.deref-in-Seq.ensures i))))
     c.in_ok-second-in-Seq.ensures.grown.keeps c.in_ok-first-in-Seq.ensures.term c.in_ok-second-in-Seq.ensures.term
 
 pub put_term-returns-in_ok-second-in-Pri-clause-term : goal.put_term-returns-in_ok-second-in-Pri-clause-term
 put_term-returns-in_ok-second-in-Pri-clause-term t c =
-    pri_put (table_expressions c.put_box-in-Pri.new.table) (table_expressions c.put_box-in-Pri-2.new.table) (exceptions c.args.known.now) (expanded c.args.trace.now)
+    pri_put (table_expressions c.put_part-in-Pri.new.table) (table_expressions c.put_part-in-Pri-2.new.table) (exceptions c.args.known.now) (expanded c.args.trace.now)
     (expanded c.deref-in-Pri.result.now) (expanded c.deref-in-Pri-2.result.now) _ _
     (ap expanded c.in-Pri.is ∙ (λ i. x.pri (expanded (sym c.deref-in-Pri.ensures i)) (expanded (sym c.deref-in-Pri-2.ensures i))))
     c.in_ok-second-in-Pri.ensures.grown.keeps c.in_ok-first-in-Pri.ensures.term c.in_ok-second-in-Pri.ensures.term
 
 pub put_term-returns-in_ok-second-in-Par-clause-term : goal.put_term-returns-in_ok-second-in-Par-clause-term
 put_term-returns-in_ok-second-in-Par-clause-term t c =
-    par_put (table_expressions c.put_box-in-Par.new.table) (table_expressions c.put_box-in-Par-2.new.table) (exceptions c.args.known.now) (expanded c.args.trace.now)
+    par_put (table_expressions c.put_part-in-Par.new.table) (table_expressions c.put_part-in-Par-2.new.table) (exceptions c.args.known.now) (expanded c.args.trace.now)
     (expanded c.deref-in-Par.result.now) (expanded c.deref-in-Par-2.result.now) _ _
     (ap expanded c.in-Par.is ∙ (λ i. x.par (expanded (sym c.deref-in-Par.ensures i)) (expanded (sym c.deref-in-Par-2.ensures i))))
     c.in_ok-second-in-Par.ensures.grown.keeps c.in_ok-first-in-Par.ensures.term c.in_ok-second-in-Par.ensures.term
 
 pub put_term-returns-in_ok-otherwise-in-Catch-clause-term : goal.put_term-returns-in_ok-otherwise-in-Catch-clause-term
 put_term-returns-in_ok-otherwise-in-Catch-clause-term t c =
-    catch_put (table_kinds c.args.table.now) (table_expressions c.put_box-in-Catch.new.table) (table_expressions c.put_box-in-Catch-2.new.table) (exceptions c.args.known.now)
+    catch_put (table_kinds c.args.table.now) (table_expressions c.put_part-in-Catch.new.table) (table_expressions c.put_part-in-Catch-2.new.table) (exceptions c.args.known.now)
     (exception c.in-Catch.caught) (expanded c.args.trace.now) (expanded c.deref-in-Catch.result.now) (expanded c.deref-in-Catch-2.result.now) c.exception_number-exception.result _ _
     (ap expanded c.in-Catch.is ∙ (λ i. x.catch (exception c.in-Catch.caught) (expanded (sym c.deref-in-Catch.ensures i)) (expanded (sym c.deref-in-Catch-2.ensures i))))
     c.requires c.exception_number-exception.ensures c.in_ok-otherwise-in-Catch.ensures.grown.keeps c.in_ok-body-in-Catch.ensures.term c.in_ok-otherwise-in-Catch.ensures.term
 
 pub put_term-returns-in_ok-otherwise-in-Try-clause-term : goal.put_term-returns-in_ok-otherwise-in-Try-clause-term
 put_term-returns-in_ok-otherwise-in-Try-clause-term t c =
-    try_put (table_expressions c.put_box-in-Try.new.table) (table_expressions c.put_box-in-Try-2.new.table) (exceptions c.args.known.now) (expanded c.args.trace.now)
+    try_put (table_expressions c.put_part-in-Try.new.table) (table_expressions c.put_part-in-Try-2.new.table) (exceptions c.args.known.now) (expanded c.args.trace.now)
     (expanded c.deref-in-Try.result.now) (expanded c.deref-in-Try-2.result.now) _ _
     (ap expanded c.in-Try.is ∙ (λ i. x.try (expanded (sym c.deref-in-Try.ensures i)) (expanded (sym c.deref-in-Try-2.ensures i))))
     c.in_ok-otherwise-in-Try.ensures.grown.keeps c.in_ok-body-in-Try.ensures.term c.in_ok-otherwise-in-Try.ensures.term

@@ -18,4 +18,4 @@ returns-in-Fault c = fault_at c.args.moment.now c.args.raws.now c.args.nodes.ite
 
 pub returns-in-Go : goal.returns-in-Go
 returns-in-Go c =
-    go_at c.args.moment.now c.args.raws.now c.args.nodes.items c.args.drawn c.going.result c.swap_remove.result _ c.in-Go.lasts c.in-Go.next c.deref.result.now c.requires c.swap_remove.ensures.value c.in-Go.is c.deref.ensures.value c.in-Solved.is c.going.ensures
+    go_at c.args.moment.now c.args.raws.now c.args.nodes.items c.args.drawn c.going.result c.swap_remove.result _ c.in-Go.lasts c.in-Go.next c.deref-in-Go.result.now c.deref.result.now c.requires c.swap_remove.ensures.value c.in-Go.is c.deref.ensures.value c.deref-in-Go.ensures c.in-Solved.is c.going.ensures

@@ -14,23 +14,23 @@ emit-emit_parts-requires t c =
 
 pub emit-returns-in_ok-put_turn-in-Loop : goal.emit-returns-in_ok-put_turn-in-Loop
 emit-returns-in_ok-put_turn-in-Loop t c =
-    loop_put _ _ _ _ _ _ _ _ _ (ap process c.in-Loop.is ∙ ap (λ u. loop (process u)) (sym c.deref-in-Loop.ensures))
+    let body = ap (λ u. loop (process u)) (sym c.deref-in-Loop.ensures) in
+    loop_put _ _ _ _ _ _ _ _ _ _ (ap process c.in-Loop.is ∙ body) (c.in_ok-again-in-Loop.ensures ∙ body)
     c.in_ok-nodes-in-Loop.ensures c.in_ok-put-in-Loop.ensures c.in_ok-put_turn-in-Loop.ensures c.put-in-Loop-2.ensures
 
 pub emit-returns-in_ok-put_turn-in-Count : goal.emit-returns-in_ok-put_turn-in-Count
 emit-returns-in_ok-put_turn-in-Count t c =
     count_put _ _ _ _ _ _ _ _ _ _ _ _ (ap process c.in-Count.is ∙ ap (λ u. count c.in-Count.counter c.in-Count.done (process u)) (sym c.deref-in-Count.ensures))
-    (c.in_ok-again-in-Count.ensures ∙ ap (λ u. count c.in-Count.counter (suc c.in-Count.done) (process u)) (c.deref-in-Count-2.ensures ∙ sym c.deref-in-Count.ensures))
+    (c.in_ok-again-in-Count.ensures ∙ ap (λ u. count c.in-Count.counter (suc c.in-Count.done) (process u)) (sym c.deref-in-Count.ensures))
     c.in_ok-nodes-in-Count.ensures c.in_ok-put_count-in-Count.ensures c.in_ok-put_turn-in-Count.ensures c.put-in-Count.ensures
 
 pub emit-returns-in_ok-put_try-in-Try : goal.emit-returns-in_ok-put_try-in-Try
 emit-returns-in_ok-put_try-in-Try t c =
-    try_put _ _ _ _ _ _ _ _ _ _ _ (ap process c.in-Try.is ∙ (λ i. try (process (sym c.deref-in-Try.ensures i)) (process (sym c.deref-in-Try-2.ensures i))))
-    c.in_ok-nodes-in-Try.ensures c.in_ok-put-in-Try.ensures c.in_ok-put_try-in-Try.ensures
-    (ap process (c.deref-in-Try-3.ensures ∙ sym c.deref-in-Try-2.ensures)) c.emit-in-Try.ensures
+    try_put _ _ _ _ _ _ _ _ _ _ _ (ap process c.in-Try.is ∙ ap (λ u. try (process u) (process c.in-Try.otherwise.value)) (sym c.deref-in-Try.ensures))
+    c.in_ok-nodes-in-Try.ensures c.in_ok-put-in-Try.ensures c.in_ok-put_try-in-Try.ensures (ap process c.deref-in-Try-2.ensures) c.emit-in-Try.ensures
 
 pub put_par-loop-node-preserved-in-Go : goal.put_par-loop-node-preserved-in-Go
 put_par-loop-node-preserved-in-Go t c =
-    par_go (kinds_of c.args.locals.now) (process c.args.second.now) (process c.in-Go.next) c.in-Go.constraints.items c.in-Go.lasts.items c.in-Some.node c.loop-node.yielded
+    par_go (kinds_of c.args.locals.now) (process c.args.second.now) (process c.in-Go.next.value) c.in-Go.constraints.items c.in-Go.lasts.items c.in-Some.node c.loop-node.yielded
     (tree_nodes c.args.out.now.items) (tree_nodes c.loop-node.out.items) _ (tree_nodes c.in_ok-others-in-Go.others.items)
     (ap tree_node c.in-Go.is) c.in_ok-others-in-Go.ensures c.loop-node.invariant c.in_ok-put_joined-in-Go.ensures

@@ -14,10 +14,10 @@ invariant-emit_parts-loop-part l =
 
 -- what was put out so far is what the nodes so far become
 abbrev pub invariant-put_seq-loop-node : goal.invariant-put_seq-loop-node
-invariant-put_seq-loop-node l = tree_nodes l.out.items ≡ tree_nodes l.fn.out.items ++ flat_map (replaced (in_seq (process l.second) (offers_of (kinds_of l.locals) (process l.second)))) (tree_nodes l.yielded)
+invariant-put_seq-loop-node l = tree_nodes l.out.items ≡ tree_nodes l.fn.out.items ++ flat_map (replaced (in_seq (process l.second.value) (offers_of (kinds_of l.locals) (process l.second.value)))) (tree_nodes l.yielded)
 
 abbrev pub invariant-put_par-loop-node : goal.invariant-put_par-loop-node
 invariant-put_par-loop-node l = tree_nodes l.out.items ≡ tree_nodes l.fn.out.items ++ flat_map (replaced (in_par (offers_of (kinds_of l.locals) (process l.second)))) (tree_nodes l.yielded)
 
 abbrev pub invariant-put_catch-loop-node : goal.invariant-put_catch-loop-node
-invariant-put_catch-loop-node l = tree_nodes l.out.items ≡ tree_nodes l.fn.out.items ++ flat_map (replaced (in_catch l.exception (process l.handler) (offers_of (kinds_of l.locals) (process l.handler)))) (tree_nodes l.yielded)
+invariant-put_catch-loop-node l = tree_nodes l.out.items ≡ tree_nodes l.fn.out.items ++ flat_map (replaced (in_catch l.exception (process l.handler.value) (offers_of (kinds_of l.locals) (process l.handler.value)))) (tree_nodes l.yielded)

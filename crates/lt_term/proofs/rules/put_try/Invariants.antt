@@ -8,4 +8,4 @@ use Rattle.lt_term.proofs.rules.put_try.Given as goal
 
 -- what was put out so far is what the nodes so far become
 abbrev pub invariant-loop-node : goal.invariant-loop-node
-invariant-loop-node l = tree_nodes l.out.items ≡ tree_nodes l.fn.out.items ++ flat_map (replaced (in_try (process l.otherwise))) (tree_nodes l.yielded)
+invariant-loop-node l = tree_nodes l.out.items ≡ tree_nodes l.fn.out.items ++ flat_map (replaced (in_try (process l.otherwise.value))) (tree_nodes l.yielded)

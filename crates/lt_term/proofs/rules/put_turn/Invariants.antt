@@ -8,4 +8,4 @@ use Rattle.lt_term.proofs.rules.put_turn.Given as goal
 
 -- what was put out so far is what the nodes so far become
 abbrev pub invariant-loop-node : goal.invariant-loop-node
-invariant-loop-node l = tree_nodes l.out.items ≡ tree_nodes l.fn.out.items ++ flat_map (replaced (in_turn (process l.again))) (tree_nodes l.yielded)
+invariant-loop-node l = tree_nodes l.out.items ≡ tree_nodes l.fn.out.items ++ flat_map (replaced (in_turn (process l.again.value))) (tree_nodes l.yielded)

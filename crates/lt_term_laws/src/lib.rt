@@ -1,0 +1,7 @@
+//! What follows from the rules on terms, in the words of the language. The functions do nothing: their contracts say
+//! it.
+#![tactic(auto)]
+
+mod laws;
+
+pub use laws::{counted_loops_keep_their_bounds, scopes_begin_anew, siblings_are_judged_together};
