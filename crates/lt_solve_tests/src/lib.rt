@@ -1,4 +1,4 @@
-//! Tests of what an instant solves: linear forms, formulas, loaded constraints, tightened ranges, and first solutions.
+//! Tests of what an instant solves: linear forms, formulas, loaded constraints and their parts, tightened ranges, and first solutions.
 //!
 //! They stand in a crate of their own, so that the crates below are proved without them. What a test expects follows
 //! from the rules of `docs/LANGUAGE.md`, or is found by a plain enumeration of all points.
@@ -10,6 +10,8 @@ mod form_texts;
 mod forms;
 #[cfg(test)]
 mod formulas;
+#[cfg(test)]
+mod parts;
 #[cfg(test)]
 mod problems;
 #[cfg(test)]

@@ -9,3 +9,4 @@ pub mod FormSteps
 pub mod Visitings
 pub mod GateDues
 pub mod Loadings
+mod Notings

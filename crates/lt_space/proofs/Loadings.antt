@@ -14,7 +14,7 @@ use Rattle.lt_space.specs.Circuit.{formula_at}
 use Rattle.lt_space.specs.CircuitView.{circuit_formulas, circuit_len, circuit_room}
 use Rattle.lt_space.specs.Formula.{Formula, conjunction, truth}
 use Rattle.lt_space.specs.Meaning.{FormulaAnswer, after, formula_of_all, formulas_of, joined}
-use Rattle.lt_space.specs.inner.Kept.{Stands, unkept}
+use Rattle.lt_space.specs.inner.Kept.{Grows, Stands, unkept}
 use Rattle.lt_space.specs.inner.Measures.{AreForms, form_due, measured, numbers_in}
 use Rattle.lt_space.specs.inner.Place.{form_at, no_form}
 use Rattle.lt_space.specs.inner.Pushed.{IsPushed, no_formula}
@@ -24,7 +24,7 @@ use Rattle.lt_space.specs.declared.measures.Measures.{Measures}
 use Rattle.lt_space.specs.declared.work.Work.{Work}
 use Rattle.lt_space.proofs.Circuits.{left_of, right_of}
 use Rattle.lt_space.proofs.Measurings.{large_same}
-use Rattle.lt_space.proofs.Memos.{free_unkept, kept_none, kept_on}
+use Rattle.lt_space.proofs.Memos.{free_unkept, kept_none, kept_on, stands_on}
 use Rattle.lt_space.proofs.Visitings.{wide_twice}
 
 -- Room.
@@ -90,6 +90,18 @@ cleared_room most old new room h =
     let r = room_stays most old new h.wide room in
     omega (arith, h.len, free_unkept (gates_in new) h.gates, r.gates)
 
+-- what is kept is right where a gate was put
+pub pushed_ready : (v : Valuation) (t : Table) (w : Work) (c : Circuit) (n : ℕ) (formula : Formula) → IsReady v t w → IsPushed 1 0 w.circuit c n formula → circuit_len w.circuit + unkept (gates_in w) * 2 + 1 ≤ circuit_room w.circuit → IsReady v t (record w { circuit = c })
+pushed_ready v t w c n formula ready p room =
+    record {
+      right = record {
+        len = ready.right.len;
+        kept = kept_on Formula no_formula (formulas_in w) (circuit_formulas c) (gates_in w) (formula_due v t) p.grows ready.right.kept;
+        measured = ready.right.measured;
+      };
+      room = record { gates = omega (arith, room, p.len, p.room); terms = omega (arith, ready.room.terms, p.terms, p.terms_room) };
+    }
+
 -- What is told of a list.
 
 -- a gate that was put is what is due
@@ -101,6 +113,10 @@ pushed_loads old c n g k formula due p told =
 pub loads_after : (d due : FormulaAnswer) (answer : Result ℕ Arith) (a b c : Work) → StayWide a b → LoadTells d answer b c → d ≡ due → LoadTells due answer a c
 loads_after d due (Ok n) a b c wide h e = (subst (Stands Formula no_formula (formulas_in c) n) e h.0, wide_twice a b c wide h.1)
 loads_after d due (Err fault) a b c wide h e = record { is = h.is ∙ e; wide = wide_twice a b c wide h.wide }
+
+-- what is told after gates that were put behind the others
+pub loads_noted : (due : FormulaAnswer) (root : ℕ) (a b c : Work) → LoadTells due (Ok root) a b → Grows Formula no_formula (formulas_in b) (formulas_in c) → StayWide b c → LoadTells due (Ok root) a c
+loads_noted due root a b c h grows wide = (stands_on Formula no_formula (formulas_in b) (formulas_in c) root due grows h.0, wide_twice a b c h.1 wide)
 
 -- an answer that is a fault
 pub fault_loads : (due : FormulaAnswer) (answer : Result ℕ Arith) (fault : Arith) (a b : Work) → answer ≡ Err fault → IsFailed due fault a b → LoadTells due answer a b

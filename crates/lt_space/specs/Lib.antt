@@ -16,5 +16,11 @@ pub mod Circuit
 pub mod CircuitView
 -- What spaces stand for.
 pub mod SpaceView
+-- Which Booleans a load evaluates.
+pub mod Evaluated
+-- What is said of atoms.
+pub mod LoadedView
+-- Formulas in which truths are absorbed, and their conjuncts.
+pub mod Absorbed
 -- Words of private contracts and of what private types keep.
 pub mod inner

@@ -7,3 +7,4 @@ pub mod Forms
 pub mod Measures
 pub mod Pushed
 pub mod Work
+pub mod Noted

@@ -172,9 +172,13 @@ pub(crate) fn settled_truth(
     Ok(settled(operator, known_value(table, left, known)?))
 }
 
-// What an operator gives on two formulas.
+/// What an operator on Booleans gives on two formulas.
+///
+/// # Errors
+///
+/// [`FormulaRefusal::Memory`].
 #[tactic(auto, using(crate::proofs::Tellings::tellings))]
-fn connected(
+pub fn connected(
     alloc: Global,
     operator: BinaryOperator,
     left: Box<Formula>,

@@ -11,10 +11,14 @@ ghost use Rattle.lt_space.specs.CircuitView.{circuit_formulas, circuit_len};
 ghost use Rattle.lt_space.specs.Formula.{truth};
 ghost use Rattle.lt_space.specs.Meaning.{formula_of_all};
 ghost use Rattle.lt_space.specs.Need.{need};
-ghost use Rattle.lt_space.specs.inner.Work.{HasWorkRoom, formulas_in};
+ghost use Rattle.lt_space.specs.inner.Memo.{memo_numbers};
+ghost use Rattle.lt_space.specs.inner.Noted.{are_below};
+ghost use Rattle.lt_space.specs.inner.Work.{HasWorkRoom, formulas_in, gates_in};
 
 use crate::circuit::Circuit;
-use crate::loading::load_into;
+use crate::loaded::{Loaded, atom_at};
+use crate::loading::load_and_note;
+use crate::memo::Memo;
 use crate::needed::need;
 use crate::work::Work;
 use lt_formula::{Known, Memory, Table};
@@ -33,6 +37,7 @@ const MOST_WANTED: usize = 1 << 31;
 pub struct Space {
     work: Work,
     wanted: Vec<u32>,
+    noted: Memo,
     root: u32,
     decimals: u32,
     most: usize,
@@ -40,10 +45,13 @@ pub struct Space {
     ghost few: { decimals ≤ most_decimals },
     ghost kept: { most ≤ vec_capacity wanted },
     ghost room: { HasWorkRoom most work },
+    ghost as_many: { length (memo_numbers noted) ≡ length (gates_in work) },
+    ghost below: { IsTrue (are_below (length (formulas_in work)) (memo_numbers noted)) },
 }
 
 impl Space {
-    ghost use Rattle.lt_space.specs.SpaceView.{IsOver, loaded, space_circuit, space_decimals, space_formula, space_gates, space_most, space_root, space_wanted};
+    ghost use Rattle.lt_space.specs.LoadedView.{loaded_formula, told_atom};
+    ghost use Rattle.lt_space.specs.SpaceView.{IsOver, TellsEvaluated, loaded, space_circuit, space_decimals, space_formula, space_gates, space_len, space_most, space_root, space_told, space_wanted};
 
     /// A space for the expressions of a table that has at most 128 outputs and locals together, with room for at most
     /// so many constraints. It has none: its formula is the truth true.
@@ -65,9 +73,11 @@ impl Space {
         }
         let mut work = Work::make(alloc, expressions, table.variables(), most)?;
         let root = work.empty();
+        let noted = Memo::make(alloc, expressions)?;
         Ok(Space {
             work,
             wanted: Vec::with_capacity(alloc, most)?,
+            noted,
             root,
             decimals: 0,
             most,
@@ -99,10 +109,11 @@ impl Space {
         ensures table_stays { IsOver table.now self.new }
         ensures most_stays { space_most self.new ≡ space_most self.old }
         ensures gates { space_gates self.new ≡ space_gates self.old }
+        ensures tells { TellsEvaluated (valuation_of_known known.now) table.now self.new }
     {
         self.wanted.clear();
         self.decimals = known.decimals;
-        match load_into(table, wanted, known, &mut self.work) {
+        match load_and_note(table, wanted, known, &mut self.work, &mut self.noted) {
             Ok(root) => {
                 self.root = root;
                 self.wanted.extend_from_slice(wanted).unwrap();
@@ -135,6 +146,19 @@ impl Space {
         ensures within { result < circuit_len (space_circuit self.now) }
     {
         self.root
+    }
+
+    /// What the last load says of an atom of a constraint that it loaded: a known Boolean, a Boolean variable or a
+    /// comparison of numbers, by its number in the table. It is skipped exactly where it wasn't evaluated. Of an
+    /// expression that isn't such an atom nothing is promised.
+    pub fn atom(&self, exp: u32) -> Loaded<'_>
+        requires { exp < space_len self.now }
+        ensures { loaded_formula result ≡ told_atom (space_told self.now exp) }
+    {
+        match self.noted.find(exp) {
+            Some(gate) => atom_at(&self.work.circuit, gate),
+            None => Loaded::Skipped,
+        }
     }
 
     /// How many decimals a real had in the last load.

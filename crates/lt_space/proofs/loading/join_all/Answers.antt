@@ -16,8 +16,8 @@ visit-requires-clause-within c = list_first (table_len c.args.table.now) c.loop-
 pub visit-requires-clause-ready : goal.visit-requires-clause-ready
 visit-requires-clause-ready c = c.loop-exp.invariant.ready
 
-pub returns-in_err-gate : goal.returns-in_err-gate
-returns-in_err-gate c =
+pub returns-in_err-gate-clause-loads : goal.returns-in_err-gate-clause-loads
+returns-in_err-gate-clause-loads c =
     let is : c.from_residual.result ≡ Err c.in_err-gate.field-0.0 = search rules in
     fault_loads _ _ _ _ _ is
     (next_failed (valuation_of_known c.args.known.now) c.args.table.now _ c.args.work.now c.loop-exp.root c.in-Some.exp.now _ c.loop-exp.rest.now c.in-Some.more.now c.loop-exp.work c.visit.new.work c.in-Some.ensures.cases.0 c.loop-exp.invariant c.in_err-gate.ensures)
@@ -42,5 +42,8 @@ loop-exp-preserved c =
     next_joined (valuation_of_known c.args.known.now) c.args.table.now _ c.args.work.now c.loop-exp.root c.in-Some.exp.now c.in_ok-gate.gate c.push-root.result c.loop-exp.rest.now c.in-Some.more.now c.loop-exp.work mid c.push-root.new.self
     c.in-Some.ensures.cases.0 c.loop-exp.invariant c.in_ok-gate.ensures p
 
-pub returns : goal.returns
-returns c = all_joined (valuation_of_known c.args.known.now) c.args.table.now _ c.args.work.now c.loop-exp.root c.loop-exp.rest.now c.loop-exp.work c.in_default.ensures.cases c.loop-exp.invariant
+pub returns-clause-ready : goal.returns-clause-ready
+returns-clause-ready c = c.loop-exp.invariant.ready
+
+pub returns-clause-loads : goal.returns-clause-loads
+returns-clause-loads c = all_joined (valuation_of_known c.args.known.now) c.args.table.now _ c.args.work.now c.loop-exp.root c.loop-exp.rest.now c.loop-exp.work c.in_default.ensures.cases c.loop-exp.invariant

@@ -10,5 +10,5 @@ visit_all-requires-clause-ready c =
 pub visit_all-requires-clause-room : goal.visit_all-requires-clause-room
 visit_all-requires-clause-room c = cleared_room (length c.args.wanted.now) c.args.work.now c.clear.new.self c.requires.room c.clear.ensures
 
-pub returns : goal.returns
-returns c = loads_after _ _ c.visit_all.result c.args.work.now c.clear.new.self c.visit_all.new.work c.clear.ensures.wide c.visit_all.ensures refl
+pub returns-clause-loads : goal.returns-clause-loads
+returns-clause-loads c = loads_after _ _ c.visit_all.result c.args.work.now c.clear.new.self c.visit_all.new.work c.clear.ensures.wide c.visit_all.ensures.loads refl

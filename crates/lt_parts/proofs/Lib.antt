@@ -1,0 +1,5 @@
+mod Conjoined
+mod Agreements
+mod Holdings
+mod Numbers
+mod Outlinings
