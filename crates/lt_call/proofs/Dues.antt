@@ -1,18 +1,19 @@
 -- One answer is due to a request and the contents of its files.
-use Rattle.std.proofs.Common.{◌≡◌, ◌≢◌, ℕ, ◌<◌, ◌≤◌, Bool, true, false, nat_le, List, [], ◌∷◌, Option, None, Some, Result, Ok, Err, length, refl, ap, sym, ◌∙◌, arith, leb-true, le-leb}
+use Rattle.std.proofs.Common.{◌≡◌, ℕ, ◌<◌, Bool, true, false, nat_le, List, ◌∷◌, None, Result, Ok, Err, length, refl, ap, sym, subst, ◌∙◌, arith, leb-true, le-leb}
 use Rattle.std.proofs.lemmas.Bool.{leb-false, lt-leb}
 use Rattle.lt_loop.specs.Stands.{is_served}
 use Rattle.lt_play.specs.Rules.{known_scene}
 use Rattle.lt_prepare.specs.Laws.{TextsHaveOnePrintedAnswer, TextsHaveOneScenarioAnswer}
 use Rattle.lt_prepare.specs.Prepared.{IsPrintedAnswer, IsScenarioAnswer}
 use Rattle.lt_prepare.specs.declared.refusal.Refusal.{Refusal as Reason}
+use Rattle.lt_stress.specs.Scenario.{scenario_text, variables_of}
 use Rattle.lt_term.specs.Scene.{Scene}
-use Rattle.lt_words.specs.Settings.{longest_text, longest_replay}
+use Rattle.lt_words.specs.Settings.{default_decimals, longest_text, longest_replay}
 use Rattle.lt_words.specs.Words.{Request}
 use Rattle.lt_words.specs.declared.words.Mode.{Mode}
 use Rattle.lt_words.specs.declared.words.Mode.TheVariants as mode
 use Rattle.lt_call.specs.Course.{Giver, by_file, by_nobody, by_program, files_of, giver_of, talk_to}
-use Rattle.lt_call.specs.Due.{Answer, Contents, HasScene, HasShortTrace, IsDue, IsServed, IsShort, by_all, by_scenario, refuses, writes, plays, too_long, no_scenario, unserved, long_trace, runs, unprinted, prints}
+use Rattle.lt_call.specs.Due.{Answer, Contents, HasScene, HasShortTrace, IsDue, IsServed, IsShort, by_all, by_number, by_scenario, has_file, refuses, writes, plays, stresses, stressed, unstressed, too_long, no_scenario, unserved, long_trace, runs, unprinted, prints}
 use Rattle.lt_call.specs.Laws.{ContentsHaveOneDueAnswer}
 use Rattle.lt_call.specs.declared.status.Refusal.TheVariants as refusal
 
@@ -53,6 +54,15 @@ abbrev of_print : Request → Result (List ℕ) Reason → Answer
 of_print r (Ok text) = by_scenario r (writes text)
 of_print r (Err reason) = by_scenario r (refuses (refusal.Scenario reason))
 
+-- what the text of a number has as a scenario
+abbrev IsAnswerOf : ℕ → Result Scene Reason → Type 0
+IsAnswerOf n x = IsScenarioAnswer default_decimals None (scenario_text (variables_of n)) x
+
+-- of that
+abbrev of_number : ℕ → Result Scene Reason → Answer
+of_number n (Ok s) = by_number (stresses n s)
+of_number n (Err reason) = by_number (refuses (refusal.Scenario reason))
+
 -- There is one.
 
 -- some answer is due
@@ -86,21 +96,28 @@ print_due : (r : Request) (c : Contents) (x : Result (List ℕ) Reason) → r.mo
 print_due r c (Ok text) print fits is = prints text print fits is
 print_due r c (Err reason) print fits is = unprinted reason print fits is
 
-mode_due : TextsHaveOneScenarioAnswer → TextsHaveOnePrintedAnswer → (r : Request) (c : Contents) (m : Mode) → r.mode ≡ m → IsShort c → HasDue r c
-mode_due scenes texts r c mode.Run e fits = let x = (scenes r.decimals r.node c.scenario).0 in (of_scene r c x.0, scene_due r c x.0 e fits x.1)
-mode_due scenes texts r c mode.Print e fits = let x = (texts c.scenario).0 in (of_print r x.0, print_due r c x.0 e fits x.1)
+number_due : (r : Request) (c : Contents) (n : ℕ) (x : Result Scene Reason) → r.mode ≡ mode.Stress n → IsAnswerOf n x → IsDue r c (of_number n x)
+number_due r c n (Ok s) m is = stressed n s m is
+number_due r c n (Err reason) m is = unstressed n reason m is
 
-file_due : TextsHaveOneScenarioAnswer → TextsHaveOnePrintedAnswer → (r : Request) (c : Contents) (is : Bool) → nat_le (length c.scenario) longest_text ≡ is → HasDue r c
-file_due scenes texts r c true e = mode_due scenes texts r c r.mode refl (leb-true (length c.scenario) longest_text e)
-file_due scenes texts r c false e = (by_scenario r (refuses refusal.TooLong), too_long (leb-false (length c.scenario) longest_text e))
+long_due : (r : Request) (c : Contents) → has_file r.mode ≡ true → nat_le (length c.scenario) longest_text ≡ false → HasDue r c
+long_due r c has f = (by_scenario r (refuses refusal.TooLong), too_long has (leb-false (length c.scenario) longest_text f))
+
+mode_due : TextsHaveOneScenarioAnswer → TextsHaveOnePrintedAnswer → (r : Request) (c : Contents) (m : Mode) (short : Bool) → r.mode ≡ m → nat_le (length c.scenario) longest_text ≡ short → HasDue r c
+mode_due scenes texts r c mode.Run true e f = let x = (scenes r.decimals r.node c.scenario).0 in (of_scene r c x.0, scene_due r c x.0 e (leb-true (length c.scenario) longest_text f) x.1)
+mode_due scenes texts r c mode.Run false e f = long_due r c (ap has_file e) f
+mode_due scenes texts r c mode.Print true e f = let x = (texts c.scenario).0 in (of_print r x.0, print_due r c x.0 e (leb-true (length c.scenario) longest_text f) x.1)
+mode_due scenes texts r c mode.Print false e f = long_due r c (ap has_file e) f
+mode_due scenes texts r c (mode.Stress n) short e f = let x = (scenes default_decimals None (scenario_text (variables_of n))).0 in (of_number n x.0, number_due r c n x.0 e x.1)
 
 -- There is no other one.
 
 -- what a row tells of its answer
 data Row (r : Request) (c : Contents) (answer : Answer) : Type 0 where
-  long : longest_text < length c.scenario → answer ≡ by_scenario r (refuses refusal.TooLong) → Row r c answer
+  long : has_file r.mode ≡ true → longest_text < length c.scenario → answer ≡ by_scenario r (refuses refusal.TooLong) → Row r c answer
   run : (x : Result Scene Reason) → r.mode ≡ mode.Run → IsShort c → IsScenarioAnswer r.decimals r.node c.scenario x → answer ≡ of_scene r c x → Row r c answer
   print : (x : Result (List ℕ) Reason) → r.mode ≡ mode.Print → IsShort c → IsPrintedAnswer c.scenario x → answer ≡ of_print r x → Row r c answer
+  number : (n : ℕ) (x : Result Scene Reason) → r.mode ≡ mode.Stress n → IsAnswerOf n x → answer ≡ of_number n x → Row r c answer
 
 trace_short : (g : Giver) (c : Contents) → HasShortTrace g c → is_short g c ≡ true
 trace_short by_nobody c h = refl
@@ -116,29 +133,53 @@ served_as : (r : Request) (c : Contents) (s : Scene) (short : Bool) → IsServed
 served_as r c s short given e = sym (ap (λ b. served r c b s) given ∙ ap (λ b. traced r b s) e)
 
 row : (r : Request) (c : Contents) (answer : Answer) → IsDue r c answer → Row r c answer
-row r c answer (too_long l) = long l refl
+row r c answer (too_long has l) = long has l refl
 row r c answer (no_scenario reason m fits is) = run (Err reason) m fits is refl
 row r c answer (unserved s m fits has e) = run (Ok s) m fits has (sym (ap (λ b. served r c b s) e))
 row r c answer (long_trace s name m fits has given e l) = run (Ok s) m fits has (served_as r c s false given (trace_long (giver_of r) c name e l))
 row r c answer (runs s m fits has given short) = run (Ok s) m fits has (served_as r c s true given (trace_short (giver_of r) c short))
 row r c answer (unprinted reason m fits is) = print (Err reason) m fits is refl
 row r c answer (prints text m fits is) = print (Ok text) m fits is refl
+row r c answer (unstressed n reason m is) = number n (Err reason) m is refl
+row r c answer (stressed n s m is) = number n (Ok s) m is refl
 
 -- no mode is both
 modes : (m : Mode) → m ≡ mode.Run → m ≡ mode.Print → ⊥
 modes m e f = let both : mode.Run ≡ mode.Print = sym e ∙ f in cc both
 
+no_run : (m : Mode) (n : ℕ) → m ≡ mode.Run → m ≡ mode.Stress n → ⊥
+no_run m n e f = let both : mode.Run ≡ mode.Stress n = sym e ∙ f in cc both
+
+no_print : (m : Mode) (n : ℕ) → m ≡ mode.Print → m ≡ mode.Stress n → ⊥
+no_print m n e f = let both : mode.Print ≡ mode.Stress n = sym e ∙ f in cc both
+
+no_file : (m : Mode) (n : ℕ) → has_file m ≡ true → m ≡ mode.Stress n → ⊥
+no_file m n has e = let both : false ≡ true = sym (ap has_file e) ∙ has in cc both
+
+-- a mode is of one number
+one_number : (m : Mode) (n k : ℕ) → m ≡ mode.Stress n → m ≡ mode.Stress k → n ≡ k
+one_number m n k e f = let both : mode.Stress n ≡ mode.Stress k = sym e ∙ f in cc
+
 rows_agree : TextsHaveOneScenarioAnswer → TextsHaveOnePrintedAnswer → (r : Request) (c : Contents) (answer other : Answer) → Row r c answer → Row r c other → answer ≡ other
-rows_agree scenes texts r c answer other (long l e) (long k f) = e ∙ sym f
-rows_agree scenes texts r c answer other (long l e) (run x m fits is f) = absurd (omega arith)
-rows_agree scenes texts r c answer other (long l e) (print x m fits is f) = absurd (omega arith)
-rows_agree scenes texts r c answer other (run x m fits is e) (long k f) = absurd (omega arith)
+rows_agree scenes texts r c answer other (long has l e) (long also k f) = e ∙ sym f
+rows_agree scenes texts r c answer other (long has l e) (run x m fits is f) = absurd (omega arith)
+rows_agree scenes texts r c answer other (long has l e) (print x m fits is f) = absurd (omega arith)
+rows_agree scenes texts r c answer other (run x m fits is e) (long also k f) = absurd (omega arith)
 rows_agree scenes texts r c answer other (run x m fits is e) (run y n k has f) = e ∙ ap (of_scene r c) ((scenes r.decimals r.node c.scenario).1 x y is has) ∙ sym f
 rows_agree scenes texts r c answer other (run x m fits is e) (print y n k has f) = absurd (modes r.mode m n)
-rows_agree scenes texts r c answer other (print x m fits is e) (long k f) = absurd (omega arith)
+rows_agree scenes texts r c answer other (print x m fits is e) (long also k f) = absurd (omega arith)
 rows_agree scenes texts r c answer other (print x m fits is e) (run y n k has f) = absurd (modes r.mode n m)
 rows_agree scenes texts r c answer other (print x m fits is e) (print y n k has f) = e ∙ ap (of_print r) ((texts c.scenario).1 x y is has) ∙ sym f
+rows_agree scenes texts r c answer other (long has l e) (number n y k is f) = absurd (no_file r.mode n has k)
+rows_agree scenes texts r c answer other (run x m fits is e) (number n y k has f) = absurd (no_run r.mode n m k)
+rows_agree scenes texts r c answer other (print x m fits is e) (number n y k has f) = absurd (no_print r.mode n m k)
+rows_agree scenes texts r c answer other (number n x m is e) (long has l f) = absurd (no_file r.mode n has m)
+rows_agree scenes texts r c answer other (number n x m is e) (run y k fits has f) = absurd (no_run r.mode n k m)
+rows_agree scenes texts r c answer other (number n x m is e) (print y k fits has f) = absurd (no_print r.mode n k m)
+rows_agree scenes texts r c answer other (number n x m is e) (number j y k has f) =
+    let same : n ≡ j = one_number r.mode n j m k in
+    e ∙ ap (λ i. of_number i x) same ∙ ap (of_number j) ((scenes default_decimals None (scenario_text (variables_of j))).1 x y (subst (λ i. IsAnswerOf i x) same is) has) ∙ sym f
 
 pub contents_have_one_due_answer : TextsHaveOneScenarioAnswer → TextsHaveOnePrintedAnswer → ContentsHaveOneDueAnswer
 contents_have_one_due_answer scenes texts r c =
-    (file_due scenes texts r c (nat_le (length c.scenario) longest_text) refl, λ answer other h k. rows_agree scenes texts r c answer other (row r c answer h) (row r c other k))
+    (mode_due scenes texts r c r.mode (nat_le (length c.scenario) longest_text) refl refl, λ answer other h k. rows_agree scenes texts r c answer other (row r c answer h) (row r c other k))

@@ -1,5 +1,5 @@
 -- What a call gives: for a scenario, for a text, and for a file.
-use Rattle.std.proofs.Common.{◌≡◌, ◌≢◌, ℕ, ◌<◌, ◌≤◌, ◌⊎◌, inl, inr, Bool, true, false, List, [], ◌∷◌, ◌++◌, length, take, None, Some, refl, ap, sym, ◌∙◌, subst, arith, le-leb, append-nil, append_assoc, ◌+◌, OnErr, OnOk, Ok, Err}
+use Rattle.std.proofs.Common.{◌≡◌, ℕ, ◌<◌, ◌≤◌, inl, inr, Bool, true, false, List, [], ◌∷◌, ◌++◌, length, take, None, Some, refl, ap, sym, ◌∙◌, subst, arith, le-leb, append-nil, append_assoc, ◌+◌, OnErr, OnOk, Ok, Err}
 use Rattle.std.proofs.Math.ListN.{replicate}
 use Rattle.std.proofs.lemmas.List.{length-replicate}
 use Rattle.std.specs.Io.KnownBytes.{Appends, Keeps}
@@ -23,9 +23,9 @@ use Rattle.lt_words.specs.Settings.{longest_text, longest_replay}
 use Rattle.lt_words.specs.Words.{Request}
 use Rattle.lt_words.specs.declared.words.Mode.TheVariants as mode
 use Rattle.lt_call.proofs.Dues.{is_short, traced, traced_due, traced_files}
-use Rattle.lt_call.specs.Call.{GivesDue, IsCounted, IsTrace, Says, blames}
+use Rattle.lt_call.specs.Call.{GivesDue, IsCounted, IsText, IsTrace, Says, blames}
 use Rattle.lt_call.specs.Course.{Giver, by_file, by_nobody, by_program, files_of, giver_of, trace_by}
-use Rattle.lt_call.specs.Due.{Answer, Contents, HasScene, IsDue, IsServed, refuses, writes, plays, too_long, no_scenario, unserved, long_trace, runs, unprinted, prints}
+use Rattle.lt_call.specs.Due.{Answer, Contents, HasScene, IsDue, IsServed, has_file, refuses, writes, too_long, no_scenario, unserved, long_trace, runs, unprinted, prints, stressed, unstressed}
 use Rattle.lt_call.specs.Given.{Gives, IsDone, PutsNothing, refused, written, cut, done, by_file as file_cut, by_memory}
 use Rattle.lt_call.specs.Laws.{ContentsHaveOneDueAnswer}
 use Rattle.lt_call.specs.Outside.{Outside, beside, faults_of}
@@ -33,14 +33,13 @@ use Rattle.lt_call.specs.inner.Parts as parts
 use Rattle.lt_call.specs.inner.Parts.{GivesForText, GivesRun, Prints, status_why}
 use Rattle.lt_call.specs.declared.status.Status.{Status}
 use Rattle.lt_call.specs.declared.status.Status.TheVariants as status
-use Rattle.lt_call.specs.declared.status.Refusal.{Refusal}
 use Rattle.lt_call.specs.declared.status.Refusal.TheVariants as refusal
 use Rattle.lt_call.specs.declared.status.Device.{Device}
 use Rattle.lt_call.specs.declared.status.Device.TheVariants as device
 
 -- What doesn't change.
 
-kept_same : (o : Option (List ℕ)) → Keeps o o
+pub kept_same : (o : Option (List ℕ)) → Keeps o o
 kept_same None = tt
 kept_same (Some xs) = refl
 
@@ -116,15 +115,31 @@ untraced by_nobody told e = refl
 untraced (by_program command) told e = refl
 untraced (by_file name) told e = absurd (cc)
 
--- each answer takes the scenario's file first
-first_file : (r : Request) (c : Contents) (answer : Answer) → IsDue r c answer → take 1 answer.files ≡ r.file ∷ []
-first_file r c answer (too_long l) = refl
-first_file r c answer (no_scenario reason m fits is) = refl
-first_file r c answer (unserved s m fits has e) = refl
-first_file r c answer (long_trace s name m fits has given e l) = refl
-first_file r c answer (runs s m fits has given short) = refl
-first_file r c answer (unprinted reason m fits is) = refl
-first_file r c answer (prints text m fits is) = refl
+-- some text is the one of the scenario's file
+pub some_text : (has : Bool) (told : Option (List ℕ)) → (text : List ℕ) × IsText has told text
+some_text true told = told_bytes told
+some_text false told = ([], refl)
+
+-- it is that which the file tells, where there is such a file
+with_file : (has : Bool) (told : Option (List ℕ)) (text : List ℕ) → has ≡ true → WhereTold told (λ b. text ≡ b) → IsText has told text
+with_file true told text e h = h
+with_file false told text e h = absurd (cc)
+
+-- the mode of a large run has none
+no_file : (r : Request) (n : ℕ) → has_file r.mode ≡ true → r.mode ≡ mode.Stress n → ⊥
+no_file r n has e = let both : false ≡ true = sym (ap has_file e) ∙ has in cc both
+
+-- each answer takes the scenario's file first, where there is one
+first_file : (r : Request) (c : Contents) (answer : Answer) → has_file r.mode ≡ true → IsDue r c answer → take 1 answer.files ≡ r.file ∷ []
+first_file r c answer file (too_long also l) = refl
+first_file r c answer file (no_scenario reason m fits is) = refl
+first_file r c answer file (unserved s m fits has e) = refl
+first_file r c answer file (long_trace s name m fits has given e l) = refl
+first_file r c answer file (runs s m fits has given short) = refl
+first_file r c answer file (unprinted reason m fits is) = refl
+first_file r c answer file (prints text m fits is) = refl
+first_file r c answer file (unstressed n reason m is) = absurd (no_file r n file m)
+first_file r c answer file (stressed n s m is) = absurd (no_file r n file m)
 
 -- A text.
 
@@ -151,12 +166,12 @@ not_served r told text s old m fits has un =
     never false h = refl
 
 -- memory ran out
-pub out_of_memory : ContentsHaveOneDueAnswer → (r : Request) (told : List ℕ → Option (List ℕ)) (text : List ℕ) (old : Outside) → GivesForText r told text old old [] status.Memory
-out_of_memory law r told text old = λ asked e.
+pub out_of_memory : ContentsHaveOneDueAnswer → (r : Request) (told : List ℕ → Option (List ℕ)) (text : List ℕ) (old : Outside) → has_file r.mode ≡ true → GivesForText r told text old old [] status.Memory
+out_of_memory law r told text old file = λ asked e.
     let trace = some_trace (giver_of r) told in
     let c : Contents = record { scenario = text; replay = trace.0 } in
     let due = (law r c).0 in
-    (trace.0, trace.1, (due.0, due.1, by_memory 1 (e ∙ ap (λ f. asked ++ f) (sym (first_file r c due.0 due.1))) (nothing (beside old))))
+    (trace.0, trace.1, (due.0, due.1, by_memory 1 (e ∙ ap (λ f. asked ++ f) (sym (first_file r c due.0 file due.1))) (nothing (beside old))))
 
 -- what is given has these names and this status
 pub as_told : (r : Request) (told : List ℕ → Option (List ℕ)) (text : List ℕ) (old new : Outside) (names names' : List (List ℕ)) (s s' : Status) → names ≡ names' → s ≡ s' → GivesForText r told text old new names' s' → GivesForText r told text old new names s
@@ -178,7 +193,7 @@ for_node decimals o text x h = subst (λ n. IsScenarioAnswer decimals n text x) 
 pub unprepared_text : ContentsHaveOneDueAnswer → (r : Request) (told : List ℕ → Option (List ℕ)) (text : List ℕ) (why : Unprepared) (old : Outside) → r.mode ≡ mode.Run → length text ≤ longest_text →
     IfRefused why (λ reason. IsScenarioAnswer r.decimals r.node text (Err reason)) → GivesForText r told text old old [] (status_why why)
 unprepared_text law r told text (unprepared.Refused reason) old m fits is = no_scene r told text reason old m fits is
-unprepared_text law r told text unprepared.Memory old m fits is = out_of_memory law r told text old
+unprepared_text law r told text unprepared.Memory old m fits is = out_of_memory law r told text old (ap has_file m)
 
 pub why_for_node : (decimals : ℕ) (o : Option (Bor (List ℕ))) (text : List ℕ) (why : Unprepared) → IfRefused why (λ reason. IsScenarioAnswer decimals (asked_name o) text (Err reason)) → IfRefused why (λ reason. IsScenarioAnswer decimals (given_word o) text (Err reason))
 why_for_node decimals o text why h = subst (λ n. IfRefused why (λ reason. IsScenarioAnswer decimals n text (Err reason))) (asked_node o) h
@@ -296,14 +311,14 @@ printed r told text old new s law m fits f programs (parts.memory keeps) = λ as
     let trace = some_trace (giver_of r) told in
     let c : Contents = record { scenario = text; replay = trace.0 } in
     let due = (law r c).0 in
-    (trace.0, trace.1, (due.0, due.1, by_memory 1 (f ∙ e ∙ ap (λ x. asked ++ x) (sym (first_file r c due.0 due.1))) (record { programs = programs; trace = keeps })))
+    (trace.0, trace.1, (due.0, due.1, by_memory 1 (f ∙ e ∙ ap (λ x. asked ++ x) (sym (first_file r c due.0 (ap has_file m) due.1))) (record { programs = programs; trace = keeps })))
 
 -- A file.
 
 -- the scenario's file was cut: it couldn't be read, or memory ran out
-cut_early : ContentsHaveOneDueAnswer → (r : Request) (told : List ℕ → Option (List ℕ)) (asked : List (List ℕ)) (old new : Outside) (s : Status) → ((c : Contents) (answer : Answer) → IsDue r c answer → Gives r c answer asked old new [] s) → GivesDue r told asked old new [] s
+pub cut_early : ContentsHaveOneDueAnswer → (r : Request) (told : List ℕ → Option (List ℕ)) (asked : List (List ℕ)) (old new : Outside) (s : Status) → ((c : Contents) (answer : Answer) → IsDue r c answer → Gives r c answer asked old new [] s) → GivesDue r told asked old new [] s
 cut_early law r told asked old new s how =
-    let bytes = told_bytes (told r.file) in
+    let bytes = some_text (has_file r.mode) (told r.file) in
     let trace = some_trace (giver_of r) told in
     let c : Contents = record { scenario = bytes.0; replay = trace.0 } in
     let due = (law r c).0 in
@@ -312,14 +327,14 @@ cut_early law r told asked old new s how =
 pub file_unread : ContentsHaveOneDueAnswer → (r : Request) (told : List ℕ → Option (List ℕ)) (asked : List (List ℕ)) (old new : Outside) → new.files.asked ≡ asked → PutsNothing (beside old) (beside new) → GivesDue r told asked old new [] status.Memory
 file_unread law r told asked old new f puts = cut_early law r told asked old new status.Memory (λ c answer due. by_memory 0 (f ∙ sym (append-nil asked)) puts)
 
-pub file_failed : ContentsHaveOneDueAnswer → (r : Request) (told : List ℕ → Option (List ℕ)) (asked : List (List ℕ)) (old new : Outside) → new.files.asked ≡ asked ++ r.file ∷ [] → PutsNothing (beside old) (beside new) → GivesDue r told asked old new [] (status.Device device.File 0)
-file_failed law r told asked old new f puts = cut_early law r told asked old new (status.Device device.File 0) (λ c answer due. file_cut 1 (omega arith) (f ∙ ap (λ fs. asked ++ fs) (sym (first_file r c answer due))) puts)
+pub file_failed : ContentsHaveOneDueAnswer → (r : Request) (told : List ℕ → Option (List ℕ)) (asked : List (List ℕ)) (old new : Outside) → has_file r.mode ≡ true → new.files.asked ≡ asked ++ r.file ∷ [] → PutsNothing (beside old) (beside new) → GivesDue r told asked old new [] (status.Device device.File 0)
+file_failed law r told asked old new file f puts = cut_early law r told asked old new (status.Device device.File 0) (λ c answer due. file_cut 1 (omega arith) (f ∙ ap (λ fs. asked ++ fs) (sym (first_file r c answer file due))) puts)
 
-pub file_too_long : (r : Request) (told : List ℕ → Option (List ℕ)) (asked : List (List ℕ)) (old new : Outside) → WhereTold (told r.file) (λ b. longest_text < length b) → new.files.asked ≡ asked ++ r.file ∷ [] → PutsNothing (beside old) (beside new) → GivesDue r told asked old new [] (status.Refused refusal.TooLong)
-file_too_long r told asked old new h f puts =
+pub file_too_long : (r : Request) (told : List ℕ → Option (List ℕ)) (asked : List (List ℕ)) (old new : Outside) → has_file r.mode ≡ true → WhereTold (told r.file) (λ b. longest_text < length b) → new.files.asked ≡ asked ++ r.file ∷ [] → PutsNothing (beside old) (beside new) → GivesDue r told asked old new [] (status.Refused refusal.TooLong)
+file_too_long r told asked old new file h f puts =
     let bytes = long_bytes longest_text (told r.file) h in
     let trace = some_trace (giver_of r) told in
-    (record { scenario = bytes.0; replay = trace.0 }, (bytes.1, trace.1), record { work = refuses refusal.TooLong; files = r.file ∷ [] }, too_long bytes.2, done [] (status.Refused refusal.TooLong) f (refused refusal.TooLong puts))
+    (record { scenario = bytes.0; replay = trace.0 }, (with_file (has_file r.mode) (told r.file) bytes.0 file bytes.1, trace.1), record { work = refuses refusal.TooLong; files = r.file ∷ [] }, too_long file bytes.2, done [] (status.Refused refusal.TooLong) f (refused refusal.TooLong puts))
 
 -- a trace is asked for of other files that tell the same
 same_trace : (g : Giver) (told told' : List ℕ → Option (List ℕ)) (trace : List ℕ) → ((name : List ℕ) → told' name ≡ told name) → IsTrace g told' trace → IsTrace g told trace
@@ -333,9 +348,9 @@ changed r c answer asked old mid new names s e (done ns t f is) = done ns t f (s
 changed r c answer asked old mid new names s e (file_cut k some f puts) = file_cut k some f (subst (λ b. PutsNothing b (beside new)) e puts)
 changed r c answer asked old mid new names s e (by_memory k f puts) = by_memory k f (subst (λ b. PutsNothing b (beside new)) e puts)
 
-pub file_read : (r : Request) (told told' : List ℕ → Option (List ℕ)) (text given : List ℕ) (old mid new : Outside) (names : List (List ℕ)) (s : Status) → WhereTold (told r.file) (λ b. text ≡ b) → given ≡ text → ((name : List ℕ) → told' name ≡ told name) →
+pub file_read : (r : Request) (told told' : List ℕ → Option (List ℕ)) (text given : List ℕ) (old mid new : Outside) (names : List (List ℕ)) (s : Status) → has_file r.mode ≡ true → WhereTold (told r.file) (λ b. text ≡ b) → given ≡ text → ((name : List ℕ) → told' name ≡ told name) →
     mid.files.asked ≡ old.files.asked ++ r.file ∷ [] → beside mid ≡ beside old → GivesForText r told' given mid new names s → GivesDue r told old.files.asked old new names s
-file_read r told told' text given old mid new names s is e same f put h =
+file_read r told told' text given old mid new names s file is e same f put h =
     let P : List ℕ → Type 0 = λ t. GivesForText r told' t mid new names s in
     let g = (subst P e h) old.files.asked f in
-    (record { scenario = text; replay = g.0 }, (is, same_trace (giver_of r) told told' g.0 same g.1), g.2.0, g.2.1, changed r _ g.2.0 old.files.asked old mid new names s put g.2.2)
+    (record { scenario = text; replay = g.0 }, (with_file (has_file r.mode) (told r.file) text file is, same_trace (giver_of r) told told' g.0 same g.1), g.2.0, g.2.1, changed r _ g.2.0 old.files.asked old mid new names s put g.2.2)

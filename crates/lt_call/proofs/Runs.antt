@@ -1,5 +1,5 @@
 -- What a run gives.
-use Rattle.std.proofs.Common.{◌≡◌, ◌≢◌, ℕ, ◌≤◌, Bool, true, false, List, [], None, Some, refl, ap, sym, ◌∙◌, subst, inl, arith}
+use Rattle.std.proofs.Common.{◌≡◌, ℕ, ◌≤◌, Bool, true, false, List, None, Some, refl, ap, sym, ◌∙◌, subst, inl, arith}
 use Rattle.std.specs.Borrow.{Bor}
 use Rattle.std.specs.Option.{is_some}
 use Rattle.std.specs.declared.option.Option.{Option}
@@ -15,19 +15,17 @@ use Rattle.lt_loop.specs.declared.event.Destination.TheVariants as destination
 use Rattle.lt_rif.specs.declared.end.End.{End}
 use Rattle.lt_rif.specs.declared.end.End.TheVariants as end
 use Rattle.lt_rif.specs.declared.end.Who.{Who}
-use Rattle.lt_rif.specs.declared.end.Who.TheVariants as who
 use Rattle.lt_session.specs.Programs.{Programs}
 use Rattle.lt_session.specs.Session as session
 use Rattle.lt_session.specs.Session.{Closes, IsPlayed, Opens, Origin, between, nobody, recorded, program}
 use Rattle.lt_session.specs.Whole.{BlameHasACause, Blames, unstarted, broken}
 use Rattle.lt_session.specs.declared.played.Played.{Played}
 use Rattle.lt_session.specs.declared.played.Played.TheVariants as played
-use Rattle.lt_call.specs.Call.{IsCounted, blames, broke, is_side}
+use Rattle.lt_call.specs.Call.{IsCounted, blames, broke}
 use Rattle.lt_call.specs.Course.{IsCourseOf, giver_of, oracle_of, origin_of, plan_of, talk_to}
 use Rattle.lt_call.specs.Due.{plays as plays_scene}
 use Rattle.lt_call.specs.Given.{IsDone, ran, status_of}
 use Rattle.lt_call.specs.inner.Parts.{GivesRun}
-use Rattle.lt_call.specs.declared.status.Device.{Device}
 use Rattle.lt_call.specs.declared.status.Device.TheVariants as device
 use Rattle.lt_call.specs.declared.status.Status.{Status}
 use Rattle.lt_call.specs.declared.status.Status.TheVariants as status

@@ -1,5 +1,5 @@
 -- What follows for whole calls.
-use Rattle.std.proofs.Common.{◌≡◌, ◌≢◌, ℕ, ◌+◌, ◌⊎◌, inl, inr, true, List, [], ◌++◌, None, Some, refl, ap, sym, ◌∙◌, subst, arith, append-nil}
+use Rattle.std.proofs.Common.{◌≡◌, ◌≢◌, ℕ, ◌⊎◌, inl, inr, Bool, true, false, List, [], ◌++◌, None, Some, refl, ap, sym, ◌∙◌, subst, arith, append-nil}
 use Rattle.std.specs.Io.KnownBytes.{Appends, Keeps}
 use Rattle.std.specs.declared.option.Option.{Option}
 use Rattle.lt_drive.specs.Drive.{Course}
@@ -7,7 +7,7 @@ use Rattle.lt_drive.specs.Outside.{text_to}
 use Rattle.lt_drive.specs.Told as told_streams
 use Rattle.lt_drive.specs.declared.driven.Driven.TheVariants as driven
 use Rattle.lt_io.specs.Causes.{Rose, WhereTold}
-use Rattle.lt_loop.specs.Play.{Play, Stop, ends, step_count}
+use Rattle.lt_loop.specs.Play.{Piece, Play, Stop, ends, step_count}
 use Rattle.lt_loop.specs.Standing.{Standing}
 use Rattle.lt_loop.specs.declared.event.Destination.TheVariants as destination
 use Rattle.lt_rif.specs.declared.end.End.{End}
@@ -15,18 +15,19 @@ use Rattle.lt_rif.specs.declared.end.End.TheVariants as end
 use Rattle.lt_rif.specs.declared.end.Who.{Who}
 use Rattle.lt_rif.specs.declared.end.Who.TheVariants as who
 use Rattle.lt_session.specs.Session.{IsPlayed, Outside as Beside}
+use Rattle.lt_session.specs.Sent.{AreSent}
 use Rattle.lt_session.specs.Whole.{UndisturbedSessionsAreWhole}
 use Rattle.lt_session.specs.declared.played.Played.{Played}
 use Rattle.lt_session.specs.declared.played.Played.TheVariants as played
 use Rattle.lt_step.specs.Machine.{State}
 use Rattle.lt_term.specs.Scene.{Scene}
 use Rattle.lt_words.specs.Words.{Request}
-use Rattle.lt_call.specs.Call.{AreContents, GivesDue, IsCounted, IsTrace, blames}
+use Rattle.lt_call.specs.Call.{AreContents, GivesDue, IsCounted, IsText, IsTrace, blames}
 use Rattle.lt_call.specs.Course.{Giver, IsCourseOf, by_file, by_nobody, by_program, giver_of, oracle_of, origin_of, run_of}
-use Rattle.lt_call.specs.Due.{Answer, Contents, IsDue, Work, refuses, writes, plays}
+use Rattle.lt_call.specs.Due.{Answer, Contents, IsDue, Work, has_file, refuses, writes, plays, stresses}
 use Rattle.lt_call.specs.Given as given
 use Rattle.lt_call.specs.Given.{Gives, IsDone, PutsNothing, number_behind, status_of}
-use Rattle.lt_call.specs.Laws.{ContentsHaveOneDueAnswer, IsCutEarly, IsUnbroken, IsUncut, IsWhole, RefusalsAreExact, SameCallSameBytes, SidesTell, Tell, TellsTrace, UncutCallsAreWhole, UndisturbedCallsAreUncut}
+use Rattle.lt_call.specs.Laws.{ContentsHaveOneDueAnswer, IsCutEarly, IsDetermined, IsUnbroken, IsUncut, IsWhole, RefusalsAreExact, SameCallSameBytes, SidesTell, Tell, TellsText, TellsTrace, UncutCallsAreWhole, UndisturbedCallsAreUncut, told_status, told_text}
 use Rattle.lt_call.specs.Lines.{status_lines}
 use Rattle.lt_call.specs.Outside.{Outside, beside, faults_of}
 use Rattle.lt_call.specs.declared.status.Status.{Status}
@@ -42,13 +43,14 @@ same_trace by_nobody told trace other tells is = is ∙ sym tells
 same_trace (by_program command) told trace other tells is = is ∙ sym tells
 same_trace (by_file name) told trace other tells is = let P : Option (List ℕ) → Type 0 = λ o. WhereTold o (λ bytes. other ≡ bytes) in subst P tells is
 
-same_scenario : (told : Option (List ℕ)) (text other : List ℕ) → told ≡ Some text → WhereTold told (λ bytes. other ≡ bytes) → other ≡ text
-same_scenario told text other tells is = let P : Option (List ℕ) → Type 0 = λ o. WhereTold o (λ bytes. other ≡ bytes) in subst P tells is
+same_scenario : (has : Bool) (told : Option (List ℕ)) (text other : List ℕ) → TellsText has told text → IsText has told other → other ≡ text
+same_scenario false told text other tells is = is ∙ sym tells
+same_scenario true told text other tells is = let P : Option (List ℕ) → Type 0 = λ o. WhereTold o (λ bytes. other ≡ bytes) in subst P tells is
 
 -- contents that are told are the ones that were read
 same_contents : (r : Request) (told : List ℕ → Option (List ℕ)) (c other : Contents) → Tell r told c → AreContents r told other → other ≡ c
 same_contents r told c other tell are =
-    let a : other.scenario ≡ c.scenario = same_scenario (told r.file) c.scenario other.scenario tell.0 are.0 in
+    let a : other.scenario ≡ c.scenario = same_scenario (has_file r.mode) (told r.file) c.scenario other.scenario tell.0 are.0 in
     let b : other.replay ≡ c.replay = same_trace (giver_of r) told c.replay other.replay tell.1 are.1 in
     ap (λ bytes. record { scenario = bytes; replay = other.replay }) a ∙ ap (λ bytes. record { scenario = c.scenario; replay = bytes }) b
 
@@ -69,7 +71,7 @@ unbroken e h w is = let P : End → Type 0 = λ x. IsUnbroken x in absurd (subst
 -- a run that ended by itself
 ended_whole : UndisturbedSessionsAreWhole State → (r : Request) (trace : List ℕ) (c o : List ℕ) (scene : Scene) (k : Course) (core : Standing State) (e : End) (old new : Outside) → IsCourseOf r scene k →
     IsPlayed k (origin_of (giver_of r) trace) (oracle_of r.oracle) (beside old) (beside new) core (played.Driven (driven.Ended e)) → IsUnbroken e → SidesTell r (record { scenario = []; replay = trace }) old.programs c o →
-    IsWhole r c o (plays scene) scene.exceptions old new (status_of (played.Driven (driven.Ended e)) core.written)
+    IsWhole r trace c o (plays scene) scene.exceptions old new (status_of (played.Driven (driven.Ended e)) core.written)
 ended_whole law r trace c o scene k core e old new course is whole tell =
     let l = law k (origin_of (giver_of r) trace) (oracle_of r.oracle) (beside old) (beside new) core e c o is (unbroken e whole) tell.0 tell.1 tell.2 in
     let same : k.play (told_streams.closed c) (told_streams.closed o) ≡ run_of r scene (told_streams.closed c) (told_streams.closed o) = course.plays (told_streams.closed c) (told_streams.closed o) in
@@ -80,26 +82,47 @@ ended_whole law r trace c o scene k core e old new course is whole tell =
       ap (λ n. status.Ran (record { end = e; at = number_behind e n })) steps,
       refl,
       subst (λ (p : Play). Appends old.trace.written new.trace.written (text_to destination.Trace p.pieces)) same l.1,
+      subst (λ (p : Play). AreSent (origin_of (giver_of r) trace) (oracle_of r.oracle) p.pieces 0 0 old.programs new.programs) same l.3,
     )
 
 played_whole : UndisturbedSessionsAreWhole State → (r : Request) (trace : List ℕ) (c o : List ℕ) (scene : Scene) (k : Course) (core : Standing State) (how : Played) (old new : Outside) → IsCourseOf r scene k →
     IsPlayed k (origin_of (giver_of r) trace) (oracle_of r.oracle) (beside old) (beside new) core how → IsUncut (status_of how core.written) → SidesTell r (record { scenario = []; replay = trace }) old.programs c o →
-    IsWhole r c o (plays scene) scene.exceptions old new (status_of how core.written)
+    IsWhole r trace c o (plays scene) scene.exceptions old new (status_of how core.written)
 played_whole law r trace c o scene k core (played.Driven (driven.Ended e)) old new course is u tell = ended_whole law r trace c o scene k core e old new course is u tell
 played_whole law r trace c o scene k core (played.Driven driven.Starved) old new course is u tell = absurd u
 played_whole law r trace c o scene k core (played.Driven (driven.Untraced step)) old new course is u tell = absurd u
 played_whole law r trace c o scene k core (played.Unstarted w) old new course is u tell = absurd u
 played_whole law r trace c o scene k core played.Memory old new course is u tell = absurd u
 
+-- a large run that ended in another way than by its limit is told by its status
+told_otherwise : (ps : List Piece) (e : End) → e ≢ end.Limit → told_status ps e ≡ status.Ran (record { end = e; at = number_behind e (step_count ps) })
+told_otherwise ps end.Limit other = absurd (other refl)
+told_otherwise ps e other = refl
+
+-- and by no text
+kept_appends : (old new : Option (List ℕ)) → Keeps old new → Appends old new []
+kept_appends None None h = h
+kept_appends None (Some ys) h = h
+kept_appends (Some xs) None h = h
+kept_appends (Some xs) (Some ys) h = h ∙ sym (append-nil xs)
+
+told_nothing : (n : ℕ) (ps : List Piece) (e : End) (old new : Option (List ℕ)) → e ≢ end.Limit → Keeps old new → Appends old new (told_text n ps e)
+told_nothing n ps end.Limit old new other h = absurd (other refl)
+told_nothing n ps e old new other h = kept_appends old new h
+
 done_whole : UndisturbedSessionsAreWhole State → (r : Request) (trace : List ℕ) (c o : List ℕ) (work : Work) (names : List (List ℕ)) (old new : Outside) (s : Status) → IsDone r trace (beside old) (beside new) work names s → IsUncut s →
-    SidesTell r (record { scenario = []; replay = trace }) old.programs c o → IsWhole r c o work names old new s
+    SidesTell r (record { scenario = []; replay = trace }) old.programs c o → IsWhole r trace c o work names old new s
 done_whole law r trace c o work names old new s (given.refused reason puts) u tell = (refl, refl, puts)
 done_whole law r trace c o work names old new s (given.written text same all) u tell = (refl, refl, all)
 done_whole law r trace c o work names old new s (given.cut text same part) u tell = absurd u
 done_whole law r trace c o work names old new s (given.ran scene k core how course is) u tell = played_whole law r trace c o scene k core how old new course is u tell
+done_whole law r trace c o work names old new s (given.told n scene ps run same all) u tell = (ps, end.Limit, run, refl, refl, all, same)
+done_whole law r trace c o work names old new s (given.told_in_part n scene ps run same part) u tell = absurd u
+done_whole law r trace c o work names old new s (given.untold n scene ps e run other unbroken puts) u tell =
+    (ps, e, run, sym (told_otherwise ps e other), refl, told_nothing n ps e old.trace.written new.trace.written other puts.trace, puts.programs)
 
 gives_whole : UndisturbedSessionsAreWhole State → (r : Request) (contents : Contents) (c o : List ℕ) (answer : Answer) (asked names : List (List ℕ)) (old new : Outside) (s : Status) → Gives r contents answer asked old new names s → IsUncut s →
-    SidesTell r contents old.programs c o → IsWhole r c o answer.work names old new s
+    SidesTell r contents old.programs c o → IsWhole r contents.replay c o answer.work names old new s
 gives_whole law r contents c o answer asked names old new s (given.done ns t f is) u tell = done_whole law r contents.replay c o answer.work ns old new t is u tell
 gives_whole law r contents c o answer asked names old new s (given.by_file k some f puts) u tell = absurd u
 gives_whole law r contents c o answer asked names old new s (given.by_memory k f puts) u tell = absurd u
@@ -120,35 +143,57 @@ appends_all None new before now text e f h = absurd (cc)
 appends_all (Some xs) None before now text e f h = absurd h
 appends_all (Some xs) (Some ys) before now text e f h = let a : xs ≡ before = cc in let b : ys ≡ now = cc in sym b ∙ h ∙ ap (λ t. t ++ text) a
 
--- the bytes of work
-abbrev bytes_of : Request → List ℕ → List ℕ → Work → List ℕ
-bytes_of r c o (refuses reason) = []
-bytes_of r c o (writes text) = text
-bytes_of r c o (plays scene) = text_to destination.Trace (run_of r scene (told_streams.closed c) (told_streams.closed o)).pieces
+-- the bytes of work that was done whole
+abbrev bytes_of : (r : Request) (trace c o : List ℕ) (work : Work) (names : List (List ℕ)) (old new : Outside) (s : Status) → IsWhole r trace c o work names old new s → List ℕ
+bytes_of r trace c o (refuses reason) names old new s h = []
+bytes_of r trace c o (writes text) names old new s h = text
+bytes_of r trace c o (plays scene) names old new s h = text_to destination.Trace (run_of r scene (told_streams.closed c) (told_streams.closed o)).pieces
+bytes_of r trace c o (stresses n scene) names old new s h = told_text n h.0 h.1
 
-whole_bytes : (r : Request) (c o : List ℕ) (work : Work) (names : List (List ℕ)) (old new : Outside) (s : Status) (before now : List ℕ) → old.trace.written ≡ Some before → new.trace.written ≡ Some now → IsWhole r c o work names old new s → now ≡ before ++ bytes_of r c o work
-whole_bytes r c o (refuses reason) names old new s before now e f h = keeps_all old.trace.written new.trace.written before now e f h.2.trace
-whole_bytes r c o (writes text) names old new s before now e f h = appends_all old.trace.written new.trace.written before now text e f h.2
-whole_bytes r c o (plays scene) names old new s before now e f h = appends_all old.trace.written new.trace.written before now _ e f h.4
+whole_bytes : (r : Request) (trace c o : List ℕ) (work : Work) (names : List (List ℕ)) (old new : Outside) (s : Status) (before now : List ℕ) → old.trace.written ≡ Some before → new.trace.written ≡ Some now → (h : IsWhole r trace c o work names old new s) → now ≡ before ++ bytes_of r trace c o work names old new s h
+whole_bytes r trace c o (refuses reason) names old new s before now e f h = keeps_all old.trace.written new.trace.written before now e f h.2.trace
+whole_bytes r trace c o (writes text) names old new s before now e f h = appends_all old.trace.written new.trace.written before now text e f h.2
+whole_bytes r trace c o (plays scene) names old new s before now e f h = appends_all old.trace.written new.trace.written before now _ e f h.4
+whole_bytes r trace c o (stresses n scene) names old new s before now e f h = appends_all old.trace.written new.trace.written before now _ e f h.5
+
+-- work that leaves no choice has the same bytes each time
+same_bytes : (r : Request) (trace c o : List ℕ) (work : Work) (names names' : List (List ℕ)) (old new old' new' : Outside) (s s' : Status) → IsDetermined work → (h : IsWhole r trace c o work names old new s) (k : IsWhole r trace c o work names' old' new' s') →
+    bytes_of r trace c o work names' old' new' s' k ≡ bytes_of r trace c o work names old new s h
+same_bytes r trace c o (refuses reason) names names' old new old' new' s s' one h k = refl
+same_bytes r trace c o (writes text) names names' old new old' new' s s' one h k = refl
+same_bytes r trace c o (plays scene) names names' old new old' new' s s' one h k = refl
+same_bytes r trace c o (stresses n scene) names names' old new old' new' s s' one h k =
+    let same = one k.0 h.0 k.1 h.1 k.2 h.2 in ap (λ ps. told_text n ps k.1) same.0 ∙ ap (told_text n h.0) same.1
 
 same_end : (s : Stop) (e f : End) → s ≡ ends e → s ≡ ends f → e ≡ f
 same_end s e f h k = let both : ends e ≡ ends f = sym h ∙ k in cc
 
-same_status : (r : Request) (c o : List ℕ) (work : Work) (names names' : List (List ℕ)) (old new old' new' : Outside) (s s' : Status) → IsWhole r c o work names old new s → IsWhole r c o work names' old' new' s' → (s ≡ s') × (names ≡ names')
-same_status r c o (refuses reason) names names' old new old' new' s s' h k = (h.0 ∙ sym k.0, h.1 ∙ sym k.1)
-same_status r c o (writes text) names names' old new old' new' s s' h k = (h.0 ∙ sym k.0, h.1 ∙ sym k.1)
-same_status r c o (plays scene) names names' old new old' new' s s' h k =
+same_status : (r : Request) (trace c o : List ℕ) (work : Work) (names names' : List (List ℕ)) (old new old' new' : Outside) (s s' : Status) → IsDetermined work → IsWhole r trace c o work names old new s → IsWhole r trace c o work names' old' new' s' → (s ≡ s') × (names ≡ names')
+same_status r trace c o (refuses reason) names names' old new old' new' s s' one h k = (h.0 ∙ sym k.0, h.1 ∙ sym k.1)
+same_status r trace c o (writes text) names names' old new old' new' s s' one h k = (h.0 ∙ sym k.0, h.1 ∙ sym k.1)
+same_status r trace c o (plays scene) names names' old new old' new' s s' one h k =
     let steps = step_count (run_of r scene (told_streams.closed c) (told_streams.closed o)).pieces in
     let e : h.0 ≡ k.0 = same_end (run_of r scene (told_streams.closed c) (told_streams.closed o)).stop h.0 k.0 h.1 k.1 in
     (h.2 ∙ ap (λ x. status.Ran (record { end = x; at = number_behind x steps })) e ∙ sym k.2, h.3 ∙ sym k.3)
+same_status r trace c o (stresses n scene) names names' old new old' new' s s' one h k =
+    let same = one h.0 k.0 h.1 k.1 h.2 k.2 in (h.3 ∙ ap (λ ps. told_status ps h.1) same.0 ∙ ap (told_status k.0) same.1 ∙ sym k.3, h.4 ∙ sym k.4)
 
 pub same_call_same_bytes : ContentsHaveOneDueAnswer → UncutCallsAreWhole → SameCallSameBytes
-same_call_same_bytes due law r contents told told' names names' asked asked' old new old' new' before now before' now' s s' c o tell gives u sides tell' gives' u' sides' e f e' f' =
+same_call_same_bytes due law r contents told told' names names' asked asked' old new old' new' before now before' now' s s' c o tell gives u sides tell' gives' u' sides' one e f e' f' =
     let answer = (due r contents).0 in
     let first = law r contents told names asked old new s c o answer.0 tell gives u sides answer.1 in
     let second = law r contents told' names' asked' old' new' s' c o answer.0 tell' gives' u' sides' answer.1 in
-    let same = same_status r c o answer.0.work names names' old new old' new' s s' first second in
-    (same.0, ap (λ ns. status_lines ns s) same.1 ∙ ap (status_lines names') same.0, (bytes_of r c o answer.0.work, whole_bytes r c o answer.0.work names old new s before now e f first, whole_bytes r c o answer.0.work names' old' new' s' before' now' e' f' second))
+    let det = one answer.0 answer.1 in
+    let same = same_status r contents.replay c o answer.0.work names names' old new old' new' s s' det first second in
+    let bytes = same_bytes r contents.replay c o answer.0.work names names' old new old' new' s s' det first second in (
+      same.0,
+      ap (λ ns. status_lines ns s) same.1 ∙ ap (status_lines names') same.0,
+      (
+        bytes_of r contents.replay c o answer.0.work names old new s first,
+        whole_bytes r contents.replay c o answer.0.work names old new s before now e f first,
+        whole_bytes r contents.replay c o answer.0.work names' old' new' s' before' now' e' f' second ∙ ap (λ b. before' ++ b) bytes,
+      ),
+    )
 
 -- Refusals.
 
@@ -157,6 +202,9 @@ refusal_done r trace work reason names old new s e (given.refused other puts) = 
 refusal_done r trace work reason names old new s e (given.written text same all) = absurd (cc)
 refusal_done r trace work reason names old new s e (given.cut text same part) = absurd (cc)
 refusal_done r trace work reason names old new s e (given.ran scene k core how course is) = absurd (cc)
+refusal_done r trace work reason names old new s e (given.told n scene ps run same all) = absurd (cc)
+refusal_done r trace work reason names old new s e (given.told_in_part n scene ps run same part) = absurd (cc)
+refusal_done r trace work reason names old new s e (given.untold n scene ps x run other unbroken puts) = absurd (cc)
 
 refused_so : (r : Request) (c : Contents) (reason : Refusal) (files asked names : List (List ℕ)) (old new : Outside) (s : Status) → Gives r c (record { work = refuses reason; files = files }) asked old new names s →
     PutsNothing (beside old) (beside new) × ((s ≡ status.Refused reason) ⊎ IsCutEarly s)

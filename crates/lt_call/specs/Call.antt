@@ -1,5 +1,5 @@
 -- What one call does.
-use Rattle.std.specs.Prelude.{◌≡◌, ◌↔◌, ℕ, ◌⊎◌, ◌≤◌, Bool, true, false, List, [], Err, IfOk, OnErr}
+use Rattle.std.specs.Prelude.{◌≡◌, ℕ, ◌⊎◌, ◌≤◌, Bool, true, false, List, [], Err, IfOk, OnErr}
 use Rattle.std.specs.Io.KnownBytes.{Appends}
 use Rattle.std.specs.declared.option.Option.{Option}
 use Rattle.lt_drive.specs.Outside.{Sink}
@@ -12,7 +12,7 @@ use Rattle.lt_rif.specs.declared.end.Who.TheVariants as who
 use Rattle.lt_words.specs.Words.{Request, requested}
 use Rattle.lt_words.specs.declared.usage.UsageKind.{UsageKind}
 use Rattle.lt_call.specs.Course.{Giver, by_file, giver_of}
-use Rattle.lt_call.specs.Due.{Answer, Contents, IsDue}
+use Rattle.lt_call.specs.Due.{Answer, Contents, IsDue, has_file}
 use Rattle.lt_call.specs.Given.{Gives, PutsNothing}
 use Rattle.lt_call.specs.Lines.{status_lines}
 use Rattle.lt_call.specs.Outside.{Outside, beside, faults_of}
@@ -26,9 +26,14 @@ abbrev pub IsTrace : Giver → (List ℕ → Option (List ℕ)) → List ℕ →
 IsTrace (by_file name) told trace = WhereTold (told name) (λ bytes. trace ≡ bytes)
 IsTrace _ told trace = trace ≡ []
 
+-- this is the scenario's text, where its file tells that; it is empty in a mode that has no such file
+abbrev pub IsText : Bool → Option (List ℕ) → List ℕ → Type 0
+IsText true told text = WhereTold told (λ bytes. text ≡ bytes)
+IsText false told text = text ≡ []
+
 -- these are the contents of the files that a request asks for, where they are told
 abbrev pub AreContents : Request → (List ℕ → Option (List ℕ)) → Contents → Type 0
-AreContents request told contents = WhereTold (told request.file) (λ bytes. contents.scenario ≡ bytes) × IsTrace (giver_of request) told contents.replay
+AreContents request told contents = IsText (has_file request.mode) (told request.file) contents.scenario × IsTrace (giver_of request) told contents.replay
 
 -- The answer that is due was given, whole or cut short; exceptions have these names, and files were asked for these
 -- names before.
@@ -69,8 +74,10 @@ Says text old new = Appends old.written new.written text ⊎ (Rose old.faults ne
 pub record IsCall (words : List (List ℕ)) (old new : Outside) (unsaid said : Sink) (s : Status) : Type 0 where
   -- what the exceptions are called that the status may speak of
   pub names : List (List ℕ)
-  -- the words are refused exactly where they ask for nothing ..
-  pub usage : (kind : UsageKind) → (s ≡ status.Usage kind) ↔ (requested words ≡ Err kind)
+  -- the words are refused only where they ask for nothing ..
+  pub usage : (kind : UsageKind) → s ≡ status.Usage kind → requested words ≡ Err kind
+  -- .. and always then, but where memory ran out ..
+  pub refused : (kind : UsageKind) → requested words ≡ Err kind → (s ≡ status.Usage kind) ⊎ (s ≡ status.Memory)
   -- .. and then no file is asked for, no program is started, and nothing is written to the trace
   pub untouched : OnErr (requested words) ((new.files.asked ≡ old.files.asked) × PutsNothing (beside old) (beside new))
   -- else the answer that is due to what they ask for is given, whole or cut short

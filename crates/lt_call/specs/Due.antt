@@ -1,12 +1,14 @@
 -- What is due to a request.
-use Rattle.std.specs.Prelude.{◌≡◌, ℕ, ◌<◌, ◌≤◌, true, false, List, [], ◌∷◌, ◌++◌, length, Ok, Err}
+use Rattle.std.specs.Prelude.{◌≡◌, ℕ, ◌<◌, ◌≤◌, Bool, true, false, List, [], ◌∷◌, length, Ok, Err}
 use Rattle.lt_loop.specs.Stands.{is_served}
 use Rattle.lt_play.specs.Rules.{known_scene}
 use Rattle.lt_prepare.specs.Prepared.{IsScenarioAnswer, IsPrintedAnswer}
 use Rattle.lt_prepare.specs.declared.refusal.Refusal.{Refusal as Reason}
+use Rattle.lt_stress.specs.Run.{IsRefusedFor, IsSceneOf}
 use Rattle.lt_term.specs.Scene.{Scene}
 use Rattle.lt_words.specs.Settings.{longest_text, longest_replay}
 use Rattle.lt_words.specs.Words.{Request}
+use Rattle.lt_words.specs.declared.words.Mode.{Mode}
 use Rattle.lt_words.specs.declared.words.Mode.TheVariants as mode
 use Rattle.lt_call.specs.Course.{Giver, by_file, files_of, giver_of, talk_to}
 use Rattle.lt_call.specs.declared.status.Refusal.{Refusal}
@@ -27,11 +29,23 @@ pub data Work : Type 0 where
   writes : List ℕ → Work
   -- it runs this scenario
   plays : Scene → Work
+  -- it makes the large run of this number, whose scenario this is
+  stresses : ℕ → Scene → Work
 
 -- how a call is answered: what it does, and the files that it asks for before, in turn
 pub record Answer : Type 0 where
   pub work : Work
   pub files : List (List ℕ)
+
+-- whether a mode has a scenario's file
+abbrev pub has_file : Mode → Bool
+has_file mode.Run = true
+has_file mode.Print = true
+has_file (mode.Stress n) = false
+
+-- an answer that takes no file
+abbrev pub by_number : Work → Answer
+by_number work = record { work = work; files = [] }
 
 -- an answer that takes the scenario's file alone
 abbrev pub by_scenario : Request → Work → Answer
@@ -61,8 +75,8 @@ HasShortTrace _ contents = Unit {0}
 -- The answer that is due to a request where the files have these contents: a row a cause, in the order in which the
 -- causes are tried.
 pub data IsDue (request : Request) (contents : Contents) : Answer → Type 0 where
-  -- in each mode: the file is too long
-  too_long : longest_text < length contents.scenario → IsDue request contents (by_scenario request (refuses refusal.TooLong))
+  -- in each mode that has a scenario's file: it is too long
+  too_long : has_file request.mode ≡ true → longest_text < length contents.scenario → IsDue request contents (by_scenario request (refuses refusal.TooLong))
   -- in the mode `run`: it has no scenario, for this reason
   no_scenario : (reason : Reason) → request.mode ≡ mode.Run → IsShort contents → IsScenarioAnswer request.decimals request.node contents.scenario (Err reason) → IsDue request contents (by_scenario request (refuses (refusal.Scenario reason)))
   -- the scenario has inputs, which nobody gives values
@@ -75,3 +89,7 @@ pub data IsDue (request : Request) (contents : Contents) : Answer → Type 0 whe
   unprinted : (reason : Reason) → request.mode ≡ mode.Print → IsShort contents → IsPrintedAnswer contents.scenario (Err reason) → IsDue request contents (by_scenario request (refuses (refusal.Scenario reason)))
   -- its printed form is put out
   prints : (text : List ℕ) → request.mode ≡ mode.Print → IsShort contents → IsPrintedAnswer contents.scenario (Ok text) → IsDue request contents (by_scenario request (writes text))
+  -- in the mode `stress`: the text of the number's scenario has none, for this reason
+  unstressed : (n : ℕ) (reason : Reason) → request.mode ≡ mode.Stress n → IsRefusedFor n reason → IsDue request contents (by_number (refuses (refusal.Scenario reason)))
+  -- the large run of the number is made
+  stressed : (n : ℕ) (scene : Scene) → request.mode ≡ mode.Stress n → IsSceneOf n scene → IsDue request contents (by_number (stresses n scene))

@@ -1,21 +1,25 @@
 -- How an answer is given: whole, or cut short.
-use Rattle.std.specs.Prelude.{◌≡◌, ℕ, ◌+◌, ◌<◌, List, [], ◌++◌, take}
+use Rattle.std.specs.Prelude.{◌≡◌, ◌≢◌, ℕ, ◌+◌, ◌<◌, List, [], ◌++◌, take}
 use Rattle.std.specs.Io.KnownBytes.{Appends, Keeps}
 use Rattle.lt_drive.specs.Drive.{Course}
 use Rattle.lt_drive.specs.declared.driven.Driven.TheVariants as driven
 use Rattle.lt_io.specs.Sending.{AppendsPart}
+use Rattle.lt_loop.specs.Play.{Piece, step_count}
 use Rattle.lt_loop.specs.Standing.{Standing}
 use Rattle.lt_rif.specs.declared.end.End.{End}
 use Rattle.lt_rif.specs.declared.end.End.TheVariants as end
+use Rattle.lt_rif.specs.declared.end.Who.{Who}
 use Rattle.lt_session.specs.Programs.{Same}
 use Rattle.lt_session.specs.Session.{IsPlayed, Outside as Beside}
 use Rattle.lt_session.specs.declared.played.Played.{Played}
 use Rattle.lt_session.specs.declared.played.Played.TheVariants as played
 use Rattle.lt_step.specs.Machine.{State}
+use Rattle.lt_stress.specs.Report.{stress_line}
+use Rattle.lt_stress.specs.Run.{IsRunOf, sum_told}
 use Rattle.lt_term.specs.Scene.{Scene}
 use Rattle.lt_words.specs.Words.{Request}
 use Rattle.lt_call.specs.Course.{IsCourseOf, giver_of, oracle_of, origin_of}
-use Rattle.lt_call.specs.Due.{Answer, Contents, Work, refuses, writes, plays}
+use Rattle.lt_call.specs.Due.{Answer, Contents, Work, refuses, writes, plays, stresses}
 use Rattle.lt_call.specs.Outside.{Outside, beside}
 use Rattle.lt_call.specs.declared.status.Refusal.{Refusal}
 use Rattle.lt_call.specs.declared.status.Status.{Status}
@@ -55,6 +59,15 @@ pub data IsDone (request : Request) (trace : List ℕ) (old new : Beside) : Work
   ran : (scene : Scene) (k : Course) (core : Standing State) (how : Played) → IsCourseOf request scene k →
       IsPlayed k (origin_of (giver_of request) trace) (oracle_of request.oracle) old new core how →
       IsDone request trace old new (plays scene) scene.exceptions (status_of how core.written)
+  -- a large run ended by its limit, and its line was written whole ..
+  told : (n : ℕ) (scene : Scene) (ps : List Piece) → IsRunOf n scene ps end.Limit → Same old.programs new.programs → Appends old.trace.written new.trace.written (stress_line n (sum_told ps)) →
+      IsDone request trace old new (stresses n scene) [] status.Done
+  -- .. or but for its end, where a write failed
+  told_in_part : (n : ℕ) (scene : Scene) (ps : List Piece) → IsRunOf n scene ps end.Limit → Same old.programs new.programs → AppendsPart old.trace.written new.trace.written (stress_line n (sum_told ps)) →
+      IsDone request trace old new (stresses n scene) [] (status.Device device.Trace 0)
+  -- it ended in another way, and nothing was put out
+  untold : (n : ℕ) (scene : Scene) (ps : List Piece) (e : End) → IsRunOf n scene ps e → e ≢ end.Limit → ((w : Who) → e ≢ end.Device w) → PutsNothing old new →
+      IsDone request trace old new (stresses n scene) [] (status.Ran (record { end = e; at = number_behind e (step_count ps) }))
 
 -- An answer was given, where files were asked for these names before the call. A row a way.
 pub data Gives (request : Request) (contents : Contents) (answer : Answer) (asked : List (List ℕ)) (old new : Outside) : List (List ℕ) → Status → Type 0 where

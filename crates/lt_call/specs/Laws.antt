@@ -1,20 +1,23 @@
 -- What follows for whole calls.
-use Rattle.std.specs.Prelude.{◌≡◌, ◌≢◌, ℕ, ◌⊎◌, List, [], ◌++◌, Some}
+use Rattle.std.specs.Prelude.{◌≡◌, ◌≢◌, ℕ, ◌⊎◌, Bool, true, false, List, [], ◌++◌, Some}
 use Rattle.std.specs.Io.KnownBytes.{Appends}
 use Rattle.std.specs.declared.option.Option.{Option}
 use Rattle.lt_drive.specs.Outside.{text_to}
 use Rattle.lt_drive.specs.Told.{closed}
 use Rattle.lt_io.specs.Causes.{Rose}
-use Rattle.lt_loop.specs.Play.{ends, step_count}
+use Rattle.lt_loop.specs.Play.{Piece, ends, step_count}
 use Rattle.lt_loop.specs.declared.event.Destination.TheVariants as destination
 use Rattle.lt_rif.specs.declared.end.End.{End}
 use Rattle.lt_rif.specs.declared.end.End.TheVariants as end
 use Rattle.lt_session.specs.Programs.{Programs, Same}
+use Rattle.lt_session.specs.Sent.{AreSent}
 use Rattle.lt_session.specs.Whole.{AreApart, Gives as Tells}
+use Rattle.lt_stress.specs.Report.{stress_line}
+use Rattle.lt_stress.specs.Run.{IsRunOf, sum_told}
 use Rattle.lt_words.specs.Words.{Request}
 use Rattle.lt_call.specs.Call.{GivesDue, IsCounted, blames}
 use Rattle.lt_call.specs.Course.{Giver, by_file, giver_of, oracle_of, origin_of, run_of}
-use Rattle.lt_call.specs.Due.{Answer, Contents, IsDue, Work, refuses, writes, plays}
+use Rattle.lt_call.specs.Due.{Answer, Contents, IsDue, Work, refuses, writes, plays, stresses, has_file}
 use Rattle.lt_call.specs.Given.{PutsNothing, number_behind}
 use Rattle.lt_call.specs.Lines.{status_lines}
 use Rattle.lt_call.specs.Outside.{Outside, beside, faults_of}
@@ -36,9 +39,14 @@ abbrev pub TellsTrace : Giver → (List ℕ → Option (List ℕ)) → List ℕ 
 TellsTrace (by_file name) told trace = told name ≡ Some trace
 TellsTrace _ told trace = trace ≡ []
 
+-- the scenario's file tells this text; it is empty in a mode that has no such file
+abbrev pub TellsText : Bool → Option (List ℕ) → List ℕ → Type 0
+TellsText true told text = told ≡ Some text
+TellsText false told text = text ≡ []
+
 -- the files that a request asks for tell these contents; where it asks for no earlier trace, that is empty
 abbrev pub Tell : Request → (List ℕ → Option (List ℕ)) → Contents → Type 0
-Tell request told contents = (told request.file ≡ Some contents.scenario) × TellsTrace (giver_of request) told contents.replay
+Tell request told contents = TellsText (has_file request.mode) (told request.file) contents.scenario × TellsTrace (giver_of request) told contents.replay
 
 -- what comes of both sides of a run is told to be these bytes, and the sides are started by commands that differ
 abbrev pub SidesTell : Request → Contents → Programs → List ℕ → List ℕ → Type 0
@@ -58,16 +66,30 @@ IsUncut status.Memory = ⊥
 IsUncut (status.Ran ending) = IsUnbroken ending.end
 IsUncut _ = Unit {0}
 
--- Work is done whole, where these bytes come of the two sides: its status, the names of its exceptions, and the text by
--- which the trace grows.
-abbrev pub IsWhole : Request → List ℕ → List ℕ → Work → List (List ℕ) → Outside → Outside → Status → Type 0
-IsWhole request c o (refuses reason) names old new s = (s ≡ status.Refused reason) × (names ≡ []) × PutsNothing (beside old) (beside new)
-IsWhole request c o (writes text) names old new s = (s ≡ status.Done) × (names ≡ []) × Appends old.trace.written new.trace.written text
-IsWhole request c o (plays scene) names old new s =
+-- the text that tells a large run of these pieces: its line, where it ended by its limit
+abbrev pub told_text : ℕ → List Piece → End → List ℕ
+told_text n ps end.Limit = stress_line n (sum_told ps)
+told_text n ps e = []
+
+-- its status
+abbrev pub told_status : List Piece → End → Status
+told_status ps end.Limit = status.Done
+told_status ps e = status.Ran (record { end = e; at = number_behind e (step_count ps) })
+
+-- Work is done whole, where this is the earlier trace, and these bytes come of the two sides: its status, the names of its
+-- exceptions, the text by which the trace grows, and what both sides were sent.
+abbrev pub IsWhole : Request → List ℕ → List ℕ → List ℕ → Work → List (List ℕ) → Outside → Outside → Status → Type 0
+IsWhole request trace c o (refuses reason) names old new s = (s ≡ status.Refused reason) × (names ≡ []) × PutsNothing (beside old) (beside new)
+IsWhole request trace c o (writes text) names old new s = (s ≡ status.Done) × (names ≡ []) × Appends old.trace.written new.trace.written text
+IsWhole request trace c o (plays scene) names old new s =
     (e : End) × ((run_of request scene (closed c) (closed o)).stop ≡ ends e)
     × (s ≡ status.Ran (record { end = e; at = number_behind e (step_count (run_of request scene (closed c) (closed o)).pieces) }))
     × (names ≡ scene.exceptions)
     × Appends old.trace.written new.trace.written (text_to destination.Trace (run_of request scene (closed c) (closed o)).pieces)
+    × AreSent (origin_of (giver_of request) trace) (oracle_of request.oracle) (run_of request scene (closed c) (closed o)).pieces 0 0 old.programs new.programs
+IsWhole request trace c o (stresses n scene) names old new s =
+    (ps : List Piece) × (e : End) × IsRunOf n scene ps e × (s ≡ told_status ps e) × (names ≡ [])
+    × Appends old.trace.written new.trace.written (told_text n ps e) × Same old.programs new.programs
 
 -- What isn't cut is whole: where files and sides tell what they have, a call that neither a device nor want of memory cuts
 -- short does its work whole.
@@ -75,9 +97,14 @@ abbrev pub UncutCallsAreWhole : Type 0
 UncutCallsAreWhole =
     (request : Request) (contents : Contents) (told : List ℕ → Option (List ℕ)) (names asked : List (List ℕ)) (old new : Outside) (s : Status) (c o : List ℕ) (answer : Answer) →
     Tell request told contents → GivesDue request told asked old new names s → IsUncut s → SidesTell request contents old.programs c o → IsDue request contents answer →
-    IsWhole request c o answer.work names old new s
+    IsWhole request contents.replay c o answer.work names old new s
 
--- Two calls that ask for the same of the same contents, of which the same comes of both sides, and that neither a device
+-- The work leaves no choice: where it is a large run, there is one such run at most. All other work is such.
+abbrev pub IsDetermined : Work → Type 0
+IsDetermined (stresses n scene) = (ps qs : List Piece) (e f : End) → IsRunOf n scene ps e → IsRunOf n scene qs f → (ps ≡ qs) × (e ≡ f)
+IsDetermined _ = Unit {0}
+
+-- Two calls that ask for the same of the same contents, which leaves no choice, of which the same comes of both sides, and that neither a device
 -- nor want of memory cuts short, have the same status, say the same, and append the same bytes to their traces, whatever
 -- these held before.
 abbrev pub SameCallSameBytes : Type 0
@@ -85,6 +112,7 @@ SameCallSameBytes =
     (request : Request) (contents : Contents) (told told' : List ℕ → Option (List ℕ)) (names names' asked asked' : List (List ℕ)) (old new old' new' : Outside) (before now before' now' : List ℕ) (s s' : Status) (c o : List ℕ) →
     Tell request told contents → GivesDue request told asked old new names s → IsUncut s → SidesTell request contents old.programs c o →
     Tell request told' contents → GivesDue request told' asked' old' new' names' s' → IsUncut s' → SidesTell request contents old'.programs c o →
+    ((answer : Answer) → IsDue request contents answer → IsDetermined answer.work) →
     old.trace.written ≡ Some before → new.trace.written ≡ Some now → old'.trace.written ≡ Some before' → new'.trace.written ≡ Some now' →
     (s ≡ s') × (status_lines names s ≡ status_lines names' s') × ((bytes : List ℕ) × (now ≡ before ++ bytes) × (now' ≡ before' ++ bytes))
 

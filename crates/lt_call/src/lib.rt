@@ -1,7 +1,8 @@
 //! The call of lurette: from its words to its status.
 //!
 //! [`lurette`] is the whole call, over any files, programs and sinks: it reads the scenario that its words name, runs it
-//! beside a controller and an oracle, or prints it, writes the trace, and says what went wrong. `specs/Call.antt` says what it does. [`program`] is the same down to
+//! beside a controller and an oracle, or prints it, or makes a large run from a number, writes the trace, and says what went
+//! wrong. `specs/Call.antt` says what it does. [`program`] is the same down to
 //! the number that a program ends with, and [`start`] hands it the system.
 #![tactic(auto)]
 
@@ -12,6 +13,7 @@ mod run;
 mod say;
 mod served;
 mod status;
+mod stress;
 mod system;
 mod top;
 

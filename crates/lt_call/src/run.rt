@@ -266,8 +266,8 @@ fn status_of(played: Played, steps: u64) -> Status
     }
 }
 
-// The number of an end line behind so many steps: that of the last one, or of the one at hand.
-fn number_behind(end: End, steps: u64) -> u64
+/// The number of an end line behind so many steps: that of the last one, or of the one at hand.
+pub fn number_behind(end: End, steps: u64) -> u64
     requires { steps ≤ most_steps }
     ensures { result ≡ number_behind end steps }
 {

@@ -12,7 +12,7 @@ use crate::top::lurette;
 use lt_io::{ChildSpawner, DirFiles, Files, Sink, Spawner, StdSink};
 use std::alloc::Global;
 use std::io::{ErrorKind, Write};
-use std::process::{ExitCode, Processes};
+use std::process::{ExitCode, Processes, SystemProcess};
 use std::rt::Env;
 use std::{env, io, rt};
 
@@ -44,10 +44,10 @@ pub fn program<F: Files, P: Spawner, S: Sink, M: Sink>(
 
 /// Runs the program: hands the system's words, files, programs and standard output to [`program`], with a writer for what it says,
 /// and gives its number to the system.
-pub fn start<R: Env + rt::Files + Processes + Print + AllocGlobal, W: Write + Drop>(
-    rt: &R,
-    standard_error: W,
-) -> ExitCode {
+pub fn start<
+    R: Env + rt::Files + Processes<Started = SystemProcess> + Print + AllocGlobal,
+    W: Write + Drop,
+>(rt: &R, standard_error: W) -> ExitCode {
     let mut says = StdSink::new(standard_error);
     let words = match words_of(rt) {
         Ok(words) => words,

@@ -1,6 +1,6 @@
 //! Calls over what is in memory.
 
-use crate::keeping::KeepingSpawner;
+use crate::keeping::{Finished, KeepingSpawner};
 use lt_call::{Status, lurette};
 use lt_io::{Calls, MemFiles, MemSink, MemSpawner, ScriptLink};
 use std::alloc::{AllocError, Global};
@@ -105,7 +105,8 @@ impl<'a> Outside<'a> {
         };
         Ok(KeepingSpawner {
             programs,
-            sent: Vec::new(alloc),
+            finished: Finished::Nobody,
+            faults: 0,
         })
     }
 }
@@ -163,7 +164,13 @@ fn call_with(alloc: Global, words: &[String], outside: &Outside<'_>) -> Result<C
         &mut trace,
         &mut says,
     );
-    let KeepingSpawner { programs, sent } = spawner;
+    let KeepingSpawner {
+        programs,
+        finished,
+        ..
+    } = spawner;
+    let mut sent = Vec::new(alloc);
+    finished.write_sent(&mut sent)?;
     Ok(Called {
         status,
         trace,

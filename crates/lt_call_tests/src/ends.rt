@@ -1,6 +1,7 @@
 //! How runs end.
 
 use crate::calling::{HEADER, INTEGER, Run, TOGGLE, check_runs, ended, stuck};
+use std::alloc::Global;
 use std::test::Fail;
 
 // A run of the toggle.
@@ -156,18 +157,38 @@ fn arithmetic_faults_end_runs(rt: HostRuntime) -> Result<(), Fail> {
     )
 }
 
-#[test]
-fn an_instant_that_offers_too_much_ends_a_run(rt: HostRuntime) -> Result<(), Fail> {
-    let mut text = String::from_str(rt.alloc(), "node n() returns (b: bool) = {")?;
-    for _ in 0..60 {
+// Sixty choices of two, side by side, behind these declarations; the last one has this part.
+fn sixty_choices(alloc: Global, declared: &str, last: &str) -> Result<String, Fail> {
+    let mut text = String::from_str(alloc, declared)?;
+    text.push_str("node n() returns (b: bool) = {")?;
+    for _ in 1..60 {
         text.push_str(" &> { |1: b |1: b }")?;
     }
-    text.push_str(" }")?;
+    text.push_str(" &> { |1: b |1: ")?;
+    text.push_str(last)?;
+    text.push_str(" } }")?;
+    Ok(text)
+}
+
+#[test]
+fn an_instant_that_offers_too_much_ends_a_run(rt: HostRuntime) -> Result<(), Fail> {
+    let choices = sixty_choices(rt.alloc(), "", "b")?;
+    // What the last side may raise is counted once, however many sides stand before it.
+    let raising = sixty_choices(rt.alloc(), "exception stop ", "raise stop")?;
     let end = Run {
         header: HEADER,
-        ..stuck(&text, "#end toolarge 1\n", 14, "lurette: toolarge 1\n")
+        ..stuck(&choices, "#end toolarge 1\n", 14, "lurette: toolarge 1\n")
     };
-    check_runs(&rt, &[end])
+    check_runs(
+        &rt,
+        &[
+            end,
+            Run {
+                text: &raising,
+                ..end
+            },
+        ],
+    )
 }
 
 #[test]

@@ -1,38 +1,97 @@
 //! Programs in memory that keep what they were sent.
 
-ghost use Rattle.std.specs.Prelude.{None, Some};
+ghost use Rattle.std.specs.Prelude.{Some};
+ghost use Rattle.lt_call_tests.specs.Keeping.{closed_by};
 ghost use Rattle.lt_io.specs.Files.{names_of};
 ghost use Rattle.lt_io.specs.MemSpawner.{lefts_of};
 
-use lt_io::{MemSpawner, ScriptLink, Spawner, StartRefusal};
-use std::alloc::Global;
+use lt_io::{Failed, Link, MemSpawner, ScriptLink, Spawner, StartRefusal};
+use std::alloc::{AllocError, Global};
+use std::mem;
 
-// Programs in memory, and what those that were finished had been sent, with a line `.` behind each.
+// The links that were finished.
+#[derive(Drop)]
+pub enum Finished {
+    Nobody,
+
+    // This one, behind others.
+    Behind(Box<Finished>, ScriptLink),
+}
+
+impl Finished {
+    // Writes what each link was sent, in the order in which they were finished, with a line `.` behind it.
+    pub fn write_sent(&self, text: &mut Vec<u8>) -> Result<(), AllocError> {
+        if let Finished::Behind(others, last) = self {
+            others.write_sent(text)?;
+            text.extend_from_slice(last.sent())?;
+            text.extend_from_slice(b".\n")?;
+        }
+        Ok(())
+    }
+}
+
+// A link in memory, with the place where the others will stand that are finished before it.
+#[derive(Drop)]
+pub struct KeptLink {
+    link: ScriptLink,
+    place: Box<Finished>,
+}
+
+impl Link for KeptLink {
+    ghost sent = { λ l. Some l.link.sent };
+
+    ghost left = { λ l. Some l.link.left };
+
+    ghost faults = { λ l. l.link.calls.faults };
+
+    fn send(&mut self, bytes: &[u8]) -> Result<(), Failed> {
+        self.link.send(bytes)
+    }
+
+    fn recv(&mut self, into: &mut [u8]) -> Result<usize, Failed> {
+        self.link.recv(into)
+    }
+}
+
+// Programs in memory, the links of those that were finished, and how many calls failed, of those here and of those of
+// finished links. It tells what finished links leave behind.
 #[derive(Drop)]
 pub struct KeepingSpawner {
     pub programs: MemSpawner,
-    pub sent: Vec<u8>,
+    pub finished: Finished,
+    pub faults: u64,
 }
 
 impl Spawner for KeepingSpawner {
-    type L = ScriptLink;
+    type L = KeptLink;
 
     ghost coming = { λ s command. Some (lefts_of s.programs.links.items command) };
 
-    ghost closed = { λ _. None };
+    ghost closed = { λ s. Some (closed_by s.finished) };
 
     ghost asked = { λ s. names_of s.programs.asked.items };
 
-    ghost faults = { λ s. s.programs.calls.faults };
+    ghost faults = { λ s. s.faults };
 
-    fn start(&mut self, alloc: Global, command: &str) -> Result<ScriptLink, StartRefusal> {
-        self.programs.start(alloc, command)
+    // The memory for a link is taken here, so that `finish` needs none.
+    fn start(&mut self, alloc: Global, command: &str) -> Result<KeptLink, StartRefusal> {
+        let Ok(place) = Box::new(alloc, Finished::Nobody) else {
+            return Err(StartRefusal::Memory);
+        };
+        match self.programs.start(alloc, command) {
+            Ok(link) => Ok(KeptLink { link, place }),
+            Err(StartRefusal::Failed) => {
+                self.faults = self.faults.saturating_add(1);
+                Err(StartRefusal::Failed)
+            }
+            Err(StartRefusal::Memory) => Err(StartRefusal::Memory),
+        }
     }
 
-    // Where memory runs out, a part is kept.
-    fn finish(&mut self, link: ScriptLink) {
-        let _ = self.sent.extend_from_slice(link.sent());
-        let _ = self.sent.extend_from_slice(b".\n");
-        self.programs.finish(link);
+    fn finish(&mut self, link: KeptLink) {
+        let KeptLink { link, mut place } = link;
+        self.faults = self.faults.saturating_add(link.faults());
+        *place = mem::replace(&mut self.finished, Finished::Nobody);
+        self.finished = Finished::Behind(place, link);
     }
 }

@@ -11,13 +11,14 @@ mod drawn;
 #[cfg(test)]
 mod drawn_loops;
 #[cfg(test)]
+mod echoing;
+#[cfg(test)]
 mod ends;
 #[cfg(test)]
 mod failing;
 #[cfg(test)]
 mod failing_sides;
-#[cfg(test)]
-mod keeping;
+pub mod keeping;
 #[cfg(test)]
 mod large;
 #[cfg(test)]
@@ -40,3 +41,5 @@ mod replayed;
 mod replies;
 #[cfg(test)]
 mod sides;
+#[cfg(test)]
+mod stressed;

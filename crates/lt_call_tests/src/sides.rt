@@ -241,8 +241,8 @@ fn the_controller_is_started_first(rt: HostRuntime) -> Result<(), Fail> {
         programs: &programs,
         ..Outside::sound(ECHO.as_bytes())
     };
-    // The word behind an option is its own, whatever it is.
-    let options = ["--oracle", "./an oracle", "--sut", "--sut", "-l", "1"];
+    // Behind `=` a command may begin with a dash.
+    let options = ["--oracle", "./an oracle", "--sut=--sut", "-l", "1"];
     let call = run_of(rt.alloc(), &options, &outside)?;
     check_commands(&rt, &call, &["--sut", "./an oracle"]);
     assert_eq!(rt; call.status.code(), 0);

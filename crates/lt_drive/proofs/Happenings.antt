@@ -5,12 +5,13 @@ use Rattle.std.specs.Io.KnownBytes.{Appends}
 use Rattle.std.specs.declared.option.Option.{Option}
 use Rattle.lt_io.specs.Causes.{Rose}
 use Rattle.lt_rif.specs.declared.end.Who.{Who}
+use Rattle.lt_rif.specs.declared.end.Who.TheVariants as who
 use Rattle.lt_loop.specs.Play.{Piece, destination_of, step_count}
-use Rattle.lt_loop.specs.Side.{Rest, bytes_then, unless_closed}
+use Rattle.lt_loop.specs.Side.{Rest, bytes_then, silent, unless_closed}
 use Rattle.lt_loop.specs.declared.event.Destination.{Destination}
 use Rattle.lt_loop.specs.declared.event.Destination.TheVariants as destination
 use Rattle.lt_loop.specs.declared.event.PieceKind.TheVariants as piece_kind
-use Rattle.lt_drive.specs.Outside.{Happens, IsReceived, Outside, Received, Sink, bytes_to, faults_of, given_to, has_failed, piece, received_then, silence, text_to}
+use Rattle.lt_drive.specs.Outside.{GoesOnFitting, Happens, IsReceived, Link, Outside, Received, Sink, bytes_to, faults_of, given_to, has_failed, piece, received_then, silence, text_to}
 
 -- the text of some pieces and of further ones
 pub text_to-append : (d : Destination) (ps qs : List Piece) → text_to d (ps ++ qs) ≡ text_to d ps ++ text_to d qs
@@ -36,6 +37,13 @@ received_behind bytes false q rest = λ i. record { bytes = append_assoc bytes q
 pub received_both : (r q rest : Rest) → received_then (received_then r q) rest ≡ received_then r (received_then q rest)
 received_both r q rest = received_behind r.bytes r.is_closed q rest
 
+received_none : (bytes : List ℕ) (closed : Bool) → received_then (record { bytes = bytes; is_closed = closed }) silent ≡ record { bytes = bytes; is_closed = closed }
+received_none bytes true = λ i. record { bytes = append-nil bytes i; is_closed = true }
+received_none bytes false = λ i. record { bytes = append-nil bytes i; is_closed = false }
+
+pub received_nothing : (r : Rest) → received_then r silent ≡ r
+received_nothing r = received_none r.bytes r.is_closed
+
 -- where nothing stands in all, nothing stands behind
 pub no_back : (xs ys : List ℕ) → xs ++ ys ≡ [] → ys ≡ []
 no_back [] ys e = e
@@ -57,6 +65,22 @@ is_received_both (Some x) None c r q first second = absurd first
 is_received_both (Some x) (Some y) None r q first second = absurd second
 is_received_both (Some x) (Some y) (Some z) r q first second = told_both r.bytes x y z r.is_closed q first second
 
+-- what fits, where something happened and then more
+fits_both : (a b c : Link) (text more : List ℕ) (r q : Rest) → GoesOnFitting a b text r → GoesOnFitting b c more q → GoesOnFitting a c (text ++ more) (received_then r q)
+fits_both a b c text more r q first second s x fits =
+    let all : c.fits ((s ++ text) ++ more) (received_then (received_then x r) q).bytes (received_then (received_then x r) q).is_closed ≡ true = second (s ++ text) (received_then x r) (first s x fits) in
+    subst (λ (t : List ℕ). c.fits t (received_then x (received_then r q)).bytes (received_then x (received_then r q)).is_closed ≡ true) (append_assoc s text more)
+    (subst (λ (y : Rest). c.fits ((s ++ text) ++ more) y.bytes y.is_closed ≡ true) (received_both x r q) all)
+
+fits_to : (a b : Link) (d : Destination) (ps qs : List Piece) (r : Rest) → GoesOnFitting a b (text_to d ps ++ text_to d qs) r → GoesOnFitting a b (text_to d (ps ++ qs)) r
+fits_to a b d ps qs r fits = subst (λ (t : List ℕ). GoesOnFitting a b t r) (sym (text_to-append d ps qs)) fits
+
+-- nothing was sent and nothing received
+pub fits_same : (a : Link) → GoesOnFitting a a [] silent
+fits_same a s x fits =
+    subst (λ (t : List ℕ). a.fits t (received_then x silent).bytes (received_then x silent).is_closed ≡ true) (sym (append-nil s))
+    (subst (λ (y : Rest). a.fits s y.bytes y.is_closed ≡ true) (sym (received_nothing x)) fits)
+
 -- who didn't fail has no new fault
 calm_at : (d : Destination) (before now : ℕ) → MatchBool (has_failed d None false) (Rose before now) (now ≡ before) → now ≡ before
 calm_at destination.Controller before now h = h
@@ -72,6 +96,10 @@ pub happens_both : (old mid new : Outside) (r q : Received) (ps qs : List Piece)
 happens_both old mid new r q ps qs fault trace first second = record {
   controller = is_received_both old.controller.left mid.controller.left new.controller.left r.controller q.controller first.controller second.controller;
   oracle = is_received_both old.oracle.left mid.oracle.left new.oracle.left r.oracle q.oracle first.oracle second.oracle;
+  controller_fits = λ fine. fits_to old.controller new.controller destination.Controller ps qs (received_then r.controller q.controller)
+      (fits_both old.controller mid.controller new.controller (text_to destination.Controller ps) (text_to destination.Controller qs) r.controller q.controller (first.controller_fits refl) (second.controller_fits fine));
+  oracle_fits = λ fine. fits_to old.oracle new.oracle destination.Oracle ps qs (received_then r.oracle q.oracle)
+      (fits_both old.oracle mid.oracle new.oracle (text_to destination.Oracle ps) (text_to destination.Oracle qs) r.oracle q.oracle (first.oracle_fits refl) (second.oracle_fits fine));
   gives = λ d. subst (λ (t : List ℕ). Appends (given_to d old) (given_to d new) t) (sym (text_to-append d ps qs)) (Appends-trans (given_to d old) (given_to d mid) (given_to d new) (text_to d ps) (text_to d qs) (first.gives d) (second.gives d));
   blames = λ d. blamed_both (has_failed d fault trace) (faults_of d old) (faults_of d mid) (faults_of d new) (calm_at d (faults_of d old) (faults_of d mid) (first.blames d)) (second.blames d);
 }
@@ -86,6 +114,8 @@ pub nothing_happens : (old : Outside) → Happens old old silence [] None false
 nothing_happens old = record {
   controller = nothing_received old.controller.left;
   oracle = nothing_received old.oracle.left;
+  controller_fits = λ fine. fits_same old.controller;
+  oracle_fits = λ fine. fits_same old.oracle;
   gives = λ d. Appends-nil (given_to d old);
   blames = elim [ destination.Controller ↦ refl | destination.Oracle ↦ refl | destination.Trace ↦ refl ];
 }
@@ -98,6 +128,14 @@ line_to d ps old mid new fault trace text first second =
     text_to-append d ps (piece piece_kind.EndLine text ∷ []) ∙ ap (λ (t : List ℕ). text_to d ps ++ t) (append-nil (bytes_to d destination.Trace text)) in
     subst (λ (t : List ℕ). Appends (given_to d old) (given_to d new) t) (sym joined) (Appends-trans (given_to d old) (given_to d mid) (given_to d new) (text_to d ps) (bytes_to d destination.Trace text) first second)
 
+-- an end line goes to no side
+fits_line : (a b : Link) (d : Destination) (ps : List Piece) (r : Rest) (text : List ℕ) → bytes_to d destination.Trace text ≡ [] → GoesOnFitting a b (text_to d ps) r →
+    GoesOnFitting a b (text_to d (ps ++ piece piece_kind.EndLine text ∷ [])) r
+fits_line a b d ps r text none fits =
+    let joined : text_to d (ps ++ piece piece_kind.EndLine text ∷ []) ≡ text_to d ps =
+    text_to-append d ps (piece piece_kind.EndLine text ∷ []) ∙ ap (λ (t : List ℕ). text_to d ps ++ (t ++ [])) none ∙ append-nil (text_to d ps) in
+    subst (λ (t : List ℕ). GoesOnFitting a b t r) (sym joined) fits
+
 -- an end line was written behind what happened
 pub line_written : (old mid : Outside) (new : Sink) (r : Received) (ps : List Piece) (fault : Option Who) (text : List ℕ) → Happens old mid r ps fault false →
     Appends mid.trace.written new.written text → new.faults ≡ mid.trace.faults → Happens old (record mid { trace = new }) r (ps ++ piece piece_kind.EndLine text ∷ []) fault false
@@ -106,6 +144,8 @@ line_written old mid new r ps fault text h wrote calm =
     record {
       controller = h.controller;
       oracle = h.oracle;
+      controller_fits = λ fine. fits_line old.controller mid.controller destination.Controller ps r.controller text refl (h.controller_fits fine);
+      oracle_fits = λ fine. fits_line old.oracle mid.oracle destination.Oracle ps r.oracle text refl (h.oracle_fits fine);
       gives = elim [
         | destination.Controller ↦ line_to destination.Controller ps old mid after fault false text (h.gives destination.Controller) (Appends-nil mid.controller.sent)
         | destination.Oracle ↦ line_to destination.Oracle ps old mid after fault false text (h.gives destination.Oracle) (Appends-nil mid.oracle.sent)
@@ -122,6 +162,8 @@ line_unwritten old mid new r ps fault front h wrote rose =
     record {
       controller = h.controller;
       oracle = h.oracle;
+      controller_fits = λ fine. fits_line old.controller mid.controller destination.Controller ps r.controller front refl (h.controller_fits fine);
+      oracle_fits = λ fine. fits_line old.oracle mid.oracle destination.Oracle ps r.oracle front refl (h.oracle_fits fine);
       gives = elim [
         | destination.Controller ↦ line_to destination.Controller ps old mid after fault false front (h.gives destination.Controller) (Appends-nil mid.controller.sent)
         | destination.Oracle ↦ line_to destination.Oracle ps old mid after fault false front (h.gives destination.Oracle) (Appends-nil mid.oracle.sent)

@@ -1,15 +1,16 @@
 -- What happens where a link is read.
-use Rattle.std.proofs.Common.{◌≡◌, ℕ, Bool, true, false, List, [], None, Some, MatchBool, refl, sym, ◌∙◌, append-nil}
+use Rattle.std.proofs.Common.{◌≡◌, ℕ, Bool, true, false, List, [], ◌++◌, None, Some, MatchBool, refl, sym, ◌∙◌, append-nil}
 use Rattle.std.proofs.KnownBytes.{Appends-nil}
 use Rattle.std.specs.Io.KnownBytes.{Appends, Consumes, IsAtEnd, Keeps}
 use Rattle.std.specs.declared.option.Option.{Option}
 use Rattle.lt_io.specs.Causes.{Rose}
+use Rattle.lt_io.specs.Fitting.{FitsReceived}
 use Rattle.lt_rif.specs.declared.end.Who.{Who}
 use Rattle.lt_rif.specs.declared.end.Who.TheVariants as who
 use Rattle.lt_loop.specs.Side.{Rest, ending, silent}
 use Rattle.lt_loop.specs.declared.event.Destination.TheVariants as destination
-use Rattle.lt_drive.specs.Outside.{Happens, IsReceived, Link, Outside, has_failed}
-use Rattle.lt_drive.proofs.Happenings.{nothing_received}
+use Rattle.lt_drive.specs.Outside.{GoesOnFitting, Happens, IsReceived, Link, Outside, has_failed, is_fault_of, received_then}
+use Rattle.lt_drive.proofs.Happenings.{fits_same, nothing_received}
 
 -- a side, where it failed
 abbrev pub failing : Bool → Who → Option Who
@@ -32,28 +33,49 @@ spared_controller : (b : Bool) (count : ℕ) → MatchBool (has_failed destinati
 spared_controller true count = refl
 spared_controller false count = refl
 
+calm_controller : (b : Bool) → is_fault_of who.Controller (failing b who.Controller) ≡ false → b ≡ false
+calm_controller true e = e
+calm_controller false e = e
+
+calm_oracle : (b : Bool) → is_fault_of who.Oracle (failing b who.Oracle) ≡ false → b ≡ false
+calm_oracle true e = e
+calm_oracle false e = e
+
 -- receiving sends nothing
 pub kept_sent : (a b : Option (List ℕ)) → Keeps a b → Appends a b []
 kept_sent None b kept = tt
 kept_sent (Some x) None kept = absurd kept
 kept_sent (Some x) (Some y) kept = kept ∙ sym (append-nil x)
 
+-- what fits a link of which this was received
+fits_received : (a b : Link) (bytes : List ℕ) (is_end : Bool) → FitsReceived a.fits b.fits bytes is_end → (s : List ℕ) (before : List ℕ) (is_closed : Bool) → a.fits s before is_closed ≡ true →
+    let all : Rest = received_then (record { bytes = before; is_closed = is_closed }) (record { bytes = bytes; is_closed = is_end }) in b.fits (s ++ []) all.bytes all.is_closed ≡ true
+fits_received a b bytes is_end fits s before true fit = rw (append-nil s, append-nil before) (fits.1 s before fit)
+fits_received a b bytes is_end fits s before false fit = rw (append-nil s) (fits.0 s before fit)
+
+pub fits_read : (a b : Link) (bytes : List ℕ) (is_end : Bool) → FitsReceived a.fits b.fits bytes is_end → GoesOnFitting a b [] (record { bytes = bytes; is_closed = is_end })
+fits_read a b bytes is_end fits s r fit = fits_received a b bytes is_end fits s r.bytes r.is_closed fit
+
 -- the controller's link was read
-pub controller_read : (old : Outside) (l : Link) (r : Rest) (b : Bool) → IsReceived old.controller.left l.left r → Keeps old.controller.sent l.sent →
+pub controller_read : (old : Outside) (l : Link) (r : Rest) (b : Bool) → IsReceived old.controller.left l.left r → (b ≡ false → GoesOnFitting old.controller l [] r) → Keeps old.controller.sent l.sent →
     MatchBool b (Rose old.controller.faults l.faults) (l.faults ≡ old.controller.faults) → Happens old (record old { controller = l }) (record { controller = r; oracle = silent }) [] (failing b who.Controller) false
-controller_read old l r b received kept blames = record {
+controller_read old l r b received fits kept blames = record {
   controller = received;
   oracle = nothing_received old.oracle.left;
+  controller_fits = λ fine. fits (calm_controller b fine);
+  oracle_fits = λ fine. fits_same old.oracle;
   gives = elim [ destination.Controller ↦ kept_sent old.controller.sent l.sent kept | destination.Oracle ↦ Appends-nil old.oracle.sent | destination.Trace ↦ Appends-nil old.trace.written ];
   blames = elim [ destination.Controller ↦ blamed_controller b old.controller.faults l.faults blames | destination.Oracle ↦ spared_oracle b old.oracle.faults | destination.Trace ↦ refl ];
 }
 
 -- the oracle's link was read
-pub oracle_read : (old : Outside) (l : Link) (r : Rest) (b : Bool) → IsReceived old.oracle.left l.left r → Keeps old.oracle.sent l.sent →
+pub oracle_read : (old : Outside) (l : Link) (r : Rest) (b : Bool) → IsReceived old.oracle.left l.left r → (b ≡ false → GoesOnFitting old.oracle l [] r) → Keeps old.oracle.sent l.sent →
     MatchBool b (Rose old.oracle.faults l.faults) (l.faults ≡ old.oracle.faults) → Happens old (record old { oracle = l }) (record { controller = silent; oracle = r }) [] (failing b who.Oracle) false
-oracle_read old l r b received kept blames = record {
+oracle_read old l r b received fits kept blames = record {
   controller = nothing_received old.controller.left;
   oracle = received;
+  controller_fits = λ fine. fits_same old.controller;
+  oracle_fits = λ fine. fits (calm_oracle b fine);
   gives = elim [ destination.Controller ↦ Appends-nil old.controller.sent | destination.Oracle ↦ kept_sent old.oracle.sent l.sent kept | destination.Trace ↦ Appends-nil old.trace.written ];
   blames = elim [ destination.Controller ↦ spared_controller b old.controller.faults | destination.Oracle ↦ blamed_oracle b old.oracle.faults l.faults blames | destination.Trace ↦ refl ];
 }

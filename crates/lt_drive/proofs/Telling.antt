@@ -177,13 +177,13 @@ module _ {State : Type 0} where
       broken_off = broken_off_at (destination_of kind) refl
 
   -- nothing could be received of a side
-  pub unheard_driven : (s core : Standing State) (old mid : Outside) (trace : Sink) (w : Who) (d : Driven) → Happens old mid silence [] (Some w) false →
+  pub unheard_driven : (s core : Standing State) (old mid : Outside) (trace : Sink) (w : Who) (d : Driven) → ((c o : Rest) → IsUnended (resume s c o)) → Happens old mid silence [] (Some w) false →
       Fails s w mid.trace trace core d → IsDriven (course_of s) old (record mid { trace = trace }) core d
-  unheard_driven s core old mid trace w d happens fails =
+  unheard_driven s core old mid trace w d more happens fails =
       let none : s.written + 1 ≡ s.written + 0 + 1 = omega arith in
       let line : piece piece_kind.EndLine (fault_text s w) ≡ fault_line (course_of s) [] w = ap (λ (m : ℕ). piece piece_kind.EndLine (closing_text s.plan (end.Device w) m)) none in
       fault_driven (course_of s) old mid trace silence [] w s core d
-      (unheard w [] (λ c o. (play_on (course_of s) silence c o, refl)) (ap (λ (p : Piece). p ∷ []) line)) happens (refl, omega arith) fails
+      (unheard w [] (λ c o. (play_on (course_of s) silence c o, refl, more c o)) (ap (λ (p : Piece). p ∷ []) line)) happens (refl, omega arith) fails
 
   -- a core was told of the fault of a side
   pub fault_told : FaultsAreCuts State → (s new : Standing State) (w : Who) (a : Answer) → listens s w ≡ true → Answers s (failed_side w) a new →

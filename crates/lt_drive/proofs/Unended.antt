@@ -1,17 +1,17 @@
 -- Where memory may run out, the play isn't over.
-use Rattle.std.proofs.Common.{◌≡◌, ◌≢◌, ◌+◌, ◌<◌, ℕ, zero, suc, Bool, true, false, List, [], ◌∷◌, None, refl, ap, sym, ◌∙◌, arith, if◌then◌else◌}
+use Rattle.std.proofs.Common.{◌≡◌, ◌≢◌, ◌+◌, ◌<◌, ℕ, zero, suc, Bool, true, false, List, [], ◌∷◌, None, refl, ap, sym, ◌∙◌, subst, arith, if◌then◌else◌}
 use Rattle.lt_num.specs.declared.value.Value.{Value}
 use Rattle.lt_rif.specs.Reply.{Stream, Reply, whole, needs, short, malformed}
 use Rattle.lt_rif.specs.declared.end.End.{End}
 use Rattle.lt_rif.specs.declared.end.End.TheVariants as end
 use Rattle.lt_rif.specs.declared.end.Who.{Who}
-use Rattle.lt_loop.specs.Event.{Told, turn, bytes, ended_side, failed, listens, play_due, MayStarve}
+use Rattle.lt_loop.specs.Event.{Told, turn, bytes, ended_side, failed, listens, play_due, IsAwaited, MayStarve}
 use Rattle.lt_rif.specs.declared.end.Who.TheVariants as who
 use Rattle.lt_loop.specs.Machine.{Instant, Rules, over, values}
 use Rattle.lt_loop.specs.Plan.{Plan}
-use Rattle.lt_loop.specs.Play.{Made, Piece, Play, Stop, controller_asked, controller_read, controller_reply, ended, ends, instant_made, made_by, needs_byte, oracle_asked, play_from, starves}
-use Rattle.lt_loop.specs.Side.{Rest, side_stream}
-use Rattle.lt_loop.specs.Standing.{Standing, resume, resume_in}
+use Rattle.lt_loop.specs.Play.{Made, Piece, Play, Stop, controller_asked, controller_read, controller_reply, ended, ends, instant_made, made_by, needs_byte, oracle_asked, oracle_read, play_from, starves, stepped, holds}
+use Rattle.lt_loop.specs.Side.{Rest, side_answer, side_stream}
+use Rattle.lt_loop.specs.Standing.{Standing, at_hand, behind_step, resume, resume_in}
 use Rattle.lt_loop.specs.declared.phase.Phase.{Phase}
 use Rattle.lt_loop.specs.declared.phase.Phase.TheVariants as phase
 use Rattle.lt_loop.specs.declared.setup.Talk.{Talk}
@@ -38,6 +38,16 @@ read_controller plan made go (whole y left) o = asked_oracle plan made y (go y l
 read_controller plan made go needs o = other_stop _ (needs_byte who.Controller) refl (λ e h. cc h)
 read_controller plan made go (short n) o = some_piece _ _ _ refl
 read_controller plan made go (malformed f place) o = some_piece _ _ _ refl
+
+judged : (plan : Plan) (made : Made) (y : List Value) (verdict : Bool) (rest : Play) → IsUnended (stepped plan made y verdict rest)
+judged plan made y true rest = some_piece _ _ _ refl
+judged plan made y false rest = some_piece _ _ _ refl
+
+read_oracle : (plan : Plan) (made : Made) (y : List Value) (go : Stream → Play) (r : Reply) → IsUnended (oracle_read plan made y go r)
+read_oracle plan made y go (whole vs o) = judged plan made y (holds vs) (go o)
+read_oracle plan made y go needs = other_stop _ (needs_byte who.Oracle) refl (λ e h. cc h)
+read_oracle plan made y go (short n) = some_piece _ _ _ refl
+read_oracle plan made y go (malformed f place) = some_piece _ _ _ refl
 
 asked_controller : (t : Talk) (plan : Plan) (made : Made) (go : List Value → Stream → Stream → Play) (c o : Stream) → IsUnended (controller_asked t plan made go c o)
 asked_controller talk.Nobody plan made go c o = asked_oracle plan made [] (go [] c) o
@@ -86,3 +96,10 @@ module _ {State : Type 0} where
   starved_unended phase.Oracle s c o e = absurd (cc e)
   starved_unended (phase.Over x) s c o e = absurd (cc e)
   starved_unended phase.Starved s c o e = other_stop _ starves refl (λ x h. cc h)
+
+  -- where a side is waited for
+  pub awaited_unended : (s : Standing State) (w : Who) → IsAwaited s w → (c o : Rest) → IsUnended (resume s c o)
+  awaited_unended s who.Controller waits c o =
+      subst (λ (p : Phase). IsUnended (resume_in p s c o)) (sym waits.0) (read_controller s.plan (at_hand s) (behind_step s) (side_answer s.controller c) (side_stream s.oracle o))
+  awaited_unended s who.Oracle waits c o =
+      subst (λ (p : Phase). IsUnended (resume_in p s c o)) (sym waits.0) (read_oracle s.plan (at_hand s) s.inputs (behind_step s s.inputs (side_stream s.controller c)) (side_answer s.oracle o))

@@ -53,7 +53,7 @@ module _ (k rest : Course) (r : Received) (ps : List Piece) (leads : Leads k r p
 
   gives_both : (q : Received) (given : List Piece) (fault : Option Who) → GivesOut rest q given fault → GivesOut k (both_received r q) (ps ++ given) fault
   gives_both q given _ (calm begins) = calm (begins_both q given begins)
-  gives_both q given _ (unheard w qs begins is) = unheard w (ps ++ qs) (begins_both q qs begins)
+  gives_both q given _ (unheard w qs begins is) = unheard w (ps ++ qs) (begins_unended_both q qs begins)
       (ap (λ (t : List Piece). ps ++ t) is ∙ ap (λ (p : Piece). ps ++ (qs ++ p ∷ [])) (line_both qs w) ∙ sym (append_assoc ps qs (fault_line k (ps ++ qs) w ∷ [])))
   gives_both q given _ (unsent w qs kind front back goes begins is) = unsent w (ps ++ qs) kind front back goes
       (subst (Begins k (both_received r q)) (sym (append_assoc ps qs (piece kind (front ++ back) ∷ []))) (begins_both q (qs ++ piece kind (front ++ back) ∷ []) begins))

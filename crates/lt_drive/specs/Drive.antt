@@ -65,8 +65,8 @@ fault_line k ps w = piece piece_kind.EndLine (closing_text k.plan (end.Device w)
 pub data GivesOut (k : Course) (received : Received) (given : List Piece) : Option Who → Type 0 where
   -- no side has failed: they are the first pieces of the play
   calm : Begins k received given → GivesOut k received given None
-  -- nothing could be received of a side: behind the first pieces of the play comes the end line of its fault
-  unheard : (w : Who) (ps : List Piece) → Begins k received ps → given ≡ ps ++ fault_line k ps w ∷ [] → GivesOut k received given (Some w)
+  -- nothing could be received of a side: behind the first pieces of the play, which isn't over, comes the end line of its fault
+  unheard : (w : Who) (ps : List Piece) → BeginsUnended k received ps → given ≡ ps ++ fault_line k ps w ∷ [] → GivesOut k received given (Some w)
   -- a piece of the play could not be sent to its side, but for a front: behind that comes the end line of its fault
   unsent : (w : Who) (ps : List Piece) (kind : PieceKind) (front rest : List ℕ) → destination_of kind ≡ side w →
       Begins k received (ps ++ piece kind (front ++ rest) ∷ []) → given ≡ ps ++ piece kind front ∷ fault_line k ps w ∷ [] → GivesOut k received given (Some w)

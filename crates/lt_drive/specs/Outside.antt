@@ -11,14 +11,16 @@ use Rattle.lt_loop.specs.declared.event.PieceKind.{PieceKind}
 use Rattle.lt_rif.specs.declared.end.Who.{Who}
 use Rattle.lt_rif.specs.declared.end.Who.TheVariants as who
 
--- a link: the bytes that it was sent and those that it has left, where they are told, and the faults counted
+-- a link: the bytes that it was sent and those that it has left, where they are told, the faults counted, and whether it
+-- may stand so where these bytes were sent in all and these received in all, and the end was received or not
 pub record Link : Type 0 where
   pub sent : Option (List ℕ)
   pub left : Option (List ℕ)
   pub faults : ℕ
+  pub fits : List ℕ → List ℕ → Bool → Bool
 
-abbrev pub link : Option (List ℕ) → Option (List ℕ) → ℕ → Link
-link sent left faults = record { sent = sent; left = left; faults = faults }
+abbrev pub link : Option (List ℕ) → Option (List ℕ) → ℕ → (List ℕ → List ℕ → Bool → Bool) → Link
+link sent left faults fits = record { sent = sent; left = left; faults = faults; fits = fits }
 
 -- a sink: the bytes written, where they are told, and the faults counted
 pub record Sink : Type 0 where
@@ -86,6 +88,12 @@ IsReceived None now received = Unit {0}
 IsReceived (Some bytes) None received = ⊥
 IsReceived (Some bytes) (Some rest) received = (bytes ≡ received.bytes ++ rest) × (received.is_closed ≡ true → rest ≡ [])
 
+-- What fitted a link still fits it where these bytes were sent, and this was received.
+abbrev pub GoesOnFitting : Link → Link → List ℕ → Rest → Type 0
+GoesOnFitting old new sent received =
+    (s : List ℕ) (r : Rest) → old.fits s r.bytes r.is_closed ≡ true →
+    let all : Rest = received_then r received in new.fits (s ++ sent) all.bytes all.is_closed ≡ true
+
 -- whether it was this side that failed, if one did
 abbrev pub is_fault_of : Who → Option Who → Bool
 is_fault_of who.Controller (Some who.Controller) = true
@@ -104,6 +112,9 @@ pub record Happens (old new : Outside) (received : Received) (ps : List Piece) (
   -- the bytes came from the links
   pub controller : IsReceived old.controller.left new.controller.left received.controller
   pub oracle : IsReceived old.oracle.left new.oracle.left received.oracle
+  -- what fitted a side still fits it, unless the side failed
+  pub controller_fits : is_fault_of who.Controller fault ≡ false → GoesOnFitting old.controller new.controller (text_to destination.Controller ps) received.controller
+  pub oracle_fits : is_fault_of who.Oracle fault ≡ false → GoesOnFitting old.oracle new.oracle (text_to destination.Oracle ps) received.oracle
   -- each destination was given the bytes of the pieces that go there, where it tells what it was given
   pub gives : (d : Destination) → Appends (given_to d old) (given_to d new) (text_to d ps)
   -- its count of faults rose exactly where it failed

@@ -24,25 +24,25 @@ pub(crate) fn give<C: Link, O: Link, S: Sink>(
 ) -> Result<(), Failed>
     ensures whole { OnOk result (Happens
         (record {
-          controller = link (C.sent controller.old) (C.left controller.old) (C.faults controller.old);
-          oracle = link (O.sent oracle.old) (O.left oracle.old) (O.faults oracle.old);
+          controller = link (C.sent controller.old) (C.left controller.old) (C.faults controller.old) (C.fits controller.old);
+          oracle = link (O.sent oracle.old) (O.left oracle.old) (O.faults oracle.old) (O.fits oracle.old);
           trace = sink (S.written trace.old) (S.faults trace.old);
         })
         (record {
-          controller = link (C.sent controller.new) (C.left controller.new) (C.faults controller.new);
-          oracle = link (O.sent oracle.new) (O.left oracle.new) (O.faults oracle.new);
+          controller = link (C.sent controller.new) (C.left controller.new) (C.faults controller.new) (C.fits controller.new);
+          oracle = link (O.sent oracle.new) (O.left oracle.new) (O.faults oracle.new) (O.fits oracle.new);
           trace = sink (S.written trace.new) (S.faults trace.new);
         })
         silence (piece kind text.now ∷ []) None false) }
     ensures part { OnErr result (GivesPart kind text.now
         (record {
-          controller = link (C.sent controller.old) (C.left controller.old) (C.faults controller.old);
-          oracle = link (O.sent oracle.old) (O.left oracle.old) (O.faults oracle.old);
+          controller = link (C.sent controller.old) (C.left controller.old) (C.faults controller.old) (C.fits controller.old);
+          oracle = link (O.sent oracle.old) (O.left oracle.old) (O.faults oracle.old) (O.fits oracle.old);
           trace = sink (S.written trace.old) (S.faults trace.old);
         })
         (record {
-          controller = link (C.sent controller.new) (C.left controller.new) (C.faults controller.new);
-          oracle = link (O.sent oracle.new) (O.left oracle.new) (O.faults oracle.new);
+          controller = link (C.sent controller.new) (C.left controller.new) (C.faults controller.new) (C.fits controller.new);
+          oracle = link (O.sent oracle.new) (O.left oracle.new) (O.faults oracle.new) (O.fits oracle.new);
           trace = sink (S.written trace.new) (S.faults trace.new);
         })) }
     ensures no_controller { destination_of kind ≢ Destination.Controller → controller.new ≡ controller.old }

@@ -28,13 +28,13 @@ pub(crate) fn hear_controller<M: Machine, C: Link, O: Link, S: Sink>(
     requires { WantsTell (standing core.old) Wants.Controller }
     ensures proceeds { Proceeds (course_of (standing core.old))
         (record {
-          controller = link (C.sent controller.old) (C.left controller.old) (C.faults controller.old);
-          oracle = link (O.sent oracle.old) (O.left oracle.old) (O.faults oracle.old);
+          controller = link (C.sent controller.old) (C.left controller.old) (C.faults controller.old) (C.fits controller.old);
+          oracle = link (O.sent oracle.old) (O.left oracle.old) (O.faults oracle.old) (O.fits oracle.old);
           trace = sink (S.written trace.old) (S.faults trace.old);
         })
         (record {
-          controller = link (C.sent controller.new) (C.left controller.new) (C.faults controller.new);
-          oracle = link (O.sent oracle.new) (O.left oracle.new) (O.faults oracle.new);
+          controller = link (C.sent controller.new) (C.left controller.new) (C.faults controller.new) (C.fits controller.new);
+          oracle = link (O.sent oracle.new) (O.left oracle.new) (O.faults oracle.new) (O.fits oracle.new);
           trace = sink (S.written trace.new) (S.faults trace.new);
         })
         (standing core.new) result }
@@ -66,13 +66,13 @@ pub(crate) fn hear_oracle<M: Machine, C: Link, O: Link, S: Sink>(
     requires { WantsTell (standing core.old) Wants.Oracle }
     ensures proceeds { Proceeds (course_of (standing core.old))
         (record {
-          controller = link (C.sent controller.old) (C.left controller.old) (C.faults controller.old);
-          oracle = link (O.sent oracle.old) (O.left oracle.old) (O.faults oracle.old);
+          controller = link (C.sent controller.old) (C.left controller.old) (C.faults controller.old) (C.fits controller.old);
+          oracle = link (O.sent oracle.old) (O.left oracle.old) (O.faults oracle.old) (O.fits oracle.old);
           trace = sink (S.written trace.old) (S.faults trace.old);
         })
         (record {
-          controller = link (C.sent controller.new) (C.left controller.new) (C.faults controller.new);
-          oracle = link (O.sent oracle.new) (O.left oracle.new) (O.faults oracle.new);
+          controller = link (C.sent controller.new) (C.left controller.new) (C.faults controller.new) (C.fits controller.new);
+          oracle = link (O.sent oracle.new) (O.left oracle.new) (O.faults oracle.new) (O.fits oracle.new);
           trace = sink (S.written trace.new) (S.faults trace.new);
         })
         (standing core.new) result }
@@ -105,13 +105,13 @@ pub(crate) fn tell<M: Machine, C: Link, O: Link, S: Sink>(
     requires { IsWanted (standing core.old) (told event) }
     ensures proceeds { Proceeds (course_due (standing core.old) (told event.entry))
         (record {
-          controller = link (C.sent controller.old) (C.left controller.old) (C.faults controller.old);
-          oracle = link (O.sent oracle.old) (O.left oracle.old) (O.faults oracle.old);
+          controller = link (C.sent controller.old) (C.left controller.old) (C.faults controller.old) (C.fits controller.old);
+          oracle = link (O.sent oracle.old) (O.left oracle.old) (O.faults oracle.old) (O.fits oracle.old);
           trace = sink (S.written trace.old) (S.faults trace.old);
         })
         (record {
-          controller = link (C.sent controller.new) (C.left controller.new) (C.faults controller.new);
-          oracle = link (O.sent oracle.new) (O.left oracle.new) (O.faults oracle.new);
+          controller = link (C.sent controller.new) (C.left controller.new) (C.faults controller.new) (C.fits controller.new);
+          oracle = link (O.sent oracle.new) (O.left oracle.new) (O.faults oracle.new) (O.fits oracle.new);
           trace = sink (S.written trace.new) (S.faults trace.new);
         })
         (standing core.new) result }

@@ -10,6 +10,8 @@ pub mod MemFiles
 pub mod SinkState
 -- Texts that were written or sent in part.
 pub mod Sending
+-- What fits a link: bytes that it may have been sent, and bytes that may have been received of it.
+pub mod Fitting
 -- Programs that are started and finished: which links are to come, and what finished ones leave behind.
 pub mod Spawning
 -- A link in memory: what clauses see of it, how long a piece is, and where sending fails.

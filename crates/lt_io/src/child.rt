@@ -5,44 +5,56 @@ ghost use Rattle.lt_io.specs.Files.{names_of};
 
 use crate::asked::make_room;
 use crate::link::Link;
+use crate::pipes::Pipes;
 use crate::sink::Failed;
 use crate::spawner::{Spawner, StartRefusal};
-use crate::std_link::StdLink;
 use std::alloc::Global;
 use std::io::ErrorKind;
-use std::process::{Command, OpenProcess, Processes, Stdio};
+use std::process::{Command, Processes, Stdio, SystemProcess};
 use std::{io, process};
 
 /// A program of the system that was started, whose standard input is sent to, and whose standard output is
 /// received. Its standard error is that of this process. It tells nothing.
 ///
-/// A program that has ended, or has closed its standard input, makes `send` fail; no signal is raised.
+/// A program that has ended, or has closed its standard input, makes `send` fail; no signal is raised. One that writes
+/// while it is sent something is heard at once, up to 65,536 bytes that are kept. Where it writes more before it has read
+/// what it is sent, `send` fails too.
 #[derive(Drop)]
-pub struct Child<P: OpenProcess + Drop> {
-    process: process::Child<P>,
-    pipes: StdLink<P::Stdout, P::Stdin>,
+pub struct Child {
+    process: process::Child,
+    pipes: Pipes,
+    // How many calls failed, up to `u64::MAX`.
+    faults: u64,
 }
 
-impl<P: OpenProcess + Drop> Link for Child<P> {
+impl Link for Child {
     ghost sent = { λ _. None };
 
     ghost left = { λ _. None };
 
-    ghost faults = { λ c. c.pipes.sink.faults };
+    ghost faults = { λ c. c.faults };
 
     fn send(&mut self, bytes: &[u8]) -> Result<(), Failed> {
-        self.pipes.send(bytes)
+        let sent = self.pipes.send(bytes);
+        if sent.is_err() {
+            self.faults = self.faults.saturating_add(1);
+        }
+        sent
     }
 
     fn recv(&mut self, into: &mut [u8]) -> Result<usize, Failed> {
-        self.pipes.recv(into)
+        let received = self.pipes.receive(into);
+        if received.is_err() {
+            self.faults = self.faults.saturating_add(1);
+        }
+        received
     }
 }
 
 /// Starts programs of the system. A command is a program and its arguments, split at blanks; there are no
 /// quotes, and no shell reads it. It tells nothing of what comes.
 #[derive(Drop)]
-pub struct ChildSpawner<'a, R: Processes> {
+pub struct ChildSpawner<'a, R: Processes<Started = SystemProcess>> {
     rt: &'a R,
     /// The commands that were asked for, the last one at the end.
     pub asked: Vec<String>,
@@ -50,7 +62,7 @@ pub struct ChildSpawner<'a, R: Processes> {
     pub faults: u64,
 }
 
-impl<'a, R: Processes> ChildSpawner<'a, R> {
+impl<'a, R: Processes<Started = SystemProcess>> ChildSpawner<'a, R> {
     /// The programs that `rt` can start, none of them asked for so far. The commands asked for are kept in
     /// memory of `alloc`.
     pub fn new(rt: &'a R, alloc: Global) -> Self
@@ -90,29 +102,32 @@ fn command_of(alloc: Global, command: &str) -> Result<Command, StartRefusal> {
 }
 
 // Starts a program by its command.
-fn started<R: Processes>(
+fn started<R: Processes<Started = SystemProcess>>(
     rt: &R,
     alloc: Global,
     command: &str,
-) -> Result<Child<R::Started>, StartRefusal>
-    ensures { IfOk result (λ child. child.pipes.sink.faults ≡ 0) }
+) -> Result<Child, StartRefusal>
+    ensures { IfOk result (λ child. child.faults ≡ 0) }
 {
     let mut command = command_of(alloc, command)?;
+    let room = Pipes::room(alloc).map_err(|_| StartRefusal::Memory)?;
     let mut process = command.spawn(rt).map_err(|error| refusal_of(&error))?;
-    if let Some(reader) = process.stdout.take()
-        && let Some(writer) = process.stdin.take()
+    if let Some(input) = process.stdin.take()
+        && let Some(output) = process.stdout.take()
+        && let Ok(pipes) = Pipes::new(input, output, room)
     {
         return Ok(Child {
             process,
-            pipes: StdLink::new(reader, writer),
+            pipes,
+            faults: 0,
         });
     }
     let _ = process.wait();
     Err(StartRefusal::Failed)
 }
 
-impl<'a, R: Processes> Spawner for ChildSpawner<'a, R> {
-    type L = Child<R::Started>;
+impl<'a, R: Processes<Started = SystemProcess>> Spawner for ChildSpawner<'a, R> {
+    type L = Child;
 
     ghost coming = { λ _ _. None };
 
@@ -123,7 +138,7 @@ impl<'a, R: Processes> Spawner for ChildSpawner<'a, R> {
     ghost faults = { λ s. s.faults };
 
     /// A command without a program is a fault, and so is a program that is missing or can't be started.
-    fn start(&mut self, alloc: Global, command: &str) -> Result<Child<R::Started>, StartRefusal> {
+    fn start(&mut self, alloc: Global, command: &str) -> Result<Child, StartRefusal> {
         let Ok(name) = make_room(alloc, command, &mut self.asked) else {
             return Err(StartRefusal::Memory);
         };
@@ -140,9 +155,13 @@ impl<'a, R: Processes> Spawner for ChildSpawner<'a, R> {
 
     /// Closes both pipes, so that the program finds the end of its input, and waits for its end. A wait that
     /// fails is a fault.
-    fn finish(&mut self, link: Child<R::Started>) {
-        let Child { mut process, pipes } = link;
-        self.faults = self.faults.saturating_add(pipes.faults());
+    fn finish(&mut self, link: Child) {
+        let Child {
+            mut process,
+            pipes,
+            faults,
+        } = link;
+        self.faults = self.faults.saturating_add(faults);
         drop(pipes);
         if process.wait().is_err() {
             self.faults = self.faults.saturating_add(1);

@@ -19,6 +19,7 @@ mod mem_files;
 mod mem_sink;
 mod mem_spawner;
 mod memory;
+mod pipes;
 mod putting;
 mod script_link;
 mod sink;

@@ -1,6 +1,6 @@
 //! Where links come from.
 
-ghost use Rattle.std.specs.Prelude.{◌≡◌, ◌≢◌, ℕ, ◌≤◌, List, [], ◌∷◌, ◌++◌, IfOk, OnErr};
+ghost use Rattle.std.specs.Prelude.{◌≡◌, ◌≢◌, ℕ, ◌≤◌, List, [], ◌∷◌, ◌++◌, IfOk, OnErr, Some};
 ghost use Rattle.std.specs.declared.option.Option.{Option};
 ghost use Rattle.lt_io.specs.Causes.{Rose, WhereTold};
 ghost use Rattle.lt_io.specs.Spawning.{Closed, Closes, Starts, with_more};
@@ -50,6 +50,8 @@ pub trait Spawner {
         ensures others { (other : List ℕ) → other ≢ command.now → coming self.new other ≡ coming self.old other }
         ensures refused { OnErr result ((other : List ℕ) → coming self.new other ≡ coming self.old other) }
         ensures unsent { IfOk result (λ link. WhereTold (Self.L.sent link) (λ bytes. bytes ≡ [])) }
+        // What tells what finished links leave behind gives links that tell what they are sent.
+        ensures tells { IfOk result (λ link. WhereTold (closed self.old) (λ _. Self.L.sent link ≡ Some [])) }
         ensures faultless { IfOk result (λ link. Self.L.faults link ≡ 0) }
         ensures none_closed { closed self.new ≡ closed self.old }
 

@@ -18,14 +18,14 @@ use Rattle.lt_rif.specs.Word.{class_of}
 
 -- ---- lines without a line feed
 
-either_none : (a b : Bool) → a ≡ false → b ≡ false → a || b ≡ false
+pub either_none : (a b : Bool) → a ≡ false → b ≡ false → a || b ≡ false
 either_none a b h k = rw (h, k) refl
 
 none_append : (xs ys : List ℕ) → list_any (λ b. b == 10) xs ≡ false → list_any (λ b. b == 10) ys ≡ false → list_any (λ b. b == 10) (xs ++ ys) ≡ false
 none_append xs ys h k = rw (list_any-append (λ (b : ℕ). b == 10) xs ys) (either_none _ _ h k)
 
 -- digits have none
-own : IsNumeralModel (λ ds. all_ascii_digits ds ≡ true) (digits_value 10)
+pub own : IsNumeralModel (λ ds. all_ascii_digits ds ≡ true) (digits_value 10)
 own = numerals_by_value _ tells_all_ascii_digits
 
 no_feed : (c : ℕ) → 48 ≤ c → c == 10 ≡ false
@@ -37,7 +37,7 @@ first_digit x xs h =
     let low : 48 ≤ x = omega arith in
     no_feed x low
 
-rest_digits : (x : ℕ) (xs : List ℕ) → IsTrue (all_ascii_digits (x ∷ xs)) → IsTrue (all_ascii_digits xs)
+pub rest_digits : (x : ℕ) (xs : List ℕ) → IsTrue (all_ascii_digits (x ∷ xs)) → IsTrue (all_ascii_digits xs)
 rest_digits x xs h = elim (is_ascii_digit x) as (λ t. IsTrue (t && all_ascii_digits xs) → IsTrue (all_ascii_digits xs)) [ true ↦ λ g. g | false ↦ λ g. absurd (cc) ] h
 
 none_digits : (ds : List ℕ) → IsTrue (all_ascii_digits ds) → list_any (λ b. b == 10) ds ≡ false

@@ -2,3 +2,8 @@ pub mod Headers
 pub mod Shown
 pub mod Reading
 pub mod Replaying
+pub mod Words
+pub mod Lines
+pub mod Telling
+pub mod ToldRuns
+pub mod Fronts

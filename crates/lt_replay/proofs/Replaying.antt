@@ -12,7 +12,7 @@ use Rattle.lt_rif.specs.declared.end.Who.TheVariants as who
 use Rattle.lt_loop.specs.Fits.{RepliesFit}
 use Rattle.lt_loop.specs.Machine.{Instant, Rules, values, over, end_of, number_of}
 use Rattle.lt_loop.specs.Plan.{Plan, closing_text, opening_text, reply_slots, traced_step, where_written}
-use Rattle.lt_loop.specs.Play.{Made, Play, controller_asked, controller_read, controller_reply, ended, ends, holds, instant_made, made_by, oracle_asked, oracle_read, play_from, stepped}
+use Rattle.lt_loop.specs.Play.{Made, Play, controller_asked, controller_read, controller_reply, ended, ends, holds, instant_made, made_by, oracle_asked, oracle_read, play_from, step_count, stepped}
 use Rattle.lt_loop.specs.Scene.{Scene, Variable, declared_as, first_inputs, fit, input_slots, passed_slot, slot_of, traced_slots, verdict_slots}
 use Rattle.lt_loop.specs.Stands.{has_none, is_served}
 use Rattle.lt_loop.specs.declared.setup.Talk.{Talk}
@@ -35,15 +35,19 @@ missed f e fails is holds_of_it =
     let both : is_replayable f ≡ true = subst (λ (x : End). is_replayable x ≡ true) (sym same) holds_of_it in
     absurd (cc)
 
--- a play puts the same out to the trace as another one, and stops in the same way
+none_more : (n : ℕ) → n ≡ 0 + n
+none_more n = omega arith
+
+-- a play puts the same out to the trace as another one, with as many steps, and stops in the same way
 pub record Repeats (again first : Play) : Type 0 where
   pub text : trace_text again.pieces ≡ trace_text first.pieces
   pub stop : again.stop ≡ first.stop
+  pub steps : step_count again.pieces ≡ step_count first.pieces
 
 -- an end
 end_repeats : (plan : Plan) (e : End) (k : ℕ) → Repeats (ended (replaying plan) e k) (ended plan e k)
 unfolding closing_text
-end_repeats plan e k = record { text = refl; stop = refl }
+end_repeats plan e k = record { text = refl; stop = refl; steps = refl }
 
 -- ---- from the inputs of a step on
 
@@ -62,9 +66,9 @@ module _ (plan : Plan) (made : Made) (y : List Value) (go : Stream → Play) whe
     goes =
         λ go' on.
         let rest = on o well refl in
-        record { text = ap (λ (t : List ℕ). traced_step plan made.number made.outputs y made.locals ++ t) rest.text; stop = rest.stop };
+        record { text = ap (λ (t : List ℕ). traced_step plan made.number made.outputs y made.locals ++ t) rest.text; stop = rest.stop; steps = ap (λ (n : ℕ). 1 + n) rest.steps };
   }
-  verdict_splits false o well = record { after = closing_text plan end.Oracle made.number; is = append-nil (traced_step plan made.number made.outputs y made.locals ++ closing_text plan end.Oracle made.number); goes = λ go' on. record { text = refl; stop = refl } }
+  verdict_splits false o well = record { after = closing_text plan end.Oracle made.number; is = append-nil (traced_step plan made.number made.outputs y made.locals ++ closing_text plan end.Oracle made.number); goes = λ go' on. record { text = refl; stop = refl; steps = refl } }
 
   reply_splits : (r : Reply) → EndsWell (oracle_read plan made y go r) → Split plan made y go (oracle_read plan made y go r) (λ go'. oracle_read (replaying plan) made y go' r)
   reply_splits (whole vs o) well = verdict_splits (holds vs) o well
@@ -77,7 +81,7 @@ oracle_splits : (plan : Plan) (made : Made) (y : List Value) (go : Stream → Pl
     → Split (record plan { has_oracle = has }) made y go (oracle_asked (record plan { has_oracle = has }) made y go o) (λ go'. oracle_asked (replaying (record plan { has_oracle = has })) made y go' o)
 oracle_splits plan made y go true o well =
     let split = reply_splits (record plan { has_oracle = true }) made y go (reply_of plan.scene.decimals verdict_slots o) well in
-    record { after = split.after; is = split.is; goes = λ go' on. let rest = split.goes go' on in record { text = rest.text; stop = rest.stop } }
+    record { after = split.after; is = split.is; goes = λ go' on. let rest = split.goes go' on in record { text = rest.text; stop = rest.stop; steps = ap (λ (n : ℕ). 0 + n) rest.steps } }
 oracle_splits plan made y go false o well = verdict_splits (record plan { has_oracle = false }) made y go true o well
 
 -- what may follow: the same, from streams of the controller that go on with the text of what follows
@@ -101,13 +105,13 @@ inputs_repeat law plan made y most go go' s o can small shows held half room wel
 -- ---- from an instant on
 
 -- the inputs that a controller gives are those of a scenario
-given_fit : RepliesFit → (who_talks : Talk) (s : Scene) (y : List Value) (c left : Stream) → reply_of s.decimals (reply_slots who_talks s) c ≡ whole y left → fit (input_slots s) y ≡ true
+pub given_fit : RepliesFit → (who_talks : Talk) (s : Scene) (y : List Value) (c left : Stream) → reply_of s.decimals (reply_slots who_talks s) c ≡ whole y left → fit (input_slots s) y ≡ true
 given_fit law talk.Nobody s y c left is = law s.decimals (input_slots s) c left y is
 given_fit law talk.Live s y c left is = law s.decimals (input_slots s) c left y is
 given_fit law talk.Replay s y c left is = inputs_fit s.outputs (input_slots s) y (law s.decimals (traced_slots s) c left y is)
 
 -- and so are none, where a scenario has none
-none_fit : (vs : List Variable) → has_none vs ≡ true → fit (map slot_of vs) [] ≡ true
+pub none_fit : (vs : List Variable) → has_none vs ≡ true → fit (map slot_of vs) [] ≡ true
 unfolding fit
 none_fit [] none = refl
 none_fit (v ∷ vs) none = absurd (cc)
@@ -165,7 +169,8 @@ module _ (reads : StepReadsBack) (rooms : RoomIsEnough) (fits : RepliesFit) wher
       fitting_repeat plan made [] most (go [] c) go' s o can small shows fitting room well ready (on [] c fitting)
   talk_repeats talk.Live plan made most go go' c s o served can small shows room well ready on =
       let rest = reply_repeats plan made most go go' c s o (controller_reply plan c) refl can small shows room well ready on in
-      record { text = rest.text; stop = rest.stop }
+      let first = controller_read plan made go (controller_reply plan c) o in
+      record { text = rest.text; stop = rest.stop; steps = rest.steps ∙ none_more (step_count first.pieces) }
   talk_repeats talk.Replay plan made most go go' c s o served can small shows room well ready on =
       reply_repeats plan made most go go' c s o (controller_reply plan c) refl can small shows room well ready on
 
@@ -226,4 +231,4 @@ replays_are_the_same reads rooms fits rules plan limit m c o e can small few ser
     let ready = goes_on (traced_slots plan.scene) (length (opening_text plan)) (trace_text first.pieces) s begins.gap begins.are little (ap (λ (t : List ℕ). t ++ trace_text first.pieces) begins.is) in
     let rest = play_repeats reads rooms fits rules plan can served limit 1 (length (opening_text plan)) m (first_inputs plan.scene) c s o (omega (arith, few)) shows room (e, ends_so, well) ready in
     let again = play_from rules (replaying plan) limit 1 m (first_inputs plan.scene) s o in
-    (ap (λ (t : List ℕ). t ++ trace_text again.pieces) (opening_stays plan) ∙ ap (λ (t : List ℕ). opening_text plan ++ t) rest.text, rest.stop ∙ ends_so)
+    (ap (λ (t : List ℕ). t ++ trace_text again.pieces) (opening_stays plan) ∙ ap (λ (t : List ℕ). opening_text plan ++ t) rest.text, rest.stop ∙ ends_so, ap (λ (n : ℕ). 0 + n) rest.steps)

@@ -61,7 +61,7 @@ outputs_passed [] xs h = refl
 outputs_passed (v ∷ outs) [] h = refl
 outputs_passed (v ∷ outs) (x ∷ xs) h = outputs_passed outs xs h.1
 
-inputs_kept : (ins : List Variable) (ys : List Value) → HoldAll (map slot_of ins) ys → kept (map slot_of ins) ys ≡ ys
+pub inputs_kept : (ins : List Variable) (ys : List Value) → HoldAll (map slot_of ins) ys → kept (map slot_of ins) ys ≡ ys
 inputs_kept [] [] h = refl
 inputs_kept [] (y ∷ ys) h = absurd h
 inputs_kept (v ∷ ins) [] h = refl
@@ -95,11 +95,11 @@ written_sized false locals sized = tt
 
 -- ---- the text of a step
 
-passed_kinds : (vs : List Variable) → written.kinds_of (map passed_slot vs) ≡ kinds_of vs
+pub passed_kinds : (vs : List Variable) → written.kinds_of (map passed_slot vs) ≡ kinds_of vs
 passed_kinds [] = refl
 passed_kinds (v ∷ vs) = ap (λ (ks : List Kind). v.kind ∷ ks) (passed_kinds vs)
 
-slot_kinds : (vs : List Variable) → written.kinds_of (map slot_of vs) ≡ kinds_of vs
+pub slot_kinds : (vs : List Variable) → written.kinds_of (map slot_of vs) ≡ kinds_of vs
 slot_kinds [] = refl
 slot_kinds (v ∷ vs) = ap (λ (ks : List Kind). v.kind ∷ ks) (slot_kinds vs)
 

@@ -10,7 +10,7 @@ use Rattle.lt_rif.specs.declared.end.End.{End}
 use Rattle.lt_rif.specs.declared.end.End.TheVariants as end
 use Rattle.lt_loop.specs.Machine.{Instant, Rules, most_steps, values, over}
 use Rattle.lt_loop.specs.Plan.{Plan, opening_text, traced_step}
-use Rattle.lt_loop.specs.Play.{Piece, controller_reply, destination_of, ends, play_of}
+use Rattle.lt_loop.specs.Play.{Piece, controller_reply, destination_of, ends, play_of, step_count}
 use Rattle.lt_loop.specs.Scene.{Scene, declared_as, first_inputs, fit, input_slots, passed_slot}
 use Rattle.lt_loop.specs.Stands.{is_served}
 use Rattle.lt_loop.specs.declared.event.Destination.{Destination}
@@ -104,8 +104,8 @@ first_step rules plan limit m c = step_at_hand rules plan limit 1 m (first_input
 -- ---- the law
 
 -- Let a run have ended in a way that can be played again, and let its header and its first step have room in one reply.
--- Then the run whose controller is the trace of that run, and whose oracle has the same stream, has the same trace, and ends
--- in the same way.
+-- Then the run whose controller is the trace of that run, and whose oracle has the same stream, has the same trace and as many
+-- steps, and ends in the same way.
 abbrev pub ReplaysAreTheSame : Type 0 → Type 0
 ReplaysAreTheSame State =
     (rules : Rules State) (plan : Plan) (limit : ℕ) (m : State) (c o : Stream) (e : End) →
@@ -114,4 +114,4 @@ ReplaysAreTheSame State =
     (let run = play_of rules plan limit m c o in
     run.stop ≡ ends e → is_replayable e ≡ true → length (opening_text plan) + length (first_step rules plan limit m c) ≤ longest →
     (let again = play_of rules (replaying plan) limit m (whole_text (trace_text run.pieces)) o in
-    (trace_text again.pieces ≡ trace_text run.pieces) × (again.stop ≡ ends e)))
+    (trace_text again.pieces ≡ trace_text run.pieces) × (again.stop ≡ ends e) × (step_count again.pieces ≡ step_count run.pieces)))

@@ -1,9 +1,10 @@
-//! The law. The function does nothing: its contract says it.
+//! The laws. The functions do nothing: their contracts say them.
 
 ghost use Rattle.lt_replay.specs.Replay.{ReplaysAreTheSame};
+ghost use Rattle.lt_replay.specs.Shown.{FrontsShowTheirRun, TracesShowTheirRun};
 
 use lt_loop::{Machine, replies_fit};
-use lt_rif::{room_is_enough, step_reads_back};
+use lt_rif::{room_is_enough, spelling_is_read, step_reads_back};
 
 /// A run that is played again from its own trace has the same trace, and ends in the same way.
 pub fn replays_are_the_same<M: Machine>()
@@ -11,6 +12,28 @@ pub fn replays_are_the_same<M: Machine>()
 {
     // Laws that the proof needs: a step that was written is read back, steps are short, and replies fit.
     step_reads_back();
+    room_is_enough();
+    replies_fit();
+}
+
+/// A run is told by the replies that its steps show: the play on them is that run, up to a reply that was refused or missed.
+pub fn traces_show_their_run<M: Machine>()
+    ensures { TracesShowTheirRun M.State }
+{
+    // Laws that the proof needs: a step that was written is read back, lines are read, steps are short, and replies fit.
+    step_reads_back();
+    spelling_is_read();
+    room_is_enough();
+    replies_fit();
+}
+
+/// So is a run that was cut before its end: what it wrote to the trace is the front of what that play writes.
+pub fn fronts_show_their_run<M: Machine>()
+    ensures { FrontsShowTheirRun M.State }
+{
+    // Laws that the proof needs: a step that was written is read back, lines are read, steps are short, and replies fit.
+    step_reads_back();
+    spelling_is_read();
     room_is_enough();
     replies_fit();
 }

@@ -1,9 +1,10 @@
-//! The law of replay, over the plays of `lt_loop` and the texts of `lt_rif`.
+//! The laws of what a trace shows, over the plays of `lt_loop` and the texts of `lt_rif`.
 //!
-//! A trace can stand in for the controller of the run that wrote it: `docs/TRACE.md` says how it is read. `specs/Replay.antt`
-//! has the statement, for any machine.
+//! A trace can stand in for the controller of the run that wrote it: `docs/TRACE.md` says how it is read. And it shows the
+//! replies that made that run, but for one that was missed or refused. `specs/Replay.antt` and `specs/Shown.antt` have the
+//! statements, for any machine.
 #![tactic(auto)]
 
 mod laws;
 
-pub use laws::replays_are_the_same;
+pub use laws::{fronts_show_their_run, replays_are_the_same, traces_show_their_run};

@@ -16,6 +16,8 @@ mod links;
 #[cfg(test)]
 mod numbers;
 #[cfg(test)]
+mod pipes;
+#[cfg(test)]
 mod plants;
 #[cfg(test)]
 mod replies;

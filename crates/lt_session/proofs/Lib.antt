@@ -8,3 +8,5 @@ pub mod Unbroken
 pub mod Links
 -- what stays where a run is driven, and what the faults of its sides add up to
 pub mod Drives
+-- what the two sides of a run were sent
+pub mod Sent

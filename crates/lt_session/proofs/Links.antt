@@ -1,10 +1,14 @@
 -- What links give, and how many faults are counted where they are opened and closed.
-use Rattle.std.proofs.Common.{◌≡◌, ◌<◌, ◌≤◌, ℕ, List, Some, ap, sym, subst, ◌∙◌, arith}
-use Rattle.lt_io.specs.Causes.{Rose}
-use Rattle.lt_io.specs.Spawning.{Starts}
+use Rattle.std.proofs.Common.{◌≡◌, ◌<◌, ◌≤◌, ℕ, List, [], ◌∷◌, ◌++◌, None, Some, ap, sym, subst, ◌∙◌, append-nil, arith}
+use Rattle.std.specs.Io.KnownBytes.{Appends}
+use Rattle.std.specs.declared.option.Option.{Option}
+use Rattle.lt_io.specs.Causes.{Rose, WhereTold}
+use Rattle.lt_io.specs.Spawning.{Closed, Starts}
+use Rattle.lt_io.specs.Spawning.{Closes as Adds}
 use Rattle.lt_drive.specs.Outside.{Link}
 use Rattle.lt_session.specs.Programs.{Programs}
 use Rattle.lt_session.specs.Session.{Closes, Opens, Origin, nobody, recorded, program}
+use Rattle.lt_session.specs.Sent.{left_behind}
 use Rattle.lt_session.specs.Whole.{AreApart, Gives}
 
 -- ---- what they give
@@ -28,6 +32,31 @@ pub faultless : (origin : Origin) (old new : Programs) (l : Link) → Opens orig
 faultless nobody old new l opens = ap (λ (x : Link). x.faults) opens.1
 faultless (recorded bytes) old new l opens = ap (λ (x : Link). x.faults) opens.1
 faultless (program command) old new l opens = opens.faultless
+
+-- ---- what they leave behind
+
+-- a link that tells that nothing was sent to it, and then was sent a text, tells that text
+appended : (sent now : Option (List ℕ)) (text : List ℕ) → sent ≡ Some [] → Appends sent now text → now ≡ Some text
+appended None now text tells appends = absurd (cc tells)
+appended (Some xs) None text tells appends = absurd appends
+appended (Some xs) (Some ys) text tells appends = let xs_is : xs ≡ [] = cc tells in ap Some (appends ∙ ap (λ t. t ++ text) xs_is)
+
+-- where it is told what finished links leave behind, opening a side tells it on
+pub opened_closed : (origin : Origin) (old new : Programs) (l : Link) → Opens origin old new l → new.closed ≡ old.closed
+opened_closed nobody old new l opens = opens.0.closed
+opened_closed (recorded bytes) old new l opens = opens.0.closed
+opened_closed (program command) old new l opens = opens.closed
+
+-- and closing it behind some others adds what it leaves
+pub leaves_behind : (origin : Origin) (old opened before new : Programs) (l l' : Link) (first links : List Closed) (text : List ℕ) → Opens origin old opened l → old.closed ≡ Some first →
+    before.closed ≡ Some links → Closes origin before new l' → Appends l.sent l'.sent text → new.closed ≡ Some (links ++ left_behind origin text l'.faults)
+leaves_behind nobody old opened before new l l' first links text opens told told_before closes appends = closes.0.closed ∙ told_before ∙ ap Some (sym (append-nil links))
+leaves_behind (recorded bytes) old opened before new l l' first links text opens told told_before closes appends = closes.0.closed ∙ told_before ∙ ap Some (sym (append-nil links))
+leaves_behind (program command) old opened before new l l' first links text opens told told_before closes appends =
+    let unsent : l.sent ≡ Some [] = subst (λ (o : Option (List Closed)). WhereTold o (λ _. l.sent ≡ Some [])) told opens.tells in
+    let last : new.closed ≡ Some (links ++ record { sent = l'.sent; faults = l'.faults } ∷ []) =
+    subst (λ (o : Option (List Closed)). Adds o new.closed (record { sent = l'.sent; faults = l'.faults })) told_before closes.closes in
+    last ∙ ap (λ (s : Option (List ℕ)). Some (links ++ record { sent = s; faults = l'.faults } ∷ [])) (appended l.sent l'.sent text unsent appends)
 
 -- ---- counts of faults
 

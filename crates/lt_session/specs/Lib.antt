@@ -5,6 +5,8 @@ pub mod Programs
 pub mod Session
 -- the sides that the code is given
 pub mod SidesView
+-- what the two sides of a run were sent
+pub mod Sent
 -- what follows for whole runs
 pub mod Whole
 -- words of private contracts

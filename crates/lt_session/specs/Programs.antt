@@ -1,5 +1,5 @@
 -- Programs that are started and finished beside a run.
-use Rattle.std.specs.Prelude.{◌≡◌, ◌≢◌, ◌≤◌, ℕ, List, [], ◌∷◌, ◌++◌}
+use Rattle.std.specs.Prelude.{◌≡◌, ◌≢◌, ◌≤◌, ℕ, List, [], ◌∷◌, ◌++◌, Some}
 use Rattle.std.specs.declared.option.Option.{Option}
 use Rattle.lt_io.specs.Causes.{Rose, WhereTold}
 use Rattle.lt_io.specs.Spawning.{Closed, Closes, Starts, with_more}
@@ -30,6 +30,8 @@ pub record IsStarted (command : List ℕ) (old new : Programs) (link : Link) : T
   pub others : (other : List ℕ) → other ≢ command → new.coming other ≡ old.coming other
   -- it was sent nothing, and has no fault
   pub unsent : WhereTold link.sent (λ bytes. bytes ≡ [])
+  -- where it is told what finished links leave behind, the link tells what it is sent
+  pub tells : WhereTold old.closed (λ _. link.sent ≡ Some [])
   pub faultless : link.faults ≡ 0
   -- the command was asked for, and nothing else happened
   pub asked : new.asked ≡ old.asked ++ command ∷ []

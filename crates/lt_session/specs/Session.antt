@@ -1,5 +1,5 @@
 -- A run with programs beside it.
-use Rattle.std.specs.Prelude.{◌≡◌, ℕ, List, [], None, Some}
+use Rattle.std.specs.Prelude.{◌≡◌, ℕ, true, List, [], None, Some}
 use Rattle.lt_rif.specs.declared.end.Who.TheVariants as who
 use Rattle.lt_loop.specs.Standing.{Standing}
 use Rattle.lt_drive.specs.Drive.{Course, IsDriven}
@@ -24,9 +24,9 @@ pub record Outside : Type 0 where
   pub programs : Programs
   pub trace : Sink
 
--- a link that gives these bytes, doesn't tell what it is sent, and has no fault
+-- a link that gives these bytes, doesn't tell what it is sent, and has no fault; anything fits it
 abbrev pub giving : List ℕ → Link
-giving bytes = link None (Some bytes) 0
+giving bytes = link None (Some bytes) 0 (λ _ _ _. true)
 
 -- A side was opened, and this is its link. A row an origin.
 abbrev pub Opens : Origin → Programs → Programs → Link → Type 0

@@ -15,6 +15,7 @@ use Rattle.lt_drive.specs.Outside.{text_to}
 use Rattle.lt_drive.specs.Told.{closed}
 use Rattle.lt_drive.specs.declared.driven.Driven.TheVariants as driven
 use Rattle.lt_session.specs.Programs.{Programs}
+use Rattle.lt_session.specs.Sent.{AreSent}
 use Rattle.lt_session.specs.Session.{Origin, nobody, recorded, program, Outside, IsPlayed}
 use Rattle.lt_session.specs.declared.played.Played.{Played}
 use Rattle.lt_session.specs.declared.played.Played.TheVariants as played
@@ -31,7 +32,7 @@ AreApart (program c) (program o) = c ≢ o
 AreApart _ _ = Unit {0}
 
 -- Where it is told what comes of both sides, a run that ended by itself wrote the whole trace of its play on these bytes,
--- counted its steps, and ended as that play does.
+-- counted its steps, ended as that play does, and both sides were sent all their lines.
 abbrev pub UndisturbedSessionsAreWhole : Type 0 → Type 0
 UndisturbedSessionsAreWhole State =
     (k : Course) (controller oracle : Origin) (old new : Outside) (core : Standing State) (e : End) (c o : List ℕ) →
@@ -40,6 +41,7 @@ UndisturbedSessionsAreWhole State =
     ((k.play (closed c) (closed o)).stop ≡ ends e)
     × Appends old.trace.written new.trace.written (text_to destination.Trace (k.play (closed c) (closed o)).pieces)
     × (core.written ≡ k.written + step_count (k.play (closed c) (closed o)).pieces)
+    × AreSent controller oracle (k.play (closed c) (closed o)).pieces 0 0 old.programs new.programs
 
 -- what blames a program: it wasn't started, or its link failed
 pub data Blames : Played → Type 0 where

@@ -33,8 +33,8 @@ pub(crate) fn play_beside<M: Machine, C: Link, P: Spawner, S: Sink>(
 ) -> Beside<P::L>
     requires { WantsTell (standing core.old) Wants.Turn }
     ensures beside { IsBeside (course_of (standing core.old)) (oracle_of oracle.entry)
-        (link (C.sent controller.old) (C.left controller.old) (C.faults controller.old))
-        (link (C.sent controller.new) (C.left controller.new) (C.faults controller.new))
+        (link (C.sent controller.old) (C.left controller.old) (C.faults controller.old) (C.fits controller.old))
+        (link (C.sent controller.new) (C.left controller.new) (C.faults controller.new) (C.fits controller.new))
         (record {
           programs = record { coming = P.coming spawner.old; closed = P.closed spawner.old; asked = P.asked spawner.old; faults = P.faults spawner.old };
           trace = sink (S.written trace.old) (S.faults trace.old);
@@ -44,7 +44,7 @@ pub(crate) fn play_beside<M: Machine, C: Link, P: Spawner, S: Sink>(
           trace = sink (S.written trace.new) (S.faults trace.new);
         })
         (standing core.new)
-        (option_map (λ l. link (P.L.sent l) (P.L.left l) (P.L.faults l)) result.left)
+        (option_map (λ l. link (P.L.sent l) (P.L.left l) (P.L.faults l) (P.L.fits l)) result.left)
         result.played }
     ensures plan { (standing core.new).plan ≡ (standing core.old).plan }
 {
@@ -76,7 +76,7 @@ pub(crate) fn play_beside<M: Machine, C: Link, P: Spawner, S: Sink>(
 
 // Gives a link back, if there is one.
 pub(crate) fn give_back<P: Spawner>(spawner: &mut P, left: Option<P::L>)
-    ensures { GivesBack (option_map (λ l. link (P.L.sent l) (P.L.left l) (P.L.faults l)) left)
+    ensures { GivesBack (option_map (λ l. link (P.L.sent l) (P.L.left l) (P.L.faults l) (P.L.fits l)) left)
         (record { coming = P.coming spawner.old; closed = P.closed spawner.old; asked = P.asked spawner.old; faults = P.faults spawner.old })
         (record { coming = P.coming spawner.new; closed = P.closed spawner.new; asked = P.asked spawner.new; faults = P.faults spawner.new }) }
 {

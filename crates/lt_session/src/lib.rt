@@ -12,7 +12,7 @@ mod playing;
 mod recorded;
 mod sides;
 
-pub use laws::{blame_has_a_cause, undisturbed_sessions_are_whole};
+pub use laws::{blame_has_a_cause, sides_get_their_pieces, undisturbed_sessions_are_whole};
 pub use played::Played;
 pub use playing::play;
 pub use recorded::Recorded;

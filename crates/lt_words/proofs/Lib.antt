@@ -1,8 +1,8 @@
--- requests that can be asked
-pub mod Asking
--- numbers past the greatest one
-pub mod Greatest
--- options, one after another
-pub mod Pairs
--- printed numbers
-pub mod Printed
+-- the numbers that clap lets through
+pub mod Fitting
+-- words that are numbers
+pub mod Numbers
+-- what the getters of clap's matches read
+pub mod Read
+-- what the command makes of words
+pub mod Taken

@@ -2,9 +2,7 @@
 use Rattle.std.specs.Prelude.{ℕ, List, None, Some}
 use Rattle.std.specs.Borrow.{Bor}
 use Rattle.std.specs.declared.option.Option.{Option}
-use Rattle.lt_words.specs.Options.{Options}
 use Rattle.lt_words.specs.Words.{Request}
-use Rattle.lt_words.specs.declared.options.Options.{Options as CodeOptions}
 use Rattle.lt_words.specs.declared.words.Request.{Request as CodeRequest}
 
 -- the word that is given, if one is
@@ -12,21 +10,7 @@ abbrev pub given_word : Option (Bor (List ℕ)) → Option (List ℕ)
 given_word None = None
 given_word (Some word) = Some word.now
 
--- the pure twin of options
-abbrev pub given_by : CodeOptions → Options
-given_by given = record {
-  limit = given.limit;
-  seed = given.seed;
-  decimals = given.decimals;
-  budget = given.budget;
-  node = given_word given.node;
-  sut = given_word given.sut;
-  oracle = given_word given.oracle;
-  replay = given_word given.replay;
-  locals = given.locals;
-}
-
--- and of a request
+-- the pure twin of a request
 abbrev pub request : CodeRequest → Request
 request asked = record {
   mode = asked.mode;

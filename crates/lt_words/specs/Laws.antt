@@ -1,59 +1,18 @@
 -- What follows for the words of a call.
-use Rattle.std.specs.Prelude.{◌≡◌, ◌≤◌, ℕ, Bool, false, true, List, [], ◌∷◌, None, Some, Ok, codes, decimal}
-use Rattle.std.specs.List.{flat_map}
-use Rattle.std.specs.declared.option.Option.{Option}
-use Rattle.lt_words.specs.Settings.{most_steps, most_seed, most_decimals, most_budget}
-use Rattle.lt_words.specs.Words.{Request, requested}
-use Rattle.lt_words.specs.declared.words.Mode.{Mode}
-use Rattle.lt_words.specs.declared.words.Mode.TheVariants.{Run, Print}
+use Rattle.std.specs.Prelude.{◌≡◌, ◌≤◌, ℕ, false, true, List, decimal}
+use Rattle.clap.specs.ValueTests.{accepts}
+use Rattle.clap.specs.declared.builder.value_parser.ValueParser.TheVariants.{Unsigned}
+use Rattle.lt_words.specs.Settings.{most_seed}
+use Rattle.lt_words.specs.Words.{number_of}
 
--- the word of a mode
-abbrev pub mode_word : Mode → List ℕ
-mode_word Run = codes "run"
-mode_word Print = codes "print"
+-- clap lets a word through as a number from the least to the most
+abbrev pub IsTaken : ℕ → ℕ → List ℕ → Type 0
+IsTaken least most word = accepts false (Unsigned least most) word ≡ true
 
--- an option with a number behind it
-abbrev pub with_number : List ℕ → ℕ → List (List ℕ)
-with_number option n = option ∷ decimal n ∷ []
+-- A word that is let through is read as a number within those bounds ..
+abbrev pub NumbersAreWithin : Type 0
+NumbersAreWithin = (least most : ℕ) (word : List ℕ) → IsTaken least most word → (least ≤ number_of word) × (number_of word ≤ most)
 
--- an option with a word behind it, where there is one
-abbrev pub with_word : List ℕ → Option (List ℕ) → List (List ℕ)
-with_word option None = []
-with_word option (Some word) = option ∷ word ∷ []
-
--- an option without a word, where it is wanted
-abbrev pub alone : List ℕ → Bool → List (List ℕ)
-alone option false = []
-alone option true = option ∷ []
-
--- words that ask for a request, with all that it has
-abbrev pub words_of : Request → List (List ℕ)
-words_of r = mode_word r.mode ∷ r.file ∷ flat_map (λ words. words) (
-    with_number (codes "-l") r.limit
-    ∷ with_number (codes "--seed") r.seed
-    ∷ with_number (codes "--precision") r.decimals
-    ∷ with_number (codes "--budget") r.budget
-    ∷ with_word (codes "--node") r.node
-    ∷ with_word (codes "--sut") r.sut
-    ∷ with_word (codes "--oracle") r.oracle
-    ∷ with_word (codes "--replay") r.replay
-    ∷ alone (codes "--locals") r.locals
-    ∷ [])
-
--- a run has no controller beside an earlier trace
-abbrev pub IsOneSided : Mode → Option (List ℕ) → Option (List ℕ) → Type 0
-IsOneSided Run (Some sut) (Some replay) = ⊥
-IsOneSided _ _ _ = Unit {0}
-
--- a request's numbers are such as words may give, and it is one-sided
-pub record CanBeAsked (r : Request) : Type 0 where
-  pub limit : r.limit ≤ most_steps
-  pub seed : r.seed ≤ most_seed
-  pub decimals : r.decimals ≤ most_decimals
-  pub some_budget : 1 ≤ r.budget
-  pub budget : r.budget ≤ most_budget
-  pub sides : IsOneSided r.mode r.sut r.replay
-
--- Each such request is what its words ask for.
-abbrev pub RequestsCanBeAsked : Type 0
-RequestsCanBeAsked = (r : Request) → CanBeAsked r → requested (words_of r) ≡ Ok r
+-- .. and the printed form of each number within them, where they are no wider than those of a seed, is let through and read as that number.
+abbrev pub PrintedNumbersAreTaken : Type 0
+PrintedNumbersAreTaken = (least most n : ℕ) → least ≤ n → n ≤ most → most ≤ most_seed → IsTaken least most (decimal n) × (number_of (decimal n) ≡ n)

@@ -1,10 +1,8 @@
 -- A reader goes from here to Laws, in this order.
 -- numbers that a call goes by
 pub mod Settings
--- words that are numbers
-pub mod Numbers
--- options, one after another
-pub mod Options
+-- the command that reads the words
+pub mod Command
 -- what the words ask for
 pub mod Words
 -- the request that the code makes of them
@@ -13,3 +11,5 @@ pub mod Asked
 pub mod Usage
 -- what follows
 pub mod Laws
+-- words of the crate's own
+pub mod inner

@@ -19,6 +19,10 @@ most_steps = machine.most_steps
 abbrev pub default_steps : ℕ
 default_steps = 100
 
+-- the greatest number that a large run may be made from
+abbrev pub most_number : ℕ
+most_number = 999_999
+
 -- the most decimals that words may ask for: as many as a real may have
 abbrev pub most_decimals : ℕ
 most_decimals = numbers.most_decimals

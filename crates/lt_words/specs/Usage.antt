@@ -7,6 +7,7 @@ use Rattle.lt_words.specs.declared.usage.UsageKind.TheVariants as usage
 abbrev pub usage_word : UsageKind → List ℕ
 usage_word usage.Words = codes "words"
 usage_word usage.Mode = codes "mode"
+usage_word usage.Number = codes "number"
 usage_word usage.Both = codes "both"
 
 -- how the program is called

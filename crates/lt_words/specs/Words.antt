@@ -1,20 +1,26 @@
--- The words of a call: MODE FILE, and then options.
-use Rattle.std.specs.Prelude.{ℕ, ◌≤◌, Bool, false, ◌&&◌, List, [], ◌∷◌, None, Some, Ok, Err, codes, if◌then◌else◌}
-use Rattle.std.specs.Option.{is_some, unwrap_or}
-use Rattle.std.specs.Str.{bytes_eq}
+-- What the words of a call ask for.
+use Rattle.std.specs.Prelude.{◌≡◌, ℕ, ◌≤◌, nat_le, Bool, true, false, not, ◌&&◌, List, [], Ok, Err, codes, option_map, unwrap_or, if◌then◌else◌}
+use Rattle.std.specs.Option.{is_some}
+use Rattle.std.specs.Str.{all_ascii_digits, bytes_eq}
+use Rattle.std.specs.Str.Parse.{digits_value, without_leading_plus}
 use Rattle.std.specs.declared.option.Option.{Option}
 use Rattle.std.specs.declared.result.Result.{Result}
-use Rattle.lt_words.specs.Options.{Options, no_options, with_options}
-use Rattle.lt_words.specs.Settings.{most_steps, default_steps, default_seed, most_decimals, default_decimals, default_budget}
+use Rattle.clap.specs.Faults.{fault_of}
+use Rattle.clap.specs.Simple.{matches_of}
+use Rattle.clap.specs.Walk.{Row, Text, first_of, is_empty, one_of}
+use Rattle.lt_words.specs.Command.{command}
+use Rattle.lt_words.specs.Settings.{most_steps, default_steps, most_number, default_seed, most_decimals, default_decimals, default_budget}
 use Rattle.lt_words.specs.declared.usage.UsageKind.{UsageKind}
 use Rattle.lt_words.specs.declared.usage.UsageKind.TheVariants as usage
+use Rattle.lt_words.specs.declared.usage.WordsRefusal.{WordsRefusal}
+use Rattle.lt_words.specs.declared.usage.WordsRefusal.TheVariants as refusal
 use Rattle.lt_words.specs.declared.words.Mode.{Mode}
-use Rattle.lt_words.specs.declared.words.Mode.TheVariants.{Run, Print}
+use Rattle.lt_words.specs.declared.words.Mode.TheVariants.{Run, Print, Stress}
 
 -- what the words ask for
 pub record Request : Type 0 where
   pub mode : Mode
-  -- the name of the scenario's file
+  -- the name of the scenario's file; in a large run its number as it was written
   pub file : List ℕ
   -- the most steps
   pub limit : ℕ
@@ -35,43 +41,94 @@ pub record Request : Type 0 where
   -- whether locals are written to the trace
   pub locals : Bool
 
--- its numbers of steps and of decimals are no greater than words may ask for
-abbrev pub IsWithin : Request → Type 0
-IsWithin request = (request.limit ≤ most_steps) × (request.decimals ≤ most_decimals)
+-- the number of a large run is no greater than words may ask for
+abbrev pub HasSmallNumber : Mode → Type 0
+HasSmallNumber (Stress n) = n ≤ most_number
+HasSmallNumber _ = Unit {0}
 
--- the mode that a word is
-abbrev pub mode_of : List ℕ → Option Mode
-mode_of word = if bytes_eq word (codes "run") then Some Run else if bytes_eq word (codes "print") then Some Print else None
+-- its numbers of steps and of decimals, and that of a large run, are no greater than words may ask for
+pub record IsWithin (request : Request) : Type 0 where
+  pub limit : request.limit ≤ most_steps
+  pub decimals : request.decimals ≤ most_decimals
+  pub number : HasSmallNumber request.mode
 
--- whether a run is given both a controller and an earlier trace, whose replies would stand for the controller's
-abbrev pub has_both : Mode → Options → Bool
-has_both Run given = is_some given.sut && is_some given.replay
-has_both Print given = false
+-- the number that decimal digits write, which a plus may stand before
+abbrev pub number_of : Text → ℕ
+number_of word = digits_value 10 (without_leading_plus word)
 
--- the request of a mode, a file and options, with what holds where an option isn't given
-abbrev pub request_of : Mode → List ℕ → Options → Request
-request_of mode file given = record {
+-- the number that was found for an option, where it was given
+abbrev pub number_at : Text → List Row → Option ℕ
+number_at name found = option_map number_of (one_of name found)
+
+-- the word that was found for an argument that has to be there
+abbrev pub word_at : Text → List Row → Text
+word_at name found = unwrap_or (first_of name found) []
+
+-- whether a flag was given
+abbrev pub flag_at : Text → List Row → Bool
+flag_at name found = bytes_eq (unwrap_or (one_of name found) []) (codes "true")
+
+-- whether a word is decimal digits alone, one or more: no sign stands before them, and no blank
+abbrev pub is_digits : Text → Bool
+is_digits word = not (is_empty word) && all_ascii_digits word
+
+-- the large run of a number, where it isn't too great
+abbrev pub stress_of : ℕ → Result Mode UsageKind
+stress_of n = if nat_le n most_number then Ok (Stress n) else Err usage.Number
+
+-- the large run of the number that a word is, where it is decimal digits alone
+abbrev pub large_run : Text → Result Mode UsageKind
+large_run word = if is_digits word then stress_of (digits_value 10 word) else Err usage.Number
+
+-- the mode that a word is, where this one stands in the place of FILE
+abbrev pub mode_of : Text → Text → Result Mode UsageKind
+mode_of word file =
+    if bytes_eq word (codes "run") then Ok Run else if bytes_eq word (codes "print") then Ok Print else if bytes_eq word (codes "stress") then large_run file else Err usage.Mode
+
+-- the request of a mode, from what was found in the words, with what holds where an option isn't given
+abbrev pub request_of : Mode → List Row → Request
+request_of mode found = record {
   mode = mode;
-  file = file;
-  limit = unwrap_or given.limit default_steps;
-  seed = unwrap_or given.seed default_seed;
-  decimals = unwrap_or given.decimals default_decimals;
-  budget = unwrap_or given.budget default_budget;
-  node = given.node;
-  sut = given.sut;
-  oracle = given.oracle;
-  replay = given.replay;
-  locals = given.locals;
+  file = word_at (codes "file") found;
+  limit = unwrap_or (number_at (codes "limit") found) default_steps;
+  seed = unwrap_or (number_at (codes "seed") found) default_seed;
+  decimals = unwrap_or (number_at (codes "precision") found) default_decimals;
+  budget = unwrap_or (number_at (codes "budget") found) default_budget;
+  node = first_of (codes "node") found;
+  sut = first_of (codes "sut") found;
+  oracle = first_of (codes "oracle") found;
+  replay = first_of (codes "replay") found;
+  locals = flag_at (codes "locals") found;
 }
 
--- the request, where the other words are right, there is such a mode, and it has not both; else what is wrong
-abbrev pub in_mode : Option Mode → List ℕ → Option Options → Result Request UsageKind
-in_mode mode file None = Err usage.Words
-in_mode None file (Some given) = Err usage.Mode
-in_mode (Some mode) file (Some given) = if has_both mode given then Err usage.Both else Ok (request_of mode file given)
+-- whether a scenario is run
+abbrev pub is_run : Mode → Bool
+is_run Run = true
+is_run _ = false
 
--- what the words ask for, or what is wrong with them
-abbrev pub requested : List (List ℕ) → Result Request UsageKind
-requested [] = Err usage.Words
-requested (mode ∷ []) = Err usage.Words
-requested (mode ∷ file ∷ options) = in_mode (mode_of mode) file (with_options no_options options)
+-- whether a request has both a controller and an earlier trace, whose replies would stand for the controller's
+abbrev pub has_both : Request → Bool
+has_both request = is_run request.mode && (is_some request.sut && is_some request.replay)
+
+-- the request, where it has not both
+abbrev pub one_sided : Request → Result Request UsageKind
+one_sided request = if has_both request then Err usage.Both else Ok request
+
+-- what is asked for by what was found in the words, where there is such a mode
+abbrev pub in_mode : Result Mode UsageKind → List Row → Result Request UsageKind
+in_mode (Err kind) found = Err kind
+in_mode (Ok mode) found = one_sided (request_of mode found)
+
+-- what was found in words
+abbrev pub asked_by : List Row → Result Request UsageKind
+asked_by found = in_mode (mode_of (word_at (codes "mode") found) (word_at (codes "file") found)) found
+
+-- What the words ask for, or what is wrong with them. They are wrong exactly where clap finds a fault in them for this
+-- command, help that is asked for being one, and where what it finds in them asks for nothing that there is.
+abbrev pub requested : List Text → Result Request UsageKind
+requested words = if is_empty (fault_of command words) then asked_by (matches_of command words) else Err usage.Words
+
+-- the words are refused for this, or for want of memory
+abbrev pub IsRefusedBy : WordsRefusal → Result Request UsageKind → Type 0
+IsRefusedBy (refusal.Usage kind) asked = asked ≡ Err kind
+IsRefusedBy refusal.Memory asked = Unit {0}

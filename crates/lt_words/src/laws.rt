@@ -1,10 +1,14 @@
 //! Laws of the words of a call.
 
-ghost use Rattle.lt_words.specs.Laws.{RequestsCanBeAsked};
+ghost use Rattle.lt_words.specs.Laws.{NumbersAreWithin, PrintedNumbersAreTaken};
 
-/// Each request whose numbers words may give is what its words ask for, unless it is for a run with a controller beside
-/// an earlier trace.
-#[tactic(auto, using(crate::proofs::Asking::requests_can_be_asked))]
-pub fn requests_can_be_asked()
-    ensures { RequestsCanBeAsked }
+/// Each word that is let through for a number within bounds is read as one within them.
+#[tactic(auto, using(crate::proofs::Numbers::numbers_are_within))]
+pub fn numbers_are_within()
+    ensures { NumbersAreWithin }
+{}
+
+/// The printed form of each number within bounds is let through, and read as that number.
+pub fn printed_numbers_are_taken()
+    ensures { PrintedNumbersAreTaken }
 {}

@@ -1,7 +1,7 @@
 //! Numbers that a call goes by: `docs/COMMAND.md` has them.
 
 ghost use Rattle.std.specs.Prelude.{◌≡◌};
-ghost use Rattle.lt_words.specs.Settings.{longest_text, longest_replay, most_steps, default_steps, most_decimals, default_decimals, most_seed, default_seed, most_budget, default_budget};
+ghost use Rattle.lt_words.specs.Settings.{longest_text, longest_replay, most_steps, default_steps, most_number, most_decimals, default_decimals, most_seed, default_seed, most_budget, default_budget};
 
 /// The longest text of a scenario, in bytes.
 pub const LONGEST_TEXT: usize = 1_048_576;
@@ -14,6 +14,9 @@ pub const MOST_STEPS: u64 = 1_000_000;
 
 /// The most steps where words don't say.
 pub const DEFAULT_STEPS: u64 = 100;
+
+/// The greatest number that a large run may be made from.
+pub const MOST_NUMBER: u64 = 999_999;
 
 /// The most decimals that a real may have.
 pub const MOST_DECIMALS: u32 = 6;
@@ -39,6 +42,7 @@ pub fn settings_are_as_defined()
     ensures longest_replay { LONGEST_REPLAY ≡ longest_replay }
     ensures most_steps { MOST_STEPS ≡ most_steps }
     ensures default_steps { DEFAULT_STEPS ≡ default_steps }
+    ensures most_number { MOST_NUMBER ≡ most_number }
     ensures most_decimals { MOST_DECIMALS ≡ most_decimals }
     ensures default_decimals { DEFAULT_DECIMALS ≡ default_decimals }
     ensures most_seed { MOST_SEED ≡ most_seed }

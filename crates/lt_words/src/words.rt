@@ -1,13 +1,17 @@
 //! What the words of a call ask for.
 
-ghost use Rattle.std.specs.Prelude.{◌≡◌, map, string_bytes, Ok, Err, MatchResult, IfOk};
-ghost use Rattle.lt_words.specs.Options.{AreWithin};
-ghost use Rattle.lt_words.specs.Words.{IsWithin, has_both, mode_of, request_of, requested};
-ghost use Rattle.lt_words.specs.Asked.{given_by, request};
+ghost use Rattle.std.specs.Prelude.{◌≡◌, map, string_bytes, Ok, Err, IfOk, MatchResult};
+ghost use Rattle.clap.specs.Words.{found_of, rows_of};
+ghost use Rattle.lt_words.specs.Asked.{request};
+ghost use Rattle.lt_words.specs.Words.{HasSmallNumber, IsRefusedBy, IsWithin, asked_by, has_both, large_run, mode_of, request_of, requested, stress_of};
+ghost use Rattle.lt_words.specs.inner.Fitting.{NumbersFit};
 
-use crate::options::{Options, no_options, with_options};
-use crate::settings::{DEFAULT_BUDGET, DEFAULT_DECIMALS, DEFAULT_SEED, DEFAULT_STEPS};
-use crate::usage::UsageKind;
+use crate::command::command;
+use crate::found::{decimals_in, is_given, number_in, option_in, word_in};
+use crate::settings::{DEFAULT_BUDGET, DEFAULT_DECIMALS, DEFAULT_SEED, DEFAULT_STEPS, MOST_NUMBER};
+use crate::usage::{UsageKind, WordsRefusal};
+use clap::ArgMatches;
+use std::alloc::Global;
 
 /// What is done with a scenario.
 #[derive(Clone, Copy, Debug, PartialEq, Eq)]
@@ -17,6 +21,9 @@ pub enum Mode {
 
     /// It is printed.
     Print,
+
+    /// A large run is made from this number, which is at most 999,999. It has no scenario's file.
+    Stress(u64),
 }
 
 /// What the words of a call ask for.
@@ -25,7 +32,7 @@ pub struct Request<'a> {
     /// What is done.
     pub mode: Mode,
 
-    /// The name of the scenario's file.
+    /// The name of the scenario's file; in a large run its number as it was written.
     pub file: &'a str,
 
     /// The most steps.
@@ -57,68 +64,98 @@ pub struct Request<'a> {
     pub locals: bool,
 }
 
-/// What the words ask for: `run FILE` or `print FILE`, and then `-l N`, `--seed N`, `--precision N`, `--budget N`,
-/// `--node NAME`, `--sut CMD`, `--oracle CMD`, `--replay FILE` and `--locals`, in any order and each at most once.
-/// A run has no `--sut` beside `--replay`.
-pub fn requested(words: &[String]) -> Result<Request<'_>, UsageKind>
+/// What the words ask for, as clap reads them: MODE and FILE, which is `run FILE`, `print FILE` or `stress N`, and `-l N`, `--seed N`,
+/// `--precision N`, `--budget N`, `--node NAME`, `--sut CMD`, `--oracle CMD`, `--replay FILE` and `--locals`, in any order
+/// and each at most once. A run has no `--sut` beside `--replay`.
+pub fn requested<'a>(alloc: Global, words: &'a [String]) -> Result<Request<'a>, WordsRefusal>
     ensures reads { MatchResult result
-        (λ asked. requested (map string_bytes words.now) ≡ Ok (request asked))
-        (λ kind. requested (map string_bytes words.now) ≡ Err kind) }
+        (λ asked. requested (map string_bytes words.entry.now) ≡ Ok (request asked))
+        (λ refusal. IsRefusedBy refusal (requested (map string_bytes words.entry.now))) }
     ensures within { IfOk result (λ asked. IsWithin (request asked)) }
 {
-    let [mode, file, options @ ..] = words else {
-        return Err(UsageKind::Words);
-    };
-    let Some(given) = with_options(no_options(), options) else {
-        return Err(UsageKind::Words);
-    };
-    let Some(mode) = mode_named(mode) else {
-        return Err(UsageKind::Mode);
-    };
-    if has_both(mode, given) {
+    let found = command(alloc)?.try_get_matches_from(words)?;
+    Ok(asked_by(&found)?)
+}
+
+// What is asked for by what was found in the words.
+fn asked_by<'a>(found: &ArgMatches<'a>) -> Result<Request<'a>, UsageKind>
+    requires { NumbersFit (rows_of (found_of found.now)) }
+    ensures reads { MatchResult result
+        (λ asked. asked_by (rows_of (found_of found.now)) ≡ Ok (request asked))
+        (λ kind. asked_by (rows_of (found_of found.now)) ≡ Err kind) }
+    ensures within { IfOk result (λ asked. IsWithin (request asked)) }
+{
+    let mode = mode_named(word_in(found, "mode"), word_in(found, "file"))?;
+    let request = request_in(mode, found);
+    if has_both(&request) {
         return Err(UsageKind::Both);
     }
-    Ok(request_of(mode, file, given))
+    Ok(request)
 }
 
-// The mode that a word is; none where it isn't one.
-fn mode_named(word: &str) -> Option<Mode>
-    ensures { result ≡ mode_of word.now }
+// The mode that a word is, where the other one stands in the place of FILE.
+fn mode_named(word: &str, file: &str) -> Result<Mode, UsageKind>
+    ensures is { result ≡ mode_of word.now file.now }
+    ensures within { IfOk result HasSmallNumber }
 {
     match word {
-        "run" => Some(Mode::Run),
-        "print" => Some(Mode::Print),
-        _ => None,
+        "run" => Ok(Mode::Run),
+        "print" => Ok(Mode::Print),
+        "stress" => large_run(file),
+        _ => Err(UsageKind::Mode),
     }
 }
 
-// Whether a run is given both a controller and an earlier trace that stands for one.
-fn has_both(mode: Mode, given: Options<'_>) -> bool
-    ensures { result ≡ has_both mode (given_by given.entry) }
+// The large run of the number that a word is: decimal digits alone.
+fn large_run(word: &str) -> Result<Mode, UsageKind>
+    ensures is { result ≡ large_run word.now }
+    ensures within { IfOk result HasSmallNumber }
 {
-    match mode {
-        Mode::Run => given.sut.is_some() && given.replay.is_some(),
-        Mode::Print => false,
+    if word.starts_with('+') {
+        return Err(UsageKind::Number);
+    }
+    match word.parse::<u64>() {
+        Ok(number) => stress_of(number),
+        Err(_) => Err(UsageKind::Number),
     }
 }
 
-// The request of a mode, a file and options, with what holds where an option isn't given.
-fn request_of<'a>(mode: Mode, file: &'a str, given: Options<'a>) -> Request<'a>
-    requires { AreWithin (given_by given) }
-    ensures reads { request result ≡ request_of mode file.now (given_by given.entry) }
+// The large run of a number, where it isn't too great.
+fn stress_of(number: u64) -> Result<Mode, UsageKind>
+    ensures is { result ≡ stress_of number }
+    ensures within { IfOk result HasSmallNumber }
+{
+    if number > MOST_NUMBER {
+        return Err(UsageKind::Number);
+    }
+    Ok(Mode::Stress(number))
+}
+
+// Whether a run has both a controller and an earlier trace that stands for one.
+fn has_both(asked: &Request<'_>) -> bool
+    ensures { result ≡ has_both (request asked.now) }
+{
+    asked.mode == Mode::Run && asked.sut.is_some() && asked.replay.is_some()
+}
+
+// The request of a mode, from what was found in the words, with what holds where an option isn't given.
+fn request_in<'a>(mode: Mode, found: &ArgMatches<'a>) -> Request<'a>
+    requires fits { NumbersFit (rows_of (found_of found.now)) }
+    requires small { HasSmallNumber mode }
+    ensures reads { request result ≡ request_of mode (rows_of (found_of found.now)) }
     ensures within { IsWithin (request result) }
 {
     Request {
         mode,
-        file,
-        limit: given.limit.unwrap_or(DEFAULT_STEPS),
-        seed: given.seed.unwrap_or(DEFAULT_SEED),
-        decimals: given.decimals.unwrap_or(DEFAULT_DECIMALS),
-        budget: given.budget.unwrap_or(DEFAULT_BUDGET),
-        node: given.node,
-        sut: given.sut,
-        oracle: given.oracle,
-        replay: given.replay,
-        locals: given.locals,
+        file: word_in(found, "file"),
+        limit: number_in(found, "limit").unwrap_or(DEFAULT_STEPS),
+        seed: number_in(found, "seed").unwrap_or(DEFAULT_SEED),
+        decimals: decimals_in(found).unwrap_or(DEFAULT_DECIMALS),
+        budget: number_in(found, "budget").unwrap_or(DEFAULT_BUDGET),
+        node: option_in(found, "node"),
+        sut: option_in(found, "sut"),
+        oracle: option_in(found, "oracle"),
+        replay: option_in(found, "replay"),
+        locals: is_given(found, "locals"),
     }
 }

@@ -1,19 +1,22 @@
 -- What is given, part by part.
-use Rattle.std.specs.Prelude.{◌≡◌, ◌⊎◌, ℕ, ◌∷◌, ◌++◌, [], Ok, Err, List}
+use Rattle.std.specs.Prelude.{◌≡◌, ◌⊎◌, ◌≤◌, ℕ, ◌∷◌, ◌++◌, [], Ok, Err, List}
 use Rattle.std.specs.Io.KnownBytes.{Appends, Keeps}
 use Rattle.std.specs.declared.option.Option.{Option}
 use Rattle.lt_io.specs.Sending.{AppendsPart}
+use Rattle.lt_loop.specs.Machine.{most_steps}
 use Rattle.lt_prepare.specs.Prepared.{IsPrintedAnswer}
 use Rattle.lt_prepare.specs.declared.refusal.Refusal.{Refusal as Reason}
 use Rattle.lt_prepare.specs.declared.refusal.Unprepared.{Unprepared}
 use Rattle.lt_prepare.specs.declared.refusal.Unprepared.TheVariants as unprepared
 use Rattle.lt_session.specs.Session.{Outside as Beside}
+use Rattle.lt_stress.specs.declared.stressed.Stressed.{Stressed}
+use Rattle.lt_stress.specs.declared.stressed.Stressed.TheVariants as stressed
 use Rattle.lt_term.specs.Scene.{Scene}
 use Rattle.lt_words.specs.Words.{Request}
 use Rattle.lt_call.specs.Call.{IsTrace}
 use Rattle.lt_call.specs.Course.{giver_of}
-use Rattle.lt_call.specs.Due.{Answer, Contents, IsDue, plays}
-use Rattle.lt_call.specs.Given.{Gives, IsDone, PutsNothing}
+use Rattle.lt_call.specs.Due.{Answer, IsDue, plays}
+use Rattle.lt_call.specs.Given.{Gives, IsDone, PutsNothing, number_behind}
 use Rattle.lt_call.specs.Outside.{Outside}
 use Rattle.lt_call.specs.declared.status.Device.TheVariants as device
 use Rattle.lt_call.specs.declared.status.Refusal.TheVariants as refusal
@@ -46,3 +49,16 @@ pub data Prints (text : List ℕ) (old new : Option (List ℕ)) : Status → Typ
 abbrev pub status_why : Unprepared → Status
 status_why (unprepared.Refused reason) = status.Refused (refusal.Scenario reason)
 status_why unprepared.Memory = status.Memory
+
+-- the status of a large run that ended so
+abbrev pub status_so : Stressed → Status
+status_so stressed.Done = status.Done
+status_so (stressed.Ended e steps) = status.Ran (record { end = e; at = number_behind e steps })
+status_so (stressed.Refused reason) = status.Refused (refusal.Scenario reason)
+status_so stressed.Memory = status.Memory
+status_so stressed.Untraced = status.Device device.Trace 0
+
+-- it had no more steps than a machine makes
+abbrev pub HasFewSteps : Stressed → Type 0
+HasFewSteps (stressed.Ended e steps) = steps ≤ most_steps
+HasFewSteps _ = Unit {0}

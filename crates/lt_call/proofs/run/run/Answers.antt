@@ -1,15 +1,11 @@
 use Rattle.std.proofs.Common.{ap, sym, subst, ◌∙◌}
 use Rattle.lt_loop.specs.CoreView.{standing}
 use Rattle.lt_play.specs.contracts.player.PlayerMachine.TheImpl as player
-use Rattle.lt_rif.specs.declared.end.Who.{Who}
 use Rattle.lt_term.specs.SceneView.{scene}
-use Rattle.lt_words.specs.Asked.{request}
-use Rattle.lt_words.specs.declared.usage.UsageKind.{UsageKind}
 use Rattle.lt_call.specs.Call.{IsCounted, blames}
 use Rattle.lt_call.specs.Given.{status_of}
 use Rattle.lt_call.specs.declared.status.Device.TheVariants.{Program, Trace}
 use Rattle.lt_call.specs.declared.status.Status.{Status}
-use Rattle.lt_call.specs.declared.status.Status.TheVariants.{Usage}
 use Rattle.lt_call.proofs.Runs.{never_usage, programs_counted, ran_by, trace_counted}
 use Rattle.lt_call.proofs.run.run.Goals as goal
 

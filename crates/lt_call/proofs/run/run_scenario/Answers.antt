@@ -1,8 +1,7 @@
-use Rattle.std.proofs.Common.{◌≡◌, Err, sym, ◌∙◌, ap, refl}
+use Rattle.std.proofs.Common.{Err, sym, ◌∙◌, ap, refl}
 use Rattle.lt_term.specs.SceneView.{scene}
 use Rattle.lt_words.specs.Asked.{request}
 use Rattle.lt_call.specs.Course.{giver_of}
-use Rattle.lt_call.specs.Outside.{beside}
 use Rattle.lt_call.proofs.Gives.{as_told, filed, not_served, nothing, ran_alone, ran_from, trace_failed, trace_too_long, trace_unread}
 use Rattle.lt_call.proofs.run.run_scenario.Goals as goal
 

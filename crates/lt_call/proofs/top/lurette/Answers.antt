@@ -16,6 +16,7 @@ returns g c =
     record {
       names = names_of served.result;
       usage = served.ensures.usage;
+      refused = served.ensures.refused;
       untouched = served.ensures.untouched;
       answers = served.ensures.answers;
       blame = served.ensures.counts;

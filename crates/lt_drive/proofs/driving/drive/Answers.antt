@@ -12,8 +12,8 @@ pub loop-next-init : goal.loop-next-init
 loop-next-init g c = record {
   goes = starts (standing {b = g.M.Machine} c.args.core.now)
       (record {
-        controller = link (g.C.Link.sent c.args.controller.now) (g.C.Link.left c.args.controller.now) (g.C.Link.faults c.args.controller.now);
-        oracle = link (g.O.Link.sent c.args.oracle.now) (g.O.Link.left c.args.oracle.now) (g.O.Link.faults c.args.oracle.now);
+        controller = link (g.C.Link.sent c.args.controller.now) (g.C.Link.left c.args.controller.now) (g.C.Link.faults c.args.controller.now) (g.C.Link.fits c.args.controller.now);
+        oracle = link (g.O.Link.sent c.args.oracle.now) (g.O.Link.left c.args.oracle.now) (g.O.Link.faults c.args.oracle.now) (g.O.Link.fits c.args.oracle.now);
         trace = sink (g.S.Sink.written c.args.trace.now) (g.S.Sink.faults c.args.trace.now);
       });
   wants = c.requires;
@@ -29,18 +29,18 @@ loop-next-preserved g c =
     record {
       goes = goes_on_by (course_of (standing {b = g.M.Machine} c.args.core.now))
           (record {
-            controller = link (g.C.Link.sent c.args.controller.now) (g.C.Link.left c.args.controller.now) (g.C.Link.faults c.args.controller.now);
-            oracle = link (g.O.Link.sent c.args.oracle.now) (g.O.Link.left c.args.oracle.now) (g.O.Link.faults c.args.oracle.now);
+            controller = link (g.C.Link.sent c.args.controller.now) (g.C.Link.left c.args.controller.now) (g.C.Link.faults c.args.controller.now) (g.C.Link.fits c.args.controller.now);
+            oracle = link (g.O.Link.sent c.args.oracle.now) (g.O.Link.left c.args.oracle.now) (g.O.Link.faults c.args.oracle.now) (g.O.Link.fits c.args.oracle.now);
             trace = sink (g.S.Sink.written c.args.trace.now) (g.S.Sink.faults c.args.trace.now);
           })
           (record {
-            controller = link (g.C.Link.sent c.loop-next.controller) (g.C.Link.left c.loop-next.controller) (g.C.Link.faults c.loop-next.controller);
-            oracle = link (g.O.Link.sent c.loop-next.oracle) (g.O.Link.left c.loop-next.oracle) (g.O.Link.faults c.loop-next.oracle);
+            controller = link (g.C.Link.sent c.loop-next.controller) (g.C.Link.left c.loop-next.controller) (g.C.Link.faults c.loop-next.controller) (g.C.Link.fits c.loop-next.controller);
+            oracle = link (g.O.Link.sent c.loop-next.oracle) (g.O.Link.left c.loop-next.oracle) (g.O.Link.faults c.loop-next.oracle) (g.O.Link.fits c.loop-next.oracle);
             trace = sink (g.S.Sink.written c.loop-next.trace) (g.S.Sink.faults c.loop-next.trace);
           })
           (record {
-            controller = link (g.C.Link.sent c.step.new.controller) (g.C.Link.left c.step.new.controller) (g.C.Link.faults c.step.new.controller);
-            oracle = link (g.O.Link.sent c.step.new.oracle) (g.O.Link.left c.step.new.oracle) (g.O.Link.faults c.step.new.oracle);
+            controller = link (g.C.Link.sent c.step.new.controller) (g.C.Link.left c.step.new.controller) (g.C.Link.faults c.step.new.controller) (g.C.Link.fits c.step.new.controller);
+            oracle = link (g.O.Link.sent c.step.new.oracle) (g.O.Link.left c.step.new.oracle) (g.O.Link.faults c.step.new.oracle) (g.O.Link.fits c.step.new.oracle);
             trace = sink (g.S.Sink.written c.step.new.trace) (g.S.Sink.faults c.step.new.trace);
           })
           (standing {b = g.M.Machine} c.loop-next.core) (standing {b = g.M.Machine} c.step.new.core) c.in-Goes.next before.goes c.in-Goes.ensures.steps;
@@ -54,18 +54,18 @@ pub returns-in-Over-clause-driven : goal.returns-in-Over-clause-driven
 returns-in-Over-clause-driven g c =
     driven_by (course_of (standing {b = g.M.Machine} c.args.core.now))
     (record {
-      controller = link (g.C.Link.sent c.args.controller.now) (g.C.Link.left c.args.controller.now) (g.C.Link.faults c.args.controller.now);
-      oracle = link (g.O.Link.sent c.args.oracle.now) (g.O.Link.left c.args.oracle.now) (g.O.Link.faults c.args.oracle.now);
+      controller = link (g.C.Link.sent c.args.controller.now) (g.C.Link.left c.args.controller.now) (g.C.Link.faults c.args.controller.now) (g.C.Link.fits c.args.controller.now);
+      oracle = link (g.O.Link.sent c.args.oracle.now) (g.O.Link.left c.args.oracle.now) (g.O.Link.faults c.args.oracle.now) (g.O.Link.fits c.args.oracle.now);
       trace = sink (g.S.Sink.written c.args.trace.now) (g.S.Sink.faults c.args.trace.now);
     })
     (record {
-      controller = link (g.C.Link.sent c.loop-next.controller) (g.C.Link.left c.loop-next.controller) (g.C.Link.faults c.loop-next.controller);
-      oracle = link (g.O.Link.sent c.loop-next.oracle) (g.O.Link.left c.loop-next.oracle) (g.O.Link.faults c.loop-next.oracle);
+      controller = link (g.C.Link.sent c.loop-next.controller) (g.C.Link.left c.loop-next.controller) (g.C.Link.faults c.loop-next.controller) (g.C.Link.fits c.loop-next.controller);
+      oracle = link (g.O.Link.sent c.loop-next.oracle) (g.O.Link.left c.loop-next.oracle) (g.O.Link.faults c.loop-next.oracle) (g.O.Link.fits c.loop-next.oracle);
       trace = sink (g.S.Sink.written c.loop-next.trace) (g.S.Sink.faults c.loop-next.trace);
     })
     (record {
-      controller = link (g.C.Link.sent c.step.new.controller) (g.C.Link.left c.step.new.controller) (g.C.Link.faults c.step.new.controller);
-      oracle = link (g.O.Link.sent c.step.new.oracle) (g.O.Link.left c.step.new.oracle) (g.O.Link.faults c.step.new.oracle);
+      controller = link (g.C.Link.sent c.step.new.controller) (g.C.Link.left c.step.new.controller) (g.C.Link.faults c.step.new.controller) (g.C.Link.fits c.step.new.controller);
+      oracle = link (g.O.Link.sent c.step.new.oracle) (g.O.Link.left c.step.new.oracle) (g.O.Link.faults c.step.new.oracle) (g.O.Link.fits c.step.new.oracle);
       trace = sink (g.S.Sink.written c.step.new.trace) (g.S.Sink.faults c.step.new.trace);
     })
     (standing {b = g.M.Machine} c.loop-next.core) (standing {b = g.M.Machine} c.step.new.core) c.in-Over.driven c.loop-next.invariant.goes c.in-Over.ensures.steps

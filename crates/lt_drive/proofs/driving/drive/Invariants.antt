@@ -14,13 +14,13 @@ abbrev pub invariant-loop-next : goal.invariant-loop-next
 invariant-loop-next g l = record {
   goes : Goes (course_of (standing {b = g.M.Machine} l.fn.core))
       (record {
-        controller = link (g.C.Link.sent l.fn.controller) (g.C.Link.left l.fn.controller) (g.C.Link.faults l.fn.controller);
-        oracle = link (g.O.Link.sent l.fn.oracle) (g.O.Link.left l.fn.oracle) (g.O.Link.faults l.fn.oracle);
+        controller = link (g.C.Link.sent l.fn.controller) (g.C.Link.left l.fn.controller) (g.C.Link.faults l.fn.controller) (g.C.Link.fits l.fn.controller);
+        oracle = link (g.O.Link.sent l.fn.oracle) (g.O.Link.left l.fn.oracle) (g.O.Link.faults l.fn.oracle) (g.O.Link.fits l.fn.oracle);
         trace = sink (g.S.Sink.written l.fn.trace) (g.S.Sink.faults l.fn.trace);
       })
       (record {
-        controller = link (g.C.Link.sent l.controller) (g.C.Link.left l.controller) (g.C.Link.faults l.controller);
-        oracle = link (g.O.Link.sent l.oracle) (g.O.Link.left l.oracle) (g.O.Link.faults l.oracle);
+        controller = link (g.C.Link.sent l.controller) (g.C.Link.left l.controller) (g.C.Link.faults l.controller) (g.C.Link.fits l.controller);
+        oracle = link (g.O.Link.sent l.oracle) (g.O.Link.left l.oracle) (g.O.Link.faults l.oracle) (g.O.Link.fits l.oracle);
         trace = sink (g.S.Sink.written l.trace) (g.S.Sink.faults l.trace);
       })
       (standing {b = g.M.Machine} l.core);

@@ -21,8 +21,8 @@ returns-in_default-clause-proceeds g c =
     let out = subst (λ (p : Option PieceKind). PutsOut (play_due (told c.args.event) taken s) p text new) c.in_default.is put.out in
     let counts = put.counts ∙ ap (λ (p : Option PieceKind). s.written + steps_in p) c.in_default.is in
     let old : Outside = record {
-      controller = link (g.C.Link.sent c.args.controller.now) (g.C.Link.left c.args.controller.now) (g.C.Link.faults c.args.controller.now);
-      oracle = link (g.O.Link.sent c.args.oracle.now) (g.O.Link.left c.args.oracle.now) (g.O.Link.faults c.args.oracle.now);
+      controller = link (g.C.Link.sent c.args.controller.now) (g.C.Link.left c.args.controller.now) (g.C.Link.faults c.args.controller.now) (g.C.Link.fits c.args.controller.now);
+      oracle = link (g.O.Link.sent c.args.oracle.now) (g.O.Link.left c.args.oracle.now) (g.O.Link.faults c.args.oracle.now) (g.O.Link.fits c.args.oracle.now);
       trace = sink (g.S.Sink.written c.args.trace.now) (g.S.Sink.faults c.args.trace.now);
     } in
     (goes_without s new (told c.args.event) taken text put.taken old c.event-emits.result.wants out put.wants (λ memory. subst (MayStarve s.phase s.left) c.in_default.is (put.starves memory)) put.plan counts, put.wants)
@@ -51,13 +51,13 @@ returns-in-Ok-clause-proceeds g c =
     let counts = put.counts ∙ ap (λ (p : Option PieceKind). s.written + steps_in p) c.in-Some.is in (
       goes_with s new (told c.args.event) taken c.text.result.now put.taken c.in-Some.kind fed lent put.plan counts
           (record {
-            controller = link (g.C.Link.sent c.args.controller.now) (g.C.Link.left c.args.controller.now) (g.C.Link.faults c.args.controller.now);
-            oracle = link (g.O.Link.sent c.args.oracle.now) (g.O.Link.left c.args.oracle.now) (g.O.Link.faults c.args.oracle.now);
+            controller = link (g.C.Link.sent c.args.controller.now) (g.C.Link.left c.args.controller.now) (g.C.Link.faults c.args.controller.now) (g.C.Link.fits c.args.controller.now);
+            oracle = link (g.O.Link.sent c.args.oracle.now) (g.O.Link.left c.args.oracle.now) (g.O.Link.faults c.args.oracle.now) (g.O.Link.fits c.args.oracle.now);
             trace = sink (g.S.Sink.written c.args.trace.now) (g.S.Sink.faults c.args.trace.now);
           })
           (record {
-            controller = link (g.C.Link.sent c.give.new.controller) (g.C.Link.left c.give.new.controller) (g.C.Link.faults c.give.new.controller);
-            oracle = link (g.O.Link.sent c.give.new.oracle) (g.O.Link.left c.give.new.oracle) (g.O.Link.faults c.give.new.oracle);
+            controller = link (g.C.Link.sent c.give.new.controller) (g.C.Link.left c.give.new.controller) (g.C.Link.faults c.give.new.controller) (g.C.Link.fits c.give.new.controller);
+            oracle = link (g.O.Link.sent c.give.new.oracle) (g.O.Link.left c.give.new.oracle) (g.O.Link.faults c.give.new.oracle) (g.O.Link.fits c.give.new.oracle);
             trace = sink (g.S.Sink.written c.give.new.trace) (g.S.Sink.faults c.give.new.trace);
           })
           c.in-Ok.ensures.whole,
@@ -111,13 +111,13 @@ returns-in-Err-clause-proceeds g c =
     let counts = put.counts ∙ ap (λ (p : Option PieceKind). s.written + steps_in p) c.in-Some.is in
     broken_off s new (told c.args.event) taken c.text.result.now put.taken c.in-Some.kind fed lent put.plan counts
     (record {
-      controller = link (g.C.Link.sent c.args.controller.now) (g.C.Link.left c.args.controller.now) (g.C.Link.faults c.args.controller.now);
-      oracle = link (g.O.Link.sent c.args.oracle.now) (g.O.Link.left c.args.oracle.now) (g.O.Link.faults c.args.oracle.now);
+      controller = link (g.C.Link.sent c.args.controller.now) (g.C.Link.left c.args.controller.now) (g.C.Link.faults c.args.controller.now) (g.C.Link.fits c.args.controller.now);
+      oracle = link (g.O.Link.sent c.args.oracle.now) (g.O.Link.left c.args.oracle.now) (g.O.Link.faults c.args.oracle.now) (g.O.Link.fits c.args.oracle.now);
       trace = sink (g.S.Sink.written c.args.trace.now) (g.S.Sink.faults c.args.trace.now);
     })
     (record {
-      controller = link (g.C.Link.sent c.give.new.controller) (g.C.Link.left c.give.new.controller) (g.C.Link.faults c.give.new.controller);
-      oracle = link (g.O.Link.sent c.give.new.oracle) (g.O.Link.left c.give.new.oracle) (g.O.Link.faults c.give.new.oracle);
+      controller = link (g.C.Link.sent c.give.new.controller) (g.C.Link.left c.give.new.controller) (g.C.Link.faults c.give.new.controller) (g.C.Link.fits c.give.new.controller);
+      oracle = link (g.O.Link.sent c.give.new.oracle) (g.O.Link.left c.give.new.oracle) (g.O.Link.faults c.give.new.oracle) (g.O.Link.fits c.give.new.oracle);
       trace = sink (g.S.Sink.written c.give.new.trace) (g.S.Sink.faults c.give.new.trace);
     })
     (sink (g.S.Sink.written c.break_off.new.trace) (g.S.Sink.faults c.break_off.new.trace)) (standing {b = g.M.Machine} c.break_off.new.core) c.break_off.result

@@ -21,6 +21,7 @@ returns-in-Ok-clause-beside g c =
       first = done.starts;
       others = done.others;
       unsent = done.unsent;
+      tells = done.tells;
       faultless = done.faultless;
       asked = done.asks (λ e. cc e);
       closed = done.none_closed;

@@ -1,5 +1,5 @@
 -- What is told of the sides is what their links have left, and no side's count rose.
-use Rattle.std.proofs.Common.{◌≡◌, ◌≢◌, ℕ, ◌+◌, List, refl, subst}
+use Rattle.std.proofs.Common.{◌≡◌, ◌≢◌, ℕ, ◌+◌, List, refl, ◌∙◌, subst}
 use Rattle.std.specs.Io.KnownBytes.{Appends}
 use Rattle.lt_io.specs.Causes.{Rose}
 use Rattle.lt_rif.specs.declared.end.End.{End}
@@ -17,11 +17,13 @@ use Rattle.lt_drive.specs.declared.driven.Driven.{Driven}
 use Rattle.lt_drive.specs.declared.driven.Driven.TheVariants as driven
 use Rattle.lt_session.specs.Session.{IsPlayed, Origin, Outside, between}
 use Rattle.lt_session.specs.Session as session
+use Rattle.lt_session.specs.Sent.{AreSent}
 use Rattle.lt_session.specs.Whole.{AreApart, Gives, UndisturbedSessionsAreWhole}
 use Rattle.lt_session.specs.declared.played.Played.{Played}
 use Rattle.lt_session.specs.declared.played.Played.TheVariants as played
 use Rattle.lt_session.proofs.Drives.{ended_calm, none_rose}
 use Rattle.lt_session.proofs.Links.{faultless, left_by, still_gives}
+use Rattle.lt_session.proofs.Sent.{both_sent}
 use Rattle.lt_session.proofs.laws.undisturbed_sessions_are_whole.Goals as goal
 
 -- no count of links without a fault rose
@@ -30,11 +32,16 @@ none_risen : (old new : driving.Outside) → old.controller.faults ≡ 0 → old
 none_risen old new c o same who.Controller rose = none_rose old.controller.faults new.controller.faults (same who.Controller) c rose
 none_risen old new c o same who.Oracle rose = none_rose old.oracle.faults new.oracle.faults (same who.Oracle) o rose
 
+-- a count of a link without a fault that didn't change
+still_calm : (a b : ℕ) → b ≡ a → a ≡ 0 → b ≡ 0
+still_calm a b same none = same ∙ none
+
 module _ {State : Type 0} (law : UndisturbedRunsAreWhole State) (k : Course) (controller oracle : Origin) (old new : Outside) (core : Standing State) (e : End) (c o : List ℕ) where
   whole_by : (how : Played) → IsPlayed k controller oracle old new core how → how ≡ played.Driven (driven.Ended e) → ((w : Who) → e ≢ end.Device w) →
       AreApart controller oracle → Gives controller old.programs c → Gives oracle old.programs o →
       ((k.play (closed c) (closed o)).stop ≡ ends e) × Appends old.trace.written new.trace.written (text_to destination.Trace (k.play (closed c) (closed o)).pieces)
       × (core.written ≡ k.written + step_count (k.play (closed c) (closed o)).pieces)
+      × AreSent controller oracle (k.play (closed c) (closed o)).pieces 0 0 old.programs new.programs
   whole_by _ (session.driven l l' m m' p q r how opens opened drove closes closed_later) is calm apart gives_c gives_o =
       let before = between l m old.trace in
       let after = between l' m' new.trace in
@@ -45,7 +52,12 @@ module _ {State : Type 0} (law : UndisturbedRunsAreWhole State) (k : Course) (co
       (left_by controller old.programs p l c opens gives_c)
       (left_by oracle p q m o opened (still_gives controller oracle old.programs p l o apart opens gives_o))
       (none_risen before after (faultless controller old.programs p l opens) (faultless oracle p q m opened) same) in
-      (whole.stop, whole.gives destination.Trace, whole.steps)
+      let sent = both_sent controller oracle old.programs p q r new.programs l l' m m' (k.play (closed c) (closed o)).pieces opens opened closes closed_later
+      (whole.gives destination.Controller) (whole.gives destination.Oracle) in
+      let sent_calm =
+      subst (λ (n : ℕ). AreSent controller oracle (k.play (closed c) (closed o)).pieces 0 n old.programs new.programs) (still_calm m.faults m'.faults (same who.Oracle) (faultless oracle p q m opened))
+      (subst (λ (n : ℕ). AreSent controller oracle (k.play (closed c) (closed o)).pieces n m'.faults old.programs new.programs) (still_calm l.faults l'.faults (same who.Controller) (faultless controller old.programs p l opens)) sent) in
+      (whole.stop, whole.gives destination.Trace, whole.steps, sent_calm)
   whole_by _ (session.no_controller command why unstarted trace_is) is calm apart gives_c gives_o = absurd (cc is)
   whole_by _ (session.no_oracle command l p q why opens unstarted closes trace_is) is calm apart gives_c gives_o = absurd (cc is)
   whole_by _ (session.memory_at_first same trace_is) is calm apart gives_c gives_o = absurd (cc is)

@@ -37,6 +37,7 @@ returns-clause-played g c =
       first = done.starts;
       others = done.others;
       unsent = done.unsent;
+      tells = done.tells;
       faultless = done.faultless;
       asked = done.asks (λ e. cc e);
       closed = done.none_closed;

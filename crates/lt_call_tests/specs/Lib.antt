@@ -1,0 +1,2 @@
+-- What finished links leave behind.
+pub mod Keeping

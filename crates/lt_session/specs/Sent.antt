@@ -1,0 +1,61 @@
+-- What the two sides of a run were sent.
+use Rattle.std.specs.Prelude.{◌≡◌, ℕ, ◌<◌, ◌+◌, List, [], ◌∷◌, ◌++◌, length, None, Some, MatchBool}
+use Rattle.std.specs.Io.KnownBytes.{Appends}
+use Rattle.std.specs.declared.option.Option.{Option}
+use Rattle.lt_io.specs.Causes.{WhereTold}
+use Rattle.lt_io.specs.Spawning.{Closed}
+use Rattle.lt_rif.specs.declared.end.End.{End}
+use Rattle.lt_rif.specs.declared.end.End.TheVariants as end
+use Rattle.lt_rif.specs.declared.end.Who.{Who}
+use Rattle.lt_rif.specs.declared.end.Who.TheVariants as who
+use Rattle.lt_loop.specs.Play.{Piece, destination_of, step_count}
+use Rattle.lt_loop.specs.Standing.{Standing}
+use Rattle.lt_loop.specs.declared.event.Destination.TheVariants as destination
+use Rattle.lt_loop.specs.declared.event.PieceKind.{PieceKind}
+use Rattle.lt_drive.specs.Drive.{BeginsUnended, Course, GivesOut, IsWhole, step_at_hand}
+use Rattle.lt_drive.specs.Outside.{Received, is_fault_of, piece, text_to}
+use Rattle.lt_drive.specs.declared.driven.Driven.{Driven}
+use Rattle.lt_drive.specs.declared.driven.Driven.TheVariants as driven
+use Rattle.lt_session.specs.Programs.{Programs}
+use Rattle.lt_session.specs.Session.{IsPlayed, Origin, Outside, program}
+use Rattle.lt_session.specs.declared.played.Played.TheVariants as played
+
+-- Pieces that a run gave out that ended so, where this was received, and this side failed, if one did: all of its play, or
+-- those up to what cut it. A row a way.
+pub data AreGiven (k : Course) (received : Received) : List Piece → Option Who → Driven → Type 0 where
+  -- it ended by itself: they are all of its play
+  whole : (ps : List Piece) (e : End) → IsWhole k received ps e → AreGiven k received ps None (driven.Ended e)
+  -- a side failed: they are those before that, and the end line of its fault
+  failed : (ps : List Piece) (w : Who) → GivesOut k received ps (Some w) → AreGiven k received ps (Some w) (driven.Ended (end.Device w))
+  -- memory ran out: they are those before that
+  starved : (ps : List Piece) → BeginsUnended k received ps → AreGiven k received ps None driven.Starved
+  -- a write to the trace failed: they are those before that, and a front of the piece
+  untraced : (before : List Piece) (fault : Option Who) (kind : PieceKind) (front rest : List ℕ) →
+      GivesOut k received (before ++ piece kind (front ++ rest) ∷ []) fault → destination_of kind ≡ destination.Trace → 0 < length rest →
+      AreGiven k received (before ++ piece kind front ∷ []) fault (driven.Untraced (step_at_hand kind (k.written + step_count before)))
+
+-- What a side leaves behind whose link was sent this text and has so many faults. Only a program leaves something.
+abbrev pub left_behind : Origin → List ℕ → ℕ → List Closed
+left_behind (program command) text faults = record { sent = Some text; faults = faults } ∷ []
+left_behind _ text faults = []
+
+-- Where it is told what finished links leave behind, that grew by what the two sides leave, the controller first: each was
+-- sent what is for it of these pieces, and their links have so many faults.
+abbrev pub AreSent : Origin → Origin → List Piece → ℕ → ℕ → Programs → Programs → Type 0
+AreSent controller oracle ps m n old new =
+    WhereTold old.closed (λ before. new.closed ≡
+    Some ((before ++ left_behind controller (text_to destination.Controller ps) m) ++ left_behind oracle (text_to destination.Oracle ps) n))
+
+-- a side's link has faults exactly where it was this side that failed
+abbrev pub IsFaulty : Who → Option Who → ℕ → Type 0
+IsFaulty w fault count = MatchBool (is_fault_of w fault) (0 < count) (count ≡ 0)
+
+-- However a run ended that was driven, the trace and the two sides got what is for them of the same pieces.
+abbrev pub SidesGetTheirPieces : Type 0 → Type 0
+SidesGetTheirPieces State =
+    (k : Course) (controller oracle : Origin) (old new : Outside) (core : Standing State) (how : Driven) → IsPlayed k controller oracle old new core (played.Driven how) →
+    (received : Received) × (ps : List Piece) × (fault : Option Who) × (m : ℕ) × (n : ℕ)
+    × AreGiven k received ps fault how
+    × Appends old.trace.written new.trace.written (text_to destination.Trace ps)
+    × IsFaulty who.Controller fault m × IsFaulty who.Oracle fault n
+    × AreSent controller oracle ps m n old.programs new.programs

@@ -1,0 +1,148 @@
+-- Where a plant stands with one byte more, and what fits it.
+use Rattle.std.proofs.Common.{◌≡◌, ℕ, zero, suc, ◌+◌, ◌<◌, ◌≤◌, ◌==◌, Bool, true, false, ◌&&◌, List, [], ◌∷◌, ◌++◌, take, drop, length, get_or, refl, ap, sym, subst, ◌∙◌, append_assoc, append-nil, arith}
+use Rattle.std.proofs.lemmas.Bool.{eq-eqb, eqb-true}
+use Rattle.std.proofs.lemmas.Grind.{flat_map-append}
+use Rattle.std.proofs.lemmas.List.{take-append-drop, take_all, take_more}
+use Rattle.std.proofs.lemmas.List.Sums.{sum_by-append}
+use Rattle.std.specs.List.{flat_map, sum_by}
+use Rattle.lt_io.specs.Fitting.{FitsReceived, FitsSent, is_end}
+use Rattle.lt_stress.specs.Plant.{lines_of, replies_of, reply, sum_in, sum_of}
+use Rattle.lt_stress.specs.inner.Standing.{Gives, Standing, StandsAfter, Takes, fresh, may_stand, open_from, same, stands_with}
+use Rattle.lt_stress.proofs.Lines.{lines_ended, lines_more, open_ended, open_more}
+
+-- a byte of a line was taken
+pub takes_byte : (p q : Standing) (b : ℕ) → (b == 10) ≡ false → q.number ≡ p.number → q.line ≡ p.line ++ b ∷ [] → q.reply ≡ p.reply → q.sum ≡ p.sum → Takes p (b ∷ []) q
+takes_byte p q b other number line replies sum n s r h = record {
+  number = number ∙ h.number;
+  line = open_more [] s b other ∙ ap (λ (t : List ℕ). t ++ b ∷ []) h.line ∙ sym line;
+  replies = ap (flat_map (reply n)) (lines_more [] s b other) ∙ h.replies ∙ ap (λ (t : List ℕ). r ++ t) (sym replies);
+  sum = ap (sum_by sum_in) (lines_more [] s b other) ∙ h.sum ∙ sym sum;
+}
+
+-- the end of a line was taken
+pub takes_end : (p q : Standing) → q.number ≡ p.number → q.line ≡ [] → p.reply ≡ [] → q.reply ≡ reply p.number p.line → q.sum ≡ p.sum + sum_in p.line → Takes p (10 ∷ []) q
+takes_end p q number line none replies sum n s r h =
+    let lines : lines_of (s ++ 10 ∷ []) ≡ lines_of s ++ open_from [] s ∷ [] = lines_ended [] s in
+    record {
+      number = number ∙ h.number;
+      line = open_ended [] s ∙ sym line;
+      replies =
+          ap (flat_map (reply n)) lines ∙ flat_map-append (reply n) (lines_of s) (open_from [] s ∷ []) ∙ ap (λ (t : List ℕ). replies_of n s ++ t) (append-nil (reply n (open_from [] s)))
+          ∙ ap (λ (t : List ℕ). t ++ reply n (open_from [] s)) (h.replies ∙ ap (λ (t : List ℕ). r ++ t) none ∙ append-nil r)
+          ∙ ap (λ (t : List ℕ). r ++ reply n t) h.line ∙ ap (λ (m : ℕ). r ++ reply m p.line) (sym h.number) ∙ ap (λ (t : List ℕ). r ++ t) (sym replies);
+      sum = let parts : sum_of (s ++ 10 ∷ []) ≡ sum_of s + sum_by sum_in (open_from [] s ∷ []) = ap (sum_by sum_in) lines ∙ sum_by-append sum_in (lines_of s) (open_from [] s ∷ []) in
+          let last : sum_in (open_from [] s) ≡ sum_in p.line = ap sum_in h.line in
+          let before : sum_of s ≡ p.sum = h.sum in
+          omega (arith, parts, last, before, sum);
+    }
+
+-- nothing was taken
+pub takes_none : (p : Standing) → Takes p [] p
+takes_none p n s r h = subst (λ (t : List ℕ). StandsAfter n p t r) (sym (append-nil s)) h
+
+-- bytes were taken, and then more
+pub takes_both : (p q t : Standing) (a b : List ℕ) → Takes p a q → Takes q b t → Takes p (a ++ b) t
+takes_both p q t a b first second n s r h = subst (λ (x : List ℕ). StandsAfter n t x r) (append_assoc s a b) (second n (s ++ a) r (first n s r h))
+
+-- a front of the reply was given
+pub gives_front : (p q : Standing) (count : ℕ) (bytes : List ℕ) → q.number ≡ p.number → q.line ≡ p.line → bytes ≡ take count p.reply → q.reply ≡ drop count p.reply → q.sum ≡ p.sum → Gives p bytes q
+gives_front p q count bytes number line front rest sum n s r h = record {
+  number = number ∙ h.number;
+  line = h.line ∙ sym line;
+  replies = h.replies ∙ ap (λ (t : List ℕ). r ++ t) (sym (take-append-drop count p.reply)) ∙ sym (append_assoc r (take count p.reply) (drop count p.reply))
+      ∙ ap (λ (t : List ℕ). (r ++ t) ++ drop count p.reply) (sym front) ∙ ap (λ (t : List ℕ). (r ++ bytes) ++ t) (sym rest);
+  sum = h.sum ∙ sym sum;
+}
+
+-- ---- tests
+
+both_true : (a b : Bool) → a && b ≡ true → (a ≡ true) × (b ≡ true)
+both_true true b e = (refl, e)
+both_true false b e = absurd (cc e)
+
+true_both : (a b : Bool) → a ≡ true → b ≡ true → a && b ≡ true
+true_both true b e f = f
+true_both false b e f = absurd (cc e)
+
+same-is : (xs ys : List ℕ) → same xs ys ≡ true → xs ≡ ys
+same-is [] [] e = refl
+same-is [] (y ∷ ys) e = absurd (cc e)
+same-is (x ∷ xs) [] e = absurd (cc e)
+same-is (x ∷ xs) (y ∷ ys) e = let both = both_true (x == y) (same xs ys) e in ap (λ (a : ℕ). a ∷ xs) (eqb-true x y both.0) ∙ ap (λ (t : List ℕ). y ∷ t) (same-is xs ys both.1)
+
+same-refl : (xs : List ℕ) → same xs xs ≡ true
+same-refl [] = refl
+same-refl (x ∷ xs) = true_both (x == x) (same xs xs) (eq-eqb x x refl) (same-refl xs)
+
+is-same : (xs ys : List ℕ) → xs ≡ ys → same xs ys ≡ true
+is-same xs ys e = subst (λ (t : List ℕ). same xs t ≡ true) e (same-refl xs)
+
+pub of_test : (p : Standing) (n : ℕ) (s r : List ℕ) → stands_with p n s r ≡ true → StandsAfter n p s r
+of_test p n s r e =
+    let a = both_true (p.number == n) (same (open_from [] s) p.line && (same (replies_of n s) (r ++ p.reply) && (sum_of s == p.sum))) e in
+    let b = both_true (same (open_from [] s) p.line) (same (replies_of n s) (r ++ p.reply) && (sum_of s == p.sum)) a.1 in
+    let c = both_true (same (replies_of n s) (r ++ p.reply)) (sum_of s == p.sum) b.1 in
+    record {
+      number = eqb-true p.number n a.0;
+      line = same-is (open_from [] s) p.line b.0;
+      replies = same-is (replies_of n s) (r ++ p.reply) c.0;
+      sum = eqb-true (sum_of s) p.sum c.1;
+    }
+
+pub test_of : (p : Standing) (n : ℕ) (s r : List ℕ) → StandsAfter n p s r → stands_with p n s r ≡ true
+test_of p n s r h =
+    true_both (p.number == n) (same (open_from [] s) p.line && (same (replies_of n s) (r ++ p.reply) && (sum_of s == p.sum))) (eq-eqb p.number n h.number)
+    (true_both (same (open_from [] s) p.line) (same (replies_of n s) (r ++ p.reply) && (sum_of s == p.sum)) (is-same (open_from [] s) p.line h.line)
+    (true_both (same (replies_of n s) (r ++ p.reply)) (sum_of s == p.sum) (is-same (replies_of n s) (r ++ p.reply) h.replies) (eq-eqb (sum_of s) p.sum h.sum)))
+
+-- what fits a plant that takes bytes
+pub fits_taken : (p q : Standing) (bytes : List ℕ) → Takes p bytes q → FitsSent (may_stand p) (may_stand q) bytes
+fits_taken p q bytes takes s [] is_over e = absurd (cc e)
+fits_taken p q bytes takes s (n ∷ r) true e = absurd (cc e)
+fits_taken p q bytes takes s (n ∷ r) false e = test_of q n (s ++ bytes) r (takes n s r (of_test p n s r e))
+
+never_over : (p q : Standing) (s r : List ℕ) → may_stand p s r true ≡ true → may_stand q s r true ≡ true
+never_over p q s [] e = absurd (cc e)
+never_over p q s (n ∷ r) e = absurd (cc e)
+
+given_on : (p q : Standing) (bytes : List ℕ) → Gives p bytes q → (s r : List ℕ) → may_stand p s r false ≡ true → may_stand q s (r ++ bytes) false ≡ true
+given_on p q bytes gives s [] e = absurd (cc e)
+given_on p q bytes gives s (n ∷ r) e = test_of q n s (r ++ bytes) (gives n s r (of_test p n s r e))
+
+-- what fits a plant that gives bytes
+fits_given : (p q : Standing) (bytes : List ℕ) → Gives p bytes q → FitsReceived (may_stand p) (may_stand q) bytes false
+fits_given p q bytes gives = (given_on p q bytes gives, never_over p q)
+
+-- nothing fits a plant but what it was sent and gave
+pub stands_so : (p : Standing) (n : ℕ) (s r : List ℕ) (is_over : Bool) → may_stand p s (n ∷ r) is_over ≡ true → (is_over ≡ false) × StandsAfter n p s r
+stands_so p n s r true e = absurd (cc e)
+stands_so p n s r false e = (refl, of_test p n s r e)
+
+-- a fresh plant is fitted by nothing sent and nothing received
+pub fits_fresh : (n : ℕ) → may_stand (fresh n) [] (n ∷ []) false ≡ true
+fits_fresh n = test_of (fresh n) n [] [] (record { number = refl; line = refl; replies = refl; sum = refl })
+
+-- a byte that isn't a line feed
+not_true : (t : Bool) → (t ≡ true → ⊥) → t ≡ false
+not_true true h = absurd (h refl)
+not_true false h = refl
+
+pub no_feed : (b : ℕ) → (b ≡ 10 → ⊥) → (b == 10) ≡ false
+no_feed b h = not_true (b == 10) (λ e. h (eqb-true b 10 e))
+
+-- where bytes came, the end did not
+no_end : (n : ℕ) → 0 < n → is_end n ≡ false
+no_end zero some = absurd (omega arith)
+no_end (suc n) some = refl
+
+pub fits_count : (p q : Standing) (bytes : List ℕ) (n : ℕ) → 0 < n → Gives p bytes q → FitsReceived (may_stand p) (may_stand q) bytes (is_end n)
+fits_count p q bytes n some gives = subst (FitsReceived (may_stand p) (may_stand q) bytes) (sym (no_end n some)) (fits_given p q bytes gives)
+
+-- bytes were taken, and then one more
+pub takes_next : (p q t : Standing) (bytes : List ℕ) (i : ℕ) → i < length bytes → Takes p (take i bytes) q → Takes q (get_or bytes i 0 ∷ []) t → Takes p (take (i + 1) bytes) t
+takes_next p q t bytes i some first second =
+    subst (λ (x : List ℕ). Takes p x t) (sym (take_more bytes i 0 some)) (takes_both p q t (take i bytes) (get_or bytes i 0 ∷ []) first second)
+
+-- all were taken
+pub takes_all : (p q : Standing) (bytes : List ℕ) (i : ℕ) → length bytes ≤ i → Takes p (take i bytes) q → Takes p bytes q
+takes_all p q bytes i whole first = subst (λ (x : List ℕ). Takes p x q) (take_all i bytes whole) first

@@ -1,0 +1,13 @@
+-- A reader of what a large run is goes from here to Scenario, Plant, Run, Report and Stressed.
+-- the scenario of a number
+pub mod Scenario
+-- what the plant replies, and the sum that is reported
+pub mod Plant
+-- the run of a number
+pub mod Run
+-- the line that tells it
+pub mod Report
+-- how a large run ends
+pub mod Stressed
+-- words of private contracts
+pub mod inner

@@ -1,0 +1,8 @@
+-- Words of private contracts.
+
+-- where the plant stands, and what fits it there
+pub mod Standing
+-- where a plant of the code stands
+pub mod PlantView
+-- the run as it is made
+pub mod Made

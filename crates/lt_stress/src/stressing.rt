@@ -1,0 +1,153 @@
+//! Large runs.
+
+ghost use Rattle.std.specs.Prelude.{◌≡◌, ◌≤◌, ℕ, false, List, IfSome};
+ghost use Rattle.lt_drive.specs.Drive.{course_of};
+ghost use Rattle.lt_drive.specs.Outside.{sink};
+ghost use Rattle.lt_loop.specs.CoreView.{standing};
+ghost use Rattle.lt_loop.specs.Event.{WantsTell};
+ghost use Rattle.lt_loop.specs.Machine.{most_steps};
+ghost use Rattle.lt_loop.specs.Play.{Piece};
+ghost use Rattle.lt_rif.specs.declared.end.Who.{Who};
+ghost use Rattle.lt_term.specs.Scene.{Scene};
+ghost use Rattle.lt_term.specs.SceneView.{scene};
+ghost use Rattle.lt_stress.specs.Run.{IsRunOf, IsSceneOf, sum_told};
+ghost use Rattle.lt_stress.specs.Scenario.{limit_of};
+ghost use Rattle.lt_stress.specs.Stressed.{IsStressed, unprepared};
+ghost use Rattle.lt_stress.specs.inner.Made.{HasRun, IsCourseOf};
+ghost use Rattle.lt_stress.specs.inner.PlantView.{plant_standing};
+ghost use Rattle.lt_stress.specs.inner.Standing.{fresh};
+
+use crate::nowhere::Nowhere;
+use crate::plant::Plant;
+use crate::report::report;
+use crate::scenario::{limit_of, scenario_text, variables_of};
+use crate::stressed::Stressed;
+use lt_drive::{Driven, drive};
+use lt_io::{Failed, Sink, put};
+use lt_loop::{Core, Setup, Talk, Wants};
+use lt_play::Player;
+use lt_prepare::{Unprepared, scenario_of};
+use lt_rif::End;
+use lt_session::Recorded;
+use lt_term::Scenario;
+use lt_words::{DEFAULT_BUDGET, DEFAULT_DECIMALS};
+use std::alloc::Global;
+
+// How a run ended, how many steps it had, and the sum of all values that it told the plant.
+#[derive(Clone, Copy)]
+struct Ran {
+    end: End,
+    steps: u64,
+    sum: u64,
+}
+
+/// Runs the scenario of a number against the plant of that number, and writes the line of the run to the trace: its number,
+/// its variables, its steps and the sum of all their values. Nothing else is written.
+pub fn stress<S: Sink>(alloc: Global, number: u64, trace: &mut S) -> Stressed
+    requires { number ≤ 999_999 }
+    ensures { IsStressed number (sink (S.written trace.old) (S.faults trace.old)) (sink (S.written trace.new) (S.faults trace.new)) result }
+{
+    let Ok(text) = scenario_text(alloc, variables_of(number)) else {
+        return Stressed::Memory;
+    };
+    match scenario_of(alloc, &text, DEFAULT_DECIMALS, None) {
+        Ok(scenario) => run(alloc, number, scenario, trace),
+        Err(why) => unprepared(why),
+    }
+}
+
+// How it ends where the text could not be made a scenario.
+fn unprepared(why: Unprepared) -> Stressed
+    ensures { result ≡ unprepared why }
+{
+    match why {
+        Unprepared::Refused(reason) => Stressed::Refused(reason),
+        Unprepared::Memory => Stressed::Memory,
+    }
+}
+
+// Runs the scenario of a number, and writes the line.
+fn run<S: Sink>(alloc: Global, number: u64, scenario: Scenario, trace: &mut S) -> Stressed
+    requires { IsSceneOf number (scene scenario) }
+    ensures { IsStressed number (sink (S.written trace.old) (S.faults trace.old)) (sink (S.written trace.new) (S.faults trace.new)) result }
+{
+    let Some(ran) = play(alloc, number, scenario) else {
+        return Stressed::Memory;
+    };
+    match ran.end {
+        End::Limit => tell(alloc, number, ran.sum, trace),
+        end => Stressed::Ended {
+            end,
+            steps: ran.steps,
+        },
+    }
+}
+
+// Writes the line of the run of a number, which ended by its limit and has this sum.
+fn tell<S: Sink>(alloc: Global, number: u64, sum: u64, trace: &mut S) -> Stressed
+    ensures { (s : Scene) (ps : List Piece) → IsSceneOf number s → IsRunOf number s ps End.Limit → sum ≡ sum_told ps →
+        IsStressed number (sink (S.written trace.old) (S.faults trace.old)) (sink (S.written trace.new) (S.faults trace.new)) result }
+{
+    let Ok(line) = report(alloc, number, sum) else {
+        return Stressed::Memory;
+    };
+    match put(trace, &line) {
+        Ok(()) => Stressed::Done,
+        Err(Failed) => Stressed::Untraced,
+    }
+}
+
+// Plays the run of a scenario against the plant. None where memory ran out, or a side failed.
+fn play(alloc: Global, number: u64, scenario: Scenario) -> Option<Ran>
+    ensures { IfSome result (λ ran. HasRun number (scene scenario) ran.end ran.steps ran.sum) }
+{
+    let Ok(mut plant) = Plant::make(alloc, number) else {
+        return None;
+    };
+    let Ok(player) = Player::make(alloc, scenario, number, DEFAULT_BUDGET) else {
+        return None;
+    };
+    let Ok(mut core) = Core::make(alloc, player, setup(number)) else {
+        return None;
+    };
+    play_core(&mut core, &mut plant)
+}
+
+// What the core of the run is told.
+fn setup(number: u64) -> Setup
+    ensures { result ≡ record { seed = number; limit = limit_of number; locals = false; controller = Talk.Live; oracle = false } }
+{
+    Setup {
+        seed: number,
+        limit: limit_of(number),
+        locals: false,
+        controller: Talk::Live,
+        oracle: false,
+    }
+}
+
+// Plays the run of a core against a plant. None where memory ran out, or a side failed.
+fn play_core(core: &mut Core<Player>, plant: &mut Plant) -> Option<Ran>
+    requires { WantsTell (standing core.old) Wants.Turn }
+    ensures { (n : ℕ) (s : Scene) → IsCourseOf n s (course_of (standing core.old)) → plant_standing plant.old ≡ fresh n →
+        IfSome result (λ ran. HasRun n s ran.end ran.steps ran.sum) }
+{
+    let mut nobody = Recorded::new(&[]);
+    match drive(core, plant, &mut nobody, &mut Nowhere) {
+        Driven::Ended(end) => unbroken(end, core.steps(), plant.sum()),
+        Driven::Starved => None,
+        Driven::Untraced { .. } => unreachable!(),
+    }
+}
+
+// A run that ended so. None where a side failed, which the plant doesn't do in a run.
+fn unbroken(end: End, steps: u64, sum: u64) -> Option<Ran>
+    requires { steps ≤ most_steps }
+    ensures ran { IfSome result (λ r. (r ≡ record { end = end; steps = steps; sum = sum }) × ((w : Who) → end ≡ End.Device w → ⊥)) }
+    ensures few { steps ≤ most_steps }
+{
+    match end {
+        End::Device(_) => None,
+        _ => Some(Ran { end, steps, sum }),
+    }
+}
