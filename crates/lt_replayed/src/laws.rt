@@ -1,0 +1,29 @@
+//! The laws. The functions do nothing: their contracts say them.
+
+ghost use Rattle.lt_replayed.specs.Again.{ReplayedCallsAreTheSame};
+ghost use Rattle.lt_replayed.specs.Shown.{TracesOfCallsShowTheirRuns};
+
+use lt_call::{contents_have_one_due_answer, uncut_calls_are_whole};
+use lt_prepare::texts_have_one_scenario_answer;
+use lt_traced::{
+    scenario_fronts_show_their_run, scenario_replays_are_the_same, scenario_traces_show_their_run,
+};
+
+/// A call that plays the trace of an earlier call again writes the same bytes, has the same status, and says the same.
+pub fn replayed_calls_are_the_same()
+    ensures { ReplayedCallsAreTheSame }
+{
+    contents_have_one_due_answer();
+    texts_have_one_scenario_answer();
+    uncut_calls_are_whole();
+    scenario_replays_are_the_same();
+}
+
+/// The trace of a call is the one of the replies and the verdicts that its steps show, whatever its sides tell.
+pub fn traces_of_calls_show_their_runs()
+    ensures { TracesOfCallsShowTheirRuns }
+{
+    texts_have_one_scenario_answer();
+    scenario_traces_show_their_run();
+    scenario_fronts_show_their_run();
+}
