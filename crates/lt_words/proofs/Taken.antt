@@ -1,16 +1,17 @@
 -- What the command makes of words.
-use Rattle.std.proofs.Common.{◌≡◌, true, List, [], ◌∷◌, Result, Ok, Err, IsErrAnd, MatchResult, refl, sym, ap, subst, ◌∙◌, inl, inr, arith, if◌then◌else◌}
+use Rattle.std.proofs.Common.{◌≡◌, true, List, [], ◌∷◌, Result, Ok, Err, IfErr, IsErrAnd, MatchResult, refl, sym, ap, subst, ◌∙◌, inl, inr, arith, if◌then◌else◌}
 use Rattle.std.proofs.lemmas.Bool.{ne_eqb}
 use Rattle.clap.specs.Faults.{fault_of, is_simple_and_free}
 use Rattle.clap.specs.Kinds.{HasKind, IsAmong, Kinds}
 use Rattle.clap.specs.Simple.{App, is_simple, matches_of}
+use Rattle.clap.specs.Takes.{takes}
 use Rattle.clap.specs.Values.{kind_of}
 use Rattle.clap.specs.Walk.{Row, Text, is_empty}
 use Rattle.clap.specs.declared.error.Error.{Error}
 use Rattle.clap.specs.declared.error.kind.ErrorKind.{ErrorKind}
 use Rattle.clap.specs.declared.error.kind.ErrorKind.TheVariants.{OutOfMemory}
 use Rattle.lt_words.specs.Command.{command}
-use Rattle.lt_words.specs.Words.{IsRefusedBy, Request, asked_by, requested}
+use Rattle.lt_words.specs.Words.{HaveForm, IsPromised, IsRefusedBy, Request, asked_by, requested}
 use Rattle.lt_words.specs.declared.usage.UsageKind.{UsageKind}
 use Rattle.lt_words.specs.declared.usage.UsageKind.TheVariants as usage
 use Rattle.lt_words.specs.declared.usage.WordsRefusal.{WordsRefusal}
@@ -52,3 +53,13 @@ taken made words found same none finds =
 pub passed_on : (r : Result CodeRequest WordsRefusal) (why : WordsRefusal) (P : CodeRequest → Type 0) (asked : Result Request UsageKind) → IsErrAnd r (λ refusal. refusal ≡ why) → IsRefusedBy why asked → MatchResult r P (λ refusal. IsRefusedBy refusal asked)
 passed_on (Ok request) why P asked is h = absurd is
 passed_on (Err refusal) why P asked is h = subst (λ w. IsRefusedBy w asked) (sym is) h
+
+-- an error of clap over words that it promises to take doesn't tell that they have another form
+pub has_form : (made : App) (words : List Text) (e : Error) → made ≡ command → (takes made words ≡ true → kind_of e ≡ OutOfMemory) → IsPromised words → HaveForm (refusal_by e)
+has_form made words e same passes promised =
+    subst (λ k. HaveForm (refusal_of k)) (sym (passes (ap (λ a. takes a words) same ∙ promised))) tt
+
+-- such a refusal is handed on
+pub form_passed_on : (r : Result CodeRequest WordsRefusal) (why : WordsRefusal) (words : List Text) → IsErrAnd r (λ refusal. refusal ≡ why) → (IsPromised words → HaveForm why) → IfErr r (λ refusal. IsPromised words → HaveForm refusal)
+form_passed_on (Ok request) why words is h = absurd is
+form_passed_on (Err refusal) why words is h = subst (λ w. IsPromised words → HaveForm w) (sym is) h

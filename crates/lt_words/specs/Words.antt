@@ -7,6 +7,7 @@ use Rattle.std.specs.declared.option.Option.{Option}
 use Rattle.std.specs.declared.result.Result.{Result}
 use Rattle.clap.specs.Faults.{fault_of}
 use Rattle.clap.specs.Simple.{matches_of}
+use Rattle.clap.specs.Takes.{takes}
 use Rattle.clap.specs.Walk.{Row, Text, first_of, is_empty, one_of}
 use Rattle.lt_words.specs.Command.{command}
 use Rattle.lt_words.specs.Settings.{most_steps, default_steps, most_number, default_seed, most_decimals, default_decimals, default_budget}
@@ -127,6 +128,21 @@ asked_by found = in_mode (mode_of (word_at (codes "mode") found) (word_at (codes
 -- command, help that is asked for being one, and where what it finds in them asks for nothing that there is.
 abbrev pub requested : List Text → Result Request UsageKind
 requested words = if is_empty (fault_of command words) then asked_by (matches_of command words) else Err usage.Words
+
+-- clap promises to take these words: they name what the command has, each once at most, with a value of its own where it wants
+-- one, and what has to be there is there
+abbrev pub IsPromised : List Text → Type 0
+IsPromised words = takes command words ≡ true
+
+-- of what is wrong with words: not that they have another form
+abbrev pub IsOfMeaning : UsageKind → Type 0
+IsOfMeaning usage.Words = ⊥
+IsOfMeaning _ = Unit {0}
+
+-- the words aren't refused for their form
+abbrev pub HaveForm : WordsRefusal → Type 0
+HaveForm (refusal.Usage kind) = IsOfMeaning kind
+HaveForm refusal.Memory = Unit {0}
 
 -- the words are refused for this, or for want of memory
 abbrev pub IsRefusedBy : WordsRefusal → Result Request UsageKind → Type 0

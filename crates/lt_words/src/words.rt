@@ -1,9 +1,9 @@
 //! What the words of a call ask for.
 
-ghost use Rattle.std.specs.Prelude.{◌≡◌, map, string_bytes, Ok, Err, IfOk, MatchResult};
+ghost use Rattle.std.specs.Prelude.{◌≡◌, map, string_bytes, Ok, Err, IfErr, IfOk, MatchResult};
 ghost use Rattle.clap.specs.Words.{found_of, rows_of};
 ghost use Rattle.lt_words.specs.Asked.{request};
-ghost use Rattle.lt_words.specs.Words.{HasSmallNumber, IsRefusedBy, IsWithin, asked_by, has_both, large_run, mode_of, request_of, requested, stress_of};
+ghost use Rattle.lt_words.specs.Words.{HasSmallNumber, HaveForm, IsOfMeaning, IsPromised, IsRefusedBy, IsWithin, asked_by, has_both, large_run, mode_of, request_of, requested, stress_of};
 ghost use Rattle.lt_words.specs.inner.Fitting.{NumbersFit};
 
 use crate::command::command;
@@ -71,6 +71,7 @@ pub fn requested<'a>(alloc: Global, words: &'a [String]) -> Result<Request<'a>, 
     ensures reads { MatchResult result
         (λ asked. requested (map string_bytes words.entry.now) ≡ Ok (request asked))
         (λ refusal. IsRefusedBy refusal (requested (map string_bytes words.entry.now))) }
+    ensures promised { IfErr result (λ refusal. IsPromised (map string_bytes words.entry.now) → HaveForm refusal) }
     ensures within { IfOk result (λ asked. IsWithin (request asked)) }
 {
     let found = command(alloc)?.try_get_matches_from(words)?;
@@ -83,6 +84,7 @@ fn asked_by<'a>(found: &ArgMatches<'a>) -> Result<Request<'a>, UsageKind>
     ensures reads { MatchResult result
         (λ asked. asked_by (rows_of (found_of found.now)) ≡ Ok (request asked))
         (λ kind. asked_by (rows_of (found_of found.now)) ≡ Err kind) }
+    ensures formed { IfErr result IsOfMeaning }
     ensures within { IfOk result (λ asked. IsWithin (request asked)) }
 {
     let mode = mode_named(word_in(found, "mode"), word_in(found, "file"))?;
@@ -96,6 +98,7 @@ fn asked_by<'a>(found: &ArgMatches<'a>) -> Result<Request<'a>, UsageKind>
 // The mode that a word is, where the other one stands in the place of FILE.
 fn mode_named(word: &str, file: &str) -> Result<Mode, UsageKind>
     ensures is { result ≡ mode_of word.now file.now }
+    ensures formed { IfErr result IsOfMeaning }
     ensures within { IfOk result HasSmallNumber }
 {
     match word {
@@ -109,6 +112,7 @@ fn mode_named(word: &str, file: &str) -> Result<Mode, UsageKind>
 // The large run of the number that a word is: decimal digits alone.
 fn large_run(word: &str) -> Result<Mode, UsageKind>
     ensures is { result ≡ large_run word.now }
+    ensures formed { IfErr result IsOfMeaning }
     ensures within { IfOk result HasSmallNumber }
 {
     if word.starts_with('+') {
@@ -123,6 +127,7 @@ fn large_run(word: &str) -> Result<Mode, UsageKind>
 // The large run of a number, where it isn't too great.
 fn stress_of(number: u64) -> Result<Mode, UsageKind>
     ensures is { result ≡ stress_of number }
+    ensures formed { IfErr result IsOfMeaning }
     ensures within { IfOk result HasSmallNumber }
 {
     if number > MOST_NUMBER {

@@ -1,7 +1,7 @@
 use Rattle.std.proofs.Common.{◌∙◌, map, string_bytes}
 use Rattle.clap.specs.Words.{app_of, found_of, rows_of}
 use Rattle.lt_words.proofs.Fitting.{numbers_fit}
-use Rattle.lt_words.proofs.Taken.{passed_on, refused, taken}
+use Rattle.lt_words.proofs.Taken.{form_passed_on, has_form, passed_on, refused, taken}
 use Rattle.lt_words.specs.declared.usage.WordsRefusal.TheVariants as refusal
 use Rattle.lt_words.proofs.words.requested.Goals as goal
 
@@ -9,6 +9,11 @@ pub returns-in_err-found-clause-reads : goal.returns-in_err-found-clause-reads
 returns-in_err-found-clause-reads c =
     let why = refused (app_of c.in_ok-command.field-0) (map string_bytes c.args.words.now) c.in_err-found.field-0.0 c.in_ok-command.ensures c.in_err-found.ensures.kinds in
     passed_on _ _ _ _ c.from_residual-in_err-found.ensures.1 why
+
+pub returns-in_err-found-clause-promised : goal.returns-in_err-found-clause-promised
+returns-in_err-found-clause-promised c =
+    let formed = has_form (app_of c.in_ok-command.field-0) (map string_bytes c.args.words.now) c.in_err-found.field-0.0 c.in_ok-command.ensures c.in_err-found.ensures.passes in
+    form_passed_on c.from_residual-in_err-found.result _ (map string_bytes c.args.words.now) c.from_residual-in_err-found.ensures.1 formed
 
 pub asked_by-requires : goal.asked_by-requires
 asked_by-requires c = numbers_fit c.in_ok-command.field-0 c.in_ok-found.found c.in_ok-command.ensures c.in_ok-found.ensures.parsed
