@@ -73,7 +73,7 @@ ended_whole : UndisturbedSessionsAreWhole State → (r : Request) (trace : List 
     IsPlayed k (origin_of (giver_of r) trace) (oracle_of r.oracle) (beside old) (beside new) core (played.Driven (driven.Ended e)) → IsUnbroken e → SidesTell r (record { scenario = []; replay = trace }) old.programs c o →
     IsWhole r trace c o (plays scene) scene.exceptions old new (status_of (played.Driven (driven.Ended e)) core.written)
 ended_whole law r trace c o scene k core e old new course is whole tell =
-    let l = law k (origin_of (giver_of r) trace) (oracle_of r.oracle) (beside old) (beside new) core e c o is (unbroken e whole) tell.0 tell.1 tell.2 in
+    let l = law k (origin_of (giver_of r) trace) (oracle_of r.oracle) (beside old) (beside new) core e c o is (unbroken e whole) tell.0 tell.1 in
     let same : k.play (told_streams.closed c) (told_streams.closed o) ≡ run_of r scene (told_streams.closed c) (told_streams.closed o) = course.plays (told_streams.closed c) (told_streams.closed o) in
     let steps : core.written ≡ step_count (run_of r scene (told_streams.closed c) (told_streams.closed o)).pieces =
     (let a = l.2 in let b = course.unwritten in omega arith) ∙ ap (λ (p : Play). step_count p.pieces) same in (

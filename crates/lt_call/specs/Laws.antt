@@ -11,7 +11,7 @@ use Rattle.lt_rif.specs.declared.end.End.{End}
 use Rattle.lt_rif.specs.declared.end.End.TheVariants as end
 use Rattle.lt_session.specs.Programs.{Programs, Same}
 use Rattle.lt_session.specs.Sent.{AreSent}
-use Rattle.lt_session.specs.Whole.{AreApart, Gives as Tells}
+use Rattle.lt_session.specs.Told.{Gives as Tells, GivesBeside as TellsBeside}
 use Rattle.lt_stress.specs.Report.{stress_line}
 use Rattle.lt_stress.specs.Run.{IsRunOf, sum_told}
 use Rattle.lt_words.specs.Words.{Request}
@@ -48,11 +48,11 @@ TellsText false told text = text ≡ []
 abbrev pub Tell : Request → (List ℕ → Option (List ℕ)) → Contents → Type 0
 Tell request told contents = TellsText (has_file request.mode) (told request.file) contents.scenario × TellsTrace (giver_of request) told contents.replay
 
--- what comes of both sides of a run is told to be these bytes, and the sides are started by commands that differ
+-- what comes of both sides of a run is told to be these bytes
 abbrev pub SidesTell : Request → Contents → Programs → List ℕ → List ℕ → Type 0
 SidesTell request contents programs c o =
-    AreApart (origin_of (giver_of request) contents.replay) (oracle_of request.oracle)
-    × Tells (origin_of (giver_of request) contents.replay) programs c × Tells (oracle_of request.oracle) programs o
+    Tells (origin_of (giver_of request) contents.replay) programs c
+    × TellsBeside (origin_of (giver_of request) contents.replay) (oracle_of request.oracle) programs o
 
 -- no run ended by the fault of a side
 abbrev pub IsUnbroken : End → Type 0

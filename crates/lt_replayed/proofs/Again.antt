@@ -10,6 +10,7 @@ use Rattle.lt_prepare.specs.Laws.{TextsHaveOneScenarioAnswer}
 use Rattle.lt_replay.specs.Replay.{is_replayable, trace_text}
 use Rattle.lt_rif.specs.declared.end.End.{End}
 use Rattle.lt_rif.specs.declared.end.End.TheVariants as end
+use Rattle.lt_session.specs.Told as beside
 use Rattle.lt_term.specs.Scene.{Scene}
 use Rattle.lt_traced.specs.Traced.{IsRunOf, ScenarioReplaysAreTheSame}
 use Rattle.lt_words.specs.Settings.{most_seed}
@@ -115,7 +116,7 @@ replayed_calls_are_the_same dues one wholes replays request contents scene told 
     let runs = ran_due one request contents scene first.has_scene first.running c o names old new ending answer.0 answer.1 whole in
     let played : IsWhole request contents.replay c o (plays scene) names old new (status.Ran ending) = subst (λ (w : Work). IsWhole request contents.replay c o w names old new (status.Ran ending)) runs.work whole in
     let again_due : IsDue r' contents' (by_all r' (plays scene)) = due.runs scene runs.run runs.short first.has_scene refl first.short in
-    let again_played = wholes r' contents' told' names' asked' old' new' s' bytes o (by_all r' (plays scene)) second.tell second.gives second.uncut (tt, refl, second.oracle) again_due in
+    let again_played = wholes r' contents' told' names' asked' old' new' s' bytes o (by_all r' (plays scene)) second.tell second.gives second.uncut (refl, beside.apart tt second.oracle) again_due in
     let run = run_on request scene c o in
     let e = played.0 in
     let ended : ending.end ≡ e = let same = played.2 in cc same in

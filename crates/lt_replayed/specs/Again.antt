@@ -5,7 +5,7 @@ use Rattle.lt_drive.specs.Told.{closed}
 use Rattle.lt_loop.specs.CoreView.{stream_of}
 use Rattle.lt_replay.specs.Replay.{is_replayable}
 use Rattle.lt_rif.specs.Reply.{longest}
-use Rattle.lt_session.specs.Whole.{Gives as Tells}
+use Rattle.lt_session.specs.Told.{Gives as Tells}
 use Rattle.lt_term.specs.Scene.{Scene}
 use Rattle.lt_traced.specs.Traced.{opening_length}
 use Rattle.lt_words.specs.Settings.{longest_replay, most_seed}

@@ -5,11 +5,13 @@ use Rattle.std.specs.declared.option.Option.{Option}
 use Rattle.lt_io.specs.Causes.{Rose, WhereTold}
 use Rattle.lt_io.specs.Spawning.{Closed, Starts}
 use Rattle.lt_io.specs.Spawning.{Closes as Adds}
-use Rattle.lt_drive.specs.Outside.{Link}
+use Rattle.lt_drive.specs.Outside.{IsReceived, Link}
+use Rattle.lt_loop.specs.Side.{Rest}
 use Rattle.lt_session.specs.Programs.{Programs}
 use Rattle.lt_session.specs.Session.{Closes, Opens, Origin, nobody, recorded, program}
 use Rattle.lt_session.specs.Sent.{left_behind}
-use Rattle.lt_session.specs.Whole.{AreApart, Gives}
+use Rattle.lt_session.specs.Told as beside
+use Rattle.lt_session.specs.Told.{AreApart, Gives, GivesBeside, IsFirstOf}
 
 -- ---- what they give
 
@@ -26,6 +28,25 @@ still_gives controller (recorded given) old new l bytes apart opens gives = give
 still_gives nobody (program o) old new l bytes apart opens gives = (gives.0, opens.0.coming o ∙ gives.1)
 still_gives (recorded given) (program o) old new l bytes apart opens gives = (gives.0, opens.0.coming o ∙ gives.1)
 still_gives (program c) (program o) old new l bytes apart opens gives = (gives.0, opens.others o (λ e. apart (sym e)) ∙ gives.1)
+
+-- a program that is started behind another one of its command has left what is told to come second
+second_by : (command first bytes : List ℕ) (others : List (List ℕ)) (old p q : Programs) (l m : Link) → old.coming command ≡ Some (first ∷ bytes ∷ others) →
+    Opens (program command) old p l → Opens (program command) p q m → m.left ≡ Some bytes
+second_by command first bytes others old p q l m told opens opened =
+    let rest : p.coming command ≡ Some (bytes ∷ others) = (subst (λ x. Starts x (p.coming command) l.left) told opens.first).1 in
+    (subst (λ x. Starts x (q.coming command) m.left) rest opened.first).0
+
+-- the oracle's link has left what is told to come of it beside the controller
+pub left_beside : (controller oracle : Origin) (old p q : Programs) (l m : Link) (bytes : List ℕ) → Opens controller old p l → Opens oracle p q m → GivesBeside controller oracle old bytes → m.left ≡ Some bytes
+left_beside controller oracle old p q l m bytes opens opened (beside.apart are_apart gives) = left_by oracle p q m bytes opened (still_gives controller oracle old p l bytes are_apart opens gives)
+left_beside controller oracle old p q l m bytes opens opened (beside.second command first others c_is o_is is) =
+    second_by command first bytes others old p q l m is (subst (λ (x : Origin). Opens x old p l) c_is opens) (subst (λ (x : Origin). Opens x p q m) o_is opened)
+
+-- what was received of a link that had these bytes left is the first of them
+pub first_of : (left now : Option (List ℕ)) (bytes : List ℕ) (received : Rest) → left ≡ Some bytes → IsReceived left now received → IsFirstOf received bytes
+first_of None now bytes received tells is = absurd (cc tells)
+first_of (Some xs) None bytes received tells is = absurd is
+first_of (Some xs) (Some rest) bytes received tells is = let same : bytes ≡ xs = cc tells in (rest, same ∙ is.0, is.1)
 
 -- a link that was opened has no fault
 pub faultless : (origin : Origin) (old new : Programs) (l : Link) → Opens origin old new l → l.faults ≡ 0

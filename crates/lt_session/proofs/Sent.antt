@@ -21,7 +21,8 @@ use Rattle.lt_session.specs.Session.{Closes, IsPlayed, Opens, Origin, Outside, b
 use Rattle.lt_session.specs.Session as session
 use Rattle.lt_session.specs.declared.played.Played.{Played}
 use Rattle.lt_session.specs.declared.played.Played.TheVariants as played
-use Rattle.lt_session.proofs.Links.{faultless, leaves_behind, opened_closed}
+use Rattle.lt_session.specs.Told.{Gives, GivesBeside, IsFirstOf}
+use Rattle.lt_session.proofs.Links.{faultless, first_of, leaves_behind, left_beside, left_by, opened_closed}
 
 -- what is told holds of each value that may be told
 where_told : {A : Type 0} (o : Option A) (P : A → Type 0) → ((x : A) → o ≡ Some x → P x) → WhereTold o P
@@ -54,7 +55,9 @@ given k old new core _ (drive.untraced received fault before kind front rest giv
 
 module _ {State : Type 0} (k : Course) (controller oracle : Origin) (old new : Outside) (core : Standing State) (d : Driven) where
   got_by : (how : Played) → IsPlayed k controller oracle old new core how → how ≡ played.Driven d →
-      (received : Received) × (ps : List Piece) × (fault : Option Who) × (m : ℕ) × (n : ℕ) × AreGiven k received ps fault d × Appends old.trace.written new.trace.written (text_to destination.Trace ps)
+      (received : Received) × (ps : List Piece) × (fault : Option Who) × (m : ℕ) × (n : ℕ) × AreGiven k received ps fault d
+      × ((x : List ℕ) → Gives controller old.programs x → IsFirstOf received.controller x) × ((x : List ℕ) → GivesBeside controller oracle old.programs x → IsFirstOf received.oracle x)
+      × Appends old.trace.written new.trace.written (text_to destination.Trace ps)
       × IsFaulty who.Controller fault m × IsFaulty who.Oracle fault n × AreSent controller oracle ps m n old.programs new.programs
   got_by _ (session.driven c c' o o' p q r how opens opened drove closes closed) is =
       let how_is : how ≡ d = cc is in
@@ -66,6 +69,8 @@ module _ {State : Type 0} (k : Course) (controller oracle : Origin) (old new : O
         c'.faults,
         o'.faults,
         subst (λ (x : Driven). AreGiven k all.0 all.1 all.2 x) how_is all.4,
+        (λ x gives. first_of c.left c'.left x all.0.controller (left_by controller old.programs p c x opens gives) happens.controller),
+        (λ x gives. first_of o.left o'.left x all.0.oracle (left_beside controller oracle old.programs p q c o x opens opened gives) happens.oracle),
         happens.gives destination.Trace,
         faulty_by (is_fault_of who.Controller all.2) c.faults c'.faults (faultless controller old.programs p c opens) (happens.blames destination.Controller),
         faulty_by (is_fault_of who.Oracle all.2) o.faults o'.faults (faultless oracle p q o opened) (happens.blames destination.Oracle),

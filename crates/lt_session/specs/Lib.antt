@@ -5,6 +5,8 @@ pub mod Programs
 pub mod Session
 -- the sides that the code is given
 pub mod SidesView
+-- what comes of the sides, where that is told
+pub mod Told
 -- what the two sides of a run were sent
 pub mod Sent
 -- what follows for whole runs

@@ -18,6 +18,7 @@ use Rattle.lt_drive.specs.declared.driven.Driven.{Driven}
 use Rattle.lt_drive.specs.declared.driven.Driven.TheVariants as driven
 use Rattle.lt_session.specs.Programs.{Programs}
 use Rattle.lt_session.specs.Session.{IsPlayed, Origin, Outside, program}
+use Rattle.lt_session.specs.Told.{Gives, GivesBeside, IsFirstOf}
 use Rattle.lt_session.specs.declared.played.Played.TheVariants as played
 
 -- Pieces that a run gave out that ended so, where this was received, and this side failed, if one did: all of its play, or
@@ -50,12 +51,15 @@ AreSent controller oracle ps m n old new =
 abbrev pub IsFaulty : Who → Option Who → ℕ → Type 0
 IsFaulty w fault count = MatchBool (is_fault_of w fault) (0 < count) (count ≡ 0)
 
--- However a run ended that was driven, the trace and the two sides got what is for them of the same pieces.
+-- However a run ended that was driven, the trace and the two sides got what is for them of the same pieces, which are those
+-- of what was received: of each side, where it is told what comes of it, the first of that.
 abbrev pub SidesGetTheirPieces : Type 0 → Type 0
 SidesGetTheirPieces State =
     (k : Course) (controller oracle : Origin) (old new : Outside) (core : Standing State) (how : Driven) → IsPlayed k controller oracle old new core (played.Driven how) →
     (received : Received) × (ps : List Piece) × (fault : Option Who) × (m : ℕ) × (n : ℕ)
     × AreGiven k received ps fault how
+    × ((c : List ℕ) → Gives controller old.programs c → IsFirstOf received.controller c)
+    × ((o : List ℕ) → GivesBeside controller oracle old.programs o → IsFirstOf received.oracle o)
     × Appends old.trace.written new.trace.written (text_to destination.Trace ps)
     × IsFaulty who.Controller fault m × IsFaulty who.Oracle fault n
     × AreSent controller oracle ps m n old.programs new.programs

@@ -1,5 +1,5 @@
 -- Whole runs, and runs that are blamed on a program.
-use Rattle.std.specs.Prelude.{◌≡◌, ◌≢◌, ℕ, ◌+◌, List, [], ◌∷◌, Some}
+use Rattle.std.specs.Prelude.{◌≡◌, ◌≢◌, ℕ, ◌+◌, List}
 use Rattle.std.specs.Io.KnownBytes.{Appends}
 use Rattle.lt_io.specs.Causes.{Rose}
 use Rattle.lt_rif.specs.declared.end.End.{End}
@@ -14,22 +14,11 @@ use Rattle.lt_drive.specs.Drive.{Course, course_of}
 use Rattle.lt_drive.specs.Outside.{text_to}
 use Rattle.lt_drive.specs.Told.{closed}
 use Rattle.lt_drive.specs.declared.driven.Driven.TheVariants as driven
-use Rattle.lt_session.specs.Programs.{Programs}
 use Rattle.lt_session.specs.Sent.{AreSent}
-use Rattle.lt_session.specs.Session.{Origin, nobody, recorded, program, Outside, IsPlayed}
+use Rattle.lt_session.specs.Session.{Origin, Outside, IsPlayed}
+use Rattle.lt_session.specs.Told.{Gives, GivesBeside}
 use Rattle.lt_session.specs.declared.played.Played.{Played}
 use Rattle.lt_session.specs.declared.played.Played.TheVariants as played
-
--- What comes of an origin is told to be these bytes. A row an origin.
-abbrev pub Gives : Origin → Programs → List ℕ → Type 0
-Gives nobody programs bytes = bytes ≡ []
-Gives (recorded given) programs bytes = bytes ≡ given
-Gives (program command) programs bytes = (others : List (List ℕ)) × (programs.coming command ≡ Some (bytes ∷ others))
-
--- the controller's program and the oracle's are started by commands that differ
-abbrev pub AreApart : Origin → Origin → Type 0
-AreApart (program c) (program o) = c ≢ o
-AreApart _ _ = Unit {0}
 
 -- Where it is told what comes of both sides, a run that ended by itself wrote the whole trace of its play on these bytes,
 -- counted its steps, ended as that play does, and both sides were sent all their lines.
@@ -37,7 +26,7 @@ abbrev pub UndisturbedSessionsAreWhole : Type 0 → Type 0
 UndisturbedSessionsAreWhole State =
     (k : Course) (controller oracle : Origin) (old new : Outside) (core : Standing State) (e : End) (c o : List ℕ) →
     IsPlayed k controller oracle old new core (played.Driven (driven.Ended e)) → ((w : Who) → e ≢ end.Device w) →
-    AreApart controller oracle → Gives controller old.programs c → Gives oracle old.programs o →
+    Gives controller old.programs c → GivesBeside controller oracle old.programs o →
     ((k.play (closed c) (closed o)).stop ≡ ends e)
     × Appends old.trace.written new.trace.written (text_to destination.Trace (k.play (closed c) (closed o)).pieces)
     × (core.written ≡ k.written + step_count (k.play (closed c) (closed o)).pieces)

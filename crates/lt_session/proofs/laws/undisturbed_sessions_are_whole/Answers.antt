@@ -18,11 +18,12 @@ use Rattle.lt_drive.specs.declared.driven.Driven.TheVariants as driven
 use Rattle.lt_session.specs.Session.{IsPlayed, Origin, Outside, between}
 use Rattle.lt_session.specs.Session as session
 use Rattle.lt_session.specs.Sent.{AreSent}
-use Rattle.lt_session.specs.Whole.{AreApart, Gives, UndisturbedSessionsAreWhole}
+use Rattle.lt_session.specs.Told.{Gives, GivesBeside}
+use Rattle.lt_session.specs.Whole.{UndisturbedSessionsAreWhole}
 use Rattle.lt_session.specs.declared.played.Played.{Played}
 use Rattle.lt_session.specs.declared.played.Played.TheVariants as played
 use Rattle.lt_session.proofs.Drives.{ended_calm, none_rose}
-use Rattle.lt_session.proofs.Links.{faultless, left_by, still_gives}
+use Rattle.lt_session.proofs.Links.{faultless, left_beside, left_by}
 use Rattle.lt_session.proofs.Sent.{both_sent}
 use Rattle.lt_session.proofs.laws.undisturbed_sessions_are_whole.Goals as goal
 
@@ -38,11 +39,11 @@ still_calm a b same none = same ∙ none
 
 module _ {State : Type 0} (law : UndisturbedRunsAreWhole State) (k : Course) (controller oracle : Origin) (old new : Outside) (core : Standing State) (e : End) (c o : List ℕ) where
   whole_by : (how : Played) → IsPlayed k controller oracle old new core how → how ≡ played.Driven (driven.Ended e) → ((w : Who) → e ≢ end.Device w) →
-      AreApart controller oracle → Gives controller old.programs c → Gives oracle old.programs o →
+      Gives controller old.programs c → GivesBeside controller oracle old.programs o →
       ((k.play (closed c) (closed o)).stop ≡ ends e) × Appends old.trace.written new.trace.written (text_to destination.Trace (k.play (closed c) (closed o)).pieces)
       × (core.written ≡ k.written + step_count (k.play (closed c) (closed o)).pieces)
       × AreSent controller oracle (k.play (closed c) (closed o)).pieces 0 0 old.programs new.programs
-  whole_by _ (session.driven l l' m m' p q r how opens opened drove closes closed_later) is calm apart gives_c gives_o =
+  whole_by _ (session.driven l l' m m' p q r how opens opened drove closes closed_later) is calm gives_c gives_o =
       let before = between l m old.trace in
       let after = between l' m' new.trace in
       let how_is : how ≡ driven.Ended e = cc is in
@@ -50,7 +51,7 @@ module _ {State : Type 0} (law : UndisturbedRunsAreWhole State) (k : Course) (co
       let same = ended_calm k before after core how e drove how_is calm in
       let whole = law k before after core e c o drove_so
       (left_by controller old.programs p l c opens gives_c)
-      (left_by oracle p q m o opened (still_gives controller oracle old.programs p l o apart opens gives_o))
+      (left_beside controller oracle old.programs p q l m o opens opened gives_o)
       (none_risen before after (faultless controller old.programs p l opens) (faultless oracle p q m opened) same) in
       let sent = both_sent controller oracle old.programs p q r new.programs l l' m m' (k.play (closed c) (closed o)).pieces opens opened closes closed_later
       (whole.gives destination.Controller) (whole.gives destination.Oracle) in
@@ -58,14 +59,14 @@ module _ {State : Type 0} (law : UndisturbedRunsAreWhole State) (k : Course) (co
       subst (λ (n : ℕ). AreSent controller oracle (k.play (closed c) (closed o)).pieces 0 n old.programs new.programs) (still_calm m.faults m'.faults (same who.Oracle) (faultless oracle p q m opened))
       (subst (λ (n : ℕ). AreSent controller oracle (k.play (closed c) (closed o)).pieces n m'.faults old.programs new.programs) (still_calm l.faults l'.faults (same who.Controller) (faultless controller old.programs p l opens)) sent) in
       (whole.stop, whole.gives destination.Trace, whole.steps, sent_calm)
-  whole_by _ (session.no_controller command why unstarted trace_is) is calm apart gives_c gives_o = absurd (cc is)
-  whole_by _ (session.no_oracle command l p q why opens unstarted closes trace_is) is calm apart gives_c gives_o = absurd (cc is)
-  whole_by _ (session.memory_at_first same trace_is) is calm apart gives_c gives_o = absurd (cc is)
-  whole_by _ (session.memory_later l p q opens same closes trace_is) is calm apart gives_c gives_o = absurd (cc is)
+  whole_by _ (session.no_controller command why unstarted trace_is) is calm gives_c gives_o = absurd (cc is)
+  whole_by _ (session.no_oracle command l p q why opens unstarted closes trace_is) is calm gives_c gives_o = absurd (cc is)
+  whole_by _ (session.memory_at_first same trace_is) is calm gives_c gives_o = absurd (cc is)
+  whole_by _ (session.memory_later l p q opens same closes trace_is) is calm gives_c gives_o = absurd (cc is)
 
 wholes : {State : Type 0} → UndisturbedRunsAreWhole State → UndisturbedSessionsAreWhole State
-wholes law k controller oracle old new core e c o plays calm apart gives_c gives_o =
-    whole_by law k controller oracle old new core e c o (played.Driven (driven.Ended e)) plays refl calm apart gives_c gives_o
+wholes law k controller oracle old new core e c o plays calm gives_c gives_o =
+    whole_by law k controller oracle old new core e c o (played.Driven (driven.Ended e)) plays refl calm gives_c gives_o
 
 pub returns : goal.returns
 returns g c = wholes c.undisturbed_runs_are_whole.ensures
