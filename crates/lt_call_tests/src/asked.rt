@@ -1,56 +1,81 @@
 //! The words of a call.
 
-use crate::calling::{HEADER, Outside, TOGGLE, call_of, check};
+use crate::rows::check_rows;
+use crate::scenarios::TOGGLE;
 use std::process::Abort;
 use std::test::Fail;
 
 pub const USAGE: &str =
-    "lurette MODE FILE [-l N] [--seed N] [--precision N] [--budget N] [--node NAME] [--sut CMD] [--oracle CMD] [--replay FILE] [--locals]\n";
+    "lurette MODE FILE [-l N] [--seed N] [--precision N] [--budget N] [--node NAME] [--sut CMD] [--oracle CMD] [--replay FILE] [--locals]";
 
-// Calls with these words are refused for what is said, before a file is read or a program started.
-fn check_usages(rt: &(impl Abort + AllocGlobal), usages: &[(&[&str], &str)]) -> Result<(), Fail> {
-    let alloc = rt.alloc();
-    for (words, kind) in usages {
-        let call = call_of(alloc, words, &Outside::sound(TOGGLE.as_bytes()))?;
-        let says = format!(in alloc; "lurette: usage: {kind}\n{USAGE}")?;
-        check(rt, &call, 2, b"", &says);
-        assert_eq!(rt; call.asked, 0);
-        assert_eq!(rt; call.commands.len(), 0);
-    }
-    Ok(())
+// Calls with the words of these rows are refused for what is said, before a file is read or a program started.
+fn check_usages(
+    rt: &(impl Abort + AllocGlobal),
+    kind: &str,
+    count: usize,
+    rows: &str,
+) -> Result<(), Fail> {
+    let shared = format!(in rt.alloc();
+        r"
+f is node n() returns (b: bool) = b fby not b
+= 2 lurette: usage: {kind}\n{USAGE}
+files 0
+"
+    )?;
+    check_rows(rt, count, &shared, rows)
 }
 
 #[test]
 fn wrong_words_are_told_by_their_kind(rt: HostRuntime) -> Result<(), Fail> {
     check_usages(
         &rt,
-        &[
-            (&[], "words"),
-            (&["run", "f", "--help"], "words"),
-            (&["walk", "f", "-l", "5", "-l", "5"], "words"),
-            (&["walk", "f", "--sut", "c", "--replay", "t"], "mode"),
-            (&["stress", "1000000"], "number"),
-            (&["stress", "+6"], "number"),
-            (&["stress", "x", "--sut", "c", "--replay", "t"], "number"),
-            (&["run", "f", "--replay", "t", "--sut", "c"], "both"),
-        ],
-    )
+        "words",
+        3,
+        "
+$
+
+$ run f --help
+
+$ walk f -l 5 -l 5
+",
+    )?;
+    check_usages(&rt, "mode", 1, "$ walk f --sut c --replay t")?;
+    check_usages(
+        &rt,
+        "number",
+        3,
+        "
+$ stress 1000000
+
+$ stress +6
+
+$ stress x --sut c --replay t
+",
+    )?;
+    check_usages(&rt, "both", 1, "$ run f --replay t --sut c")
 }
 
 #[test]
 fn options_stand_in_any_order(rt: HostRuntime) -> Result<(), Fail> {
-    let alloc = rt.alloc();
-    let trace = format!(in alloc; "{HEADER}#step 1\nt #outs\n#end limit 1\n")?;
-    let words: [&[&str]; 5] = [
-        &["run", "f", "-l", "1"],
-        &["-l1", "--seed=+0", "run", "f", "--budget=0004"],
-        &["run", "--node", "n", "f", "-l", "1", "--precision", "0"],
-        &["run", "--precision=6", "-l=01", "--node=n", "--", "f"],
-        &["--budget", "1000000000000", "-l", "1", "--", "run", "f"],
-    ];
-    for words in words {
-        let call = call_of(alloc, words, &Outside::sound(TOGGLE.as_bytes()))?;
-        check(&rt, &call, 0, trace.as_bytes(), "");
-    }
-    Ok(())
+    let shared = format!(in rt.alloc();
+        r"{TOGGLE}
+> #step 1\nt #outs\n#end limit 1
+"
+    )?;
+    check_rows(
+        &rt,
+        5,
+        &shared,
+        "
+$ run f -l 1
+
+$ -l1 --seed=+0 run f --budget=0004
+
+$ run --node n f -l 1 --precision 0
+
+$ run --precision=6 -l=01 --node=n -- f
+
+$ --budget 1000000000000 -l 1 -- run f
+",
+    )
 }

@@ -1,6 +1,7 @@
 //! Runs against a program of the system, `cat`, which gives each line back.
 
-use crate::calling::{Outside, push_words};
+use crate::calling::files_of;
+use crate::rows::words_of;
 use lt_call::lurette;
 use lt_io::{ChildSpawner, MemSink};
 use std::process::{Processes, SystemProcess};
@@ -14,20 +15,15 @@ struct Echoed {
     says: MemSink,
 }
 
-// Runs a scenario against `cat`, for so many steps at most.
+// Runs a scenario against `cat` with these words.
 fn run_beside_cat<R: Processes<Started = SystemProcess> + AllocGlobal>(
     rt: &R,
+    words: &str,
     text: &str,
-    limit: &str,
 ) -> Result<Echoed, Fail> {
     let alloc = rt.alloc();
-    let mut words = Vec::new(alloc);
-    push_words(
-        alloc,
-        &mut words,
-        &["run", "f", "--sut", "cat", "-l", limit],
-    )?;
-    let mut files = Outside::sound(text.as_bytes()).files(alloc)?;
+    let words = words_of(alloc, words)?;
+    let mut files = files_of(alloc, text.as_bytes(), None)?;
     let mut programs = ChildSpawner::new(rt, alloc);
     let mut trace = MemSink::make(alloc, 10_000_000, Vec::new(alloc))?;
     let mut says = MemSink::make(alloc, 1_000, Vec::new(alloc))?;
@@ -48,11 +44,8 @@ fn run_beside_cat<R: Processes<Started = SystemProcess> + AllocGlobal>(
 
 #[test]
 fn a_controller_of_the_system_answers_each_line(rt: HostRuntime) -> Result<(), Fail> {
-    let run = run_beside_cat(
-        &rt,
-        "node n(y: int [5;9]) returns (x: int [0;9]) = loop x = y",
-        "3",
-    )?;
+    let text = "node n(y: int [5;9]) returns (x: int [0;9]) = loop x = y";
+    let run = run_beside_cat(&rt, "run f --sut cat -l 3", text)?;
     assert_eq!(rt; run.says.written(), b"".as_slice());
     assert_eq!(rt;
         run.trace.written(),
@@ -70,7 +63,7 @@ const WIDE: &str =
 fn a_controller_that_answers_more_than_it_is_asked_ends_the_run(
     rt: HostRuntime,
 ) -> Result<(), Fail> {
-    let run = run_beside_cat(&rt, WIDE, "20000")?;
+    let run = run_beside_cat(&rt, "run f --sut cat -l 20000", WIDE)?;
     let said = run
         .says
         .written()

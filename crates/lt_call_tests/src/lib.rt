@@ -24,8 +24,6 @@ mod large;
 #[cfg(test)]
 mod locals;
 #[cfg(test)]
-mod looping;
-#[cfg(test)]
 mod plant_link;
 #[cfg(test)]
 mod plants;
@@ -39,6 +37,10 @@ mod refused;
 mod replayed;
 #[cfg(test)]
 mod replies;
+#[cfg(test)]
+mod rows;
+#[cfg(test)]
+mod scenarios;
 #[cfg(test)]
 mod sides;
 #[cfg(test)]

@@ -1,10 +1,12 @@
 //! Runs against plants.
 
-use crate::calling::{Outside, push_words};
+use crate::calling::files_of;
 use crate::plant_link::PlantSpawner;
+use crate::rows::words_of;
 use lt_call::lurette;
 use lt_io::MemSink;
 use std::alloc::Global;
+use std::process::Abort;
 use std::test::Fail;
 
 // A room whose heater is under test: it warms up where it is heated, and cools down else.
@@ -33,8 +35,7 @@ returns (temp: real [-50.0;80.0] = 18.0; door: bool) =
 
 const ROOM_HEADER: &str = "#seed 0\n#inputs \"temp\":real \"door\":bool\n#outputs \"heat\":bool\n";
 
-// What a run of a text against plants, with perhaps an earlier trace, says, and the trace that it writes. It ends by
-// status 0 where nothing is said.
+// What a run against plants says, and the trace that it writes.
 #[derive(Drop)]
 struct Ran {
     code: u8,
@@ -43,11 +44,15 @@ struct Ran {
     started: usize,
 }
 
-fn run_beside_plants(alloc: Global, outside: &Outside<'_>, options: &[&str]) -> Result<Ran, Fail> {
-    let mut words = Vec::new(alloc);
-    push_words(alloc, &mut words, &["run", "f"])?;
-    push_words(alloc, &mut words, options)?;
-    let mut files = outside.files(alloc)?;
+// The run with these words, of a text against plants, with perhaps an earlier trace.
+fn run_beside_plants(
+    alloc: Global,
+    words: &str,
+    text: &str,
+    earlier: Option<&[u8]>,
+) -> Result<Ran, Fail> {
+    let words = words_of(alloc, words)?;
+    let mut files = files_of(alloc, text.as_bytes(), earlier)?;
     let mut plants = PlantSpawner {
         asked: Vec::new(alloc),
         faults: 0,
@@ -72,12 +77,21 @@ fn run_beside_plants(alloc: Global, outside: &Outside<'_>, options: &[&str]) -> 
 
 #[test]
 fn a_gate_is_tested(rt: HostRuntime) -> Result<(), Fail> {
-    let outside = Outside::sound(
-        b"node n(open: bool) returns (near: bool) = near fby near fby not near fby near",
-    );
-    let run = run_beside_plants(rt.alloc(), &outside, &["--sut", "gate"])?;
-    let trace =
-        "#seed 0\n#inputs \"near\":bool\n#outputs \"open\":bool\n#step 1\nt #outs f\n#step 2\nt #outs t\n#step 3\nf #outs f\n#step 4\nt #outs f\n#end normal 4\n";
+    let text = "node n(open: bool) returns (near: bool) = near fby near fby not near fby near";
+    let run = run_beside_plants(rt.alloc(), "run f --sut gate", text, None)?;
+    let trace = "#seed 0
+#inputs \"near\":bool
+#outputs \"open\":bool
+#step 1
+t #outs f
+#step 2
+t #outs t
+#step 3
+f #outs f
+#step 4
+t #outs f
+#end normal 4
+";
     assert_eq!(rt; run.trace.written(), trace.as_bytes());
     assert_eq!(rt; run.code, 0);
     Ok(())
@@ -88,11 +102,23 @@ fn lines_of(text: &[u8]) -> usize {
     text.iter().filter(|byte| **byte == b'\n').count()
 }
 
+// The run of the room with these words, and perhaps an earlier trace, starts so many plants and writes this trace.
+fn check_room(
+    rt: &(impl Abort + AllocGlobal),
+    words: &str,
+    earlier: Option<&[u8]>,
+    started: usize,
+    trace: &[u8],
+) -> Result<(), Fail> {
+    let run = run_beside_plants(rt.alloc(), words, ROOM, earlier)?;
+    assert_eq!(rt; run.trace.written(), trace);
+    assert_eq!(rt; run.started, started);
+    Ok(())
+}
+
 #[test]
 fn a_thermostat_is_tested_for_200_steps(rt: HostRuntime) -> Result<(), Fail> {
-    let alloc = rt.alloc();
-    let outside = Outside::sound(ROOM.as_bytes());
-    let run = run_beside_plants(alloc, &outside, &["--sut", "thermostat", "-l", "200"])?;
+    let run = run_beside_plants(rt.alloc(), "run f --sut thermostat -l 200", ROOM, None)?;
     let trace = run.trace.written();
     assert_eq!(rt; run.says.written(), b"".as_slice());
     assert_eq!(rt; run.code, 0);
@@ -102,32 +128,23 @@ fn a_thermostat_is_tested_for_200_steps(rt: HostRuntime) -> Result<(), Fail> {
     assert_eq!(rt; lines_of(trace), 404);
     assert!(rt; trace.ends_with(b"\n#end limit 200\n"));
     // Another program finds nothing wrong, and the trace is played again.
-    let judged = ["--sut", "thermostat", "--oracle", "safe", "-l", "200"];
-    let same = run_beside_plants(alloc, &outside, &judged)?;
-    assert_eq!(rt; same.trace.written(), trace);
-    assert_eq!(rt; same.started, 2);
-    let recorded = Outside {
-        earlier: Some(trace),
-        ..outside
-    };
-    let again = run_beside_plants(alloc, &recorded, &["--replay", "t", "-l", "200"])?;
-    assert_eq!(rt; again.trace.written(), trace);
-    assert_eq!(rt; again.started, 0);
-    Ok(())
+    let judged = "run f --sut thermostat --oracle safe -l 200";
+    check_room(&rt, judged, None, 2, trace)?;
+    check_room(&rt, "run f --replay t -l 200", Some(trace), 0, trace)
 }
 
 #[test]
 fn a_plant_that_has_no_reply_ends_the_run(rt: HostRuntime) -> Result<(), Fail> {
-    let outside = Outside::sound(b"node n(y: bool) returns (x: int [0;3]) = loop x = 1");
-    for (plant, trace, says) in [
+    let text = "node n(y: bool) returns (x: int [0;3]) = loop x = 1";
+    for (words, trace, says) in [
         (
-            "gate",
+            "run f --sut gate",
             "#seed 0\n#inputs \"x\":int\n#outputs \"y\":bool\n#end device controller 1\n",
             "lurette: device controller 1\n",
         ),
-        ("plant", "", "lurette: device controller 0\n"),
+        ("run f --sut plant", "", "lurette: device controller 0\n"),
     ] {
-        let run = run_beside_plants(rt.alloc(), &outside, &["--sut", plant])?;
+        let run = run_beside_plants(rt.alloc(), words, text, None)?;
         assert_eq!(rt; run.trace.written(), trace.as_bytes());
         assert_eq!(rt; run.says.written(), says.as_bytes());
         assert_eq!(rt; run.code, 9);

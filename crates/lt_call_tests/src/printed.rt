@@ -1,36 +1,48 @@
 //! Programs that are printed.
 
-use crate::calling::{Outside, call_of, check};
+use crate::rows::check_rows;
 use std::test::Fail;
 
 #[test]
 fn a_program_is_printed(rt: HostRuntime) -> Result<(), Fail> {
-    let text = "exception e, f
-let m(x, y: int; z: bool ref; u: trace): bool = x < y and z = true
-let t(u: trace): trace = try u do raise e (* anew *)
-node n(p: real [-1.5; 2]; q: bool = false) returns (a, b: bool; i: int [0;9] = 3) =
-    exist k: int [0;5] = 1 in let s: bool = pre q in exception g in
-    catch e in {|2: a|b} fby {|>a|>not b} do
-    trap g in loop [1,3] {&>a&>b} do
-    try assert i - -1 * 2 / 3 + 4 >= 5 in
-    loop ~2:(1) m(1, i mod 2, q, {t({a})}) or s xor a => (if a then b else i div 2 <> 7)";
-    let printed = "exception e , f
-let m ( x , y : int ; z : bool ref ; u : trace ) : bool = x < y and z = true
-let t ( u : trace ) : trace = try u do raise e
-node n ( p : real [ - 1.5 ; 2 ] ; q : bool = false ) returns ( a , b : bool ; i : int [ 0 ; 9 ] = 3 ) = exist k : int [ 0 ; 5 ] = 1 in let s : bool = pre q in exception g in catch e in { | 2 : a | b } fby { |> a |> not b } do trap g in loop [ 1 , 3 ] { &> a &> b } do try assert i - - 1 * 2 / 3 + 4 >= 5 in loop ~ 2 : ( 1 ) m ( 1 , i mod 2 , q , { t ( { a } ) } ) or s xor a => ( if a then b else i div 2 <> 7 )
-";
-    let words: [&[&str]; 3] = [
-        &["print", "f"],
-        &["print", "f", "-l", "0"],
-        &["print", "f", "--precision", "6", "-l", "0"],
-    ];
-    for words in words {
-        let call = call_of(rt.alloc(), words, &Outside::sound(text.as_bytes()))?;
-        check(&rt, &call, 0, printed.as_bytes(), "");
-        assert_eq!(rt; call.asked, 1);
-    }
-    let outside = Outside::sound(b"node n()returns(b:bool)=b--x");
-    let call = call_of(rt.alloc(), &["print", "f"], &outside)?;
-    check(&rt, &call, 0, b"node n ( ) returns ( b : bool ) = b\n", "");
-    Ok(())
+    check_rows(
+        &rt,
+        3,
+        r"
+f is exception e, f
+f is let m(x, y: int; z: bool ref; u: trace): bool = x < y and z = true
+f is let t(u: trace): trace = try u do raise e (* anew *)
+f is node n(p: real [-1.5; 2]; q: bool = false) returns (a, b: bool; i: int [0;9] = 3) =
+f is     exist k: int [0;5] = 1 in let s: bool = pre q in exception g in
+f is     catch e in {|2: a|b} fby {|>a|>not b} do
+f is     trap g in loop [1,3] {&>a&>b} do
+f is     try assert i - -1 * 2 / 3 + 4 >= 5 in
+f is     loop ~2:(1) m(1, i mod 2, q, {t({a})}) or s xor a => (if a then b else i div 2 <> 7)
+> exception e , f
+> let m ( x , y : int ; z : bool ref ; u : trace ) : bool = x < y and z = true
+> let t ( u : trace ) : trace = try u do raise e
+> node n ( p : real [ - 1.5 ; 2 ] ; q : bool = false ) returns ( a , b : bool ; i : int [ 0 ; 9 ] = 3 ) = exist k : int [ 0 ; 5 ] = 1 in let s : bool = pre q in exception g in catch e in { | 2 : a | b } fby { |> a |> not b } do trap g in loop [ 1 , 3 ] { &> a &> b } do try assert i - - 1 * 2 / 3 + 4 >= 5 in loop ~ 2 : ( 1 ) m ( 1 , i mod 2 , q , { t ( { a } ) } ) or s xor a => ( if a then b else i div 2 <> 7 )
+",
+        "
+$ print f
+
+$ print f -l 0
+
+$ print f --precision 6 -l 0
+",
+    )
+}
+
+#[test]
+fn a_program_with_no_blanks_is_printed(rt: HostRuntime) -> Result<(), Fail> {
+    check_rows(
+        &rt,
+        1,
+        "",
+        "
+$ print f
+f is node n()returns(b:bool)=b--x
+> node n ( ) returns ( b : bool ) = b
+",
+    )
 }
