@@ -1,162 +1,126 @@
 //! Forms from their texts, with ample memory, which no clause can promise.
 
-use lt_linear::{Form, NumRefusal, parse_form};
+use crate::rows::{Judge, check};
+use crate::shown::shown_form;
+use lt_linear::{NumRefusal, parse_form};
 use std::alloc::Global;
 use std::process::Abort;
 use std::test::Fail;
 
-// A text spells the form with these terms and this constant.
-fn check(rt: &impl Abort, alloc: Global, text: &str, terms: &[(u32, i64)], constant: i64) {
-    match parse_form(alloc, text.as_bytes()) {
-        Ok(form) => {
-            assert_eq!(rt; form.terms.as_slice(), terms, "{text}");
-            assert_eq!(rt; form.constant, constant, "{text}");
-        }
-        Err(refusal) => panic!(rt; "{text}: {refusal:?}"),
+// Texts, between quotes, that spell forms.
+const FORMS: &str = r#""1*v0 + 2" ==> 1*v0 + 2
+"7" ==> 7
+"-7" ==> -7
+"2*v0 + -1*v3 + 7" ==> 2*v0 + -1*v3 + 7
+"5*v4294967295 + 0" ==> 5*v4294967295 + 0
+"-1000000000000*v1 + 1000000000000" ==> -1000000000000*v1 + 1000000000000"#;
+
+const LEADING_ZEROS: &str = r#""-0" ==> 0
+"007*v0009 + -00" ==> 7*v9 + 0
+"1*v00000000000004294967295 + 00000000000001000000000000" ==> 1*v4294967295 + 1000000000000"#;
+
+const WRONG_TERMS: &str = r#""1*v1 + 1*v0 + 2" ==> Malformed
+"1*v1 + 1*v1 + 2" ==> Malformed
+"1*v1 + 1*v2 + 1*v1 + 0" ==> Malformed
+"0*v0 + 2" ==> Malformed
+"-0*v0 + 2" ==> Malformed
+"1*v0 + 000*v1 + 2" ==> Malformed"#;
+
+const LARGE_NUMBERS: &str = r#""1000000000001" ==> Overflow
+"-1000000000001" ==> Overflow
+"1000000000001*v0 + 0" ==> Overflow
+"1*v0 + -1000000000001*v1 + 2" ==> Overflow
+"99999999999999999999999999999999999999999*v0 + 1" ==> Overflow
+"1*v0 + 99999999999999999999999999999999999999999" ==> Overflow"#;
+
+const LARGE_AND_WRONG: &str = r#""1000000000001*v0 + x" ==> Malformed
+"1000000000001*v1 + 1*v0 + 2" ==> Malformed
+"1000000000001*v0 + 0*v1 + 2" ==> Malformed
+"1000000000001*v4294967296 + 2" ==> Malformed"#;
+
+const OTHER_TEXTS: &str = r#""" ==> Malformed
+" " ==> Malformed
+"-" ==> Malformed
+"--1" ==> Malformed
+"+1" ==> Malformed
+"1.0" ==> Malformed
+"1 " ==> Malformed
+" 1" ==> Malformed
+"x" ==> Malformed
+"1*v0" ==> Malformed
+"1*v0 + " ==> Malformed
+"1*v0 +" ==> Malformed
+"1*v0 2" ==> Malformed
+"1*v0+2" ==> Malformed
+"1*v0  + 2" ==> Malformed
+"1*v0 +  2" ==> Malformed
+"1*v0 - 2" ==> Malformed
+"2 + 1*v0" ==> Malformed
+"1 + 2" ==> Malformed
+"v0 + 2" ==> Malformed
+"*v0 + 2" ==> Malformed
+"1*v + 2" ==> Malformed
+"1*v-1 + 2" ==> Malformed
+"1*v+1 + 2" ==> Malformed
+"1*x0 + 2" ==> Malformed
+"1*0 + 2" ==> Malformed
+"1v0 + 2" ==> Malformed
+"1**v0 + 2" ==> Malformed
+"1*v0*v1 + 2" ==> Malformed
+"1*v4294967296 + 2" ==> Malformed
+"1*v18446744073709551616 + 2" ==> Malformed
+"- 1*v0 + 2" ==> Malformed
+"1*v0 + - 2" ==> Malformed"#;
+
+// Each text of a table, between its quotes, spells a form, or is refused.
+struct Spelled;
+
+impl Judge for Spelled {
+    fn answer(&self, rt: &impl Abort, alloc: Global, given: &str) -> Result<String, Fail> {
+        let form = parse_form(alloc, unquoted(rt, given).as_bytes());
+        Ok(shown_form(alloc, &form)?)
     }
 }
 
-// Each of these texts is refused so.
-fn check_refused(rt: &impl Abort, alloc: Global, texts: &[&str], refusal: NumRefusal) {
-    for text in texts {
-        match parse_form(alloc, text.as_bytes()) {
-            Ok(_) => panic!(rt; "{text}"),
-            Err(other) => assert_eq!(rt; other, refusal, "{text}"),
-        }
+// A text without the quotes around it.
+fn unquoted<'a>(rt: &impl Abort, text: &'a str) -> &'a str {
+    let Some(rest) = text.strip_prefix("\"") else {
+        panic!(rt; "no quotes: {text}");
+    };
+    match rest.strip_suffix("\"") {
+        Some(inside) => inside,
+        None => panic!(rt; "no quotes: {text}"),
     }
 }
 
 #[test]
 fn texts_spell_forms(rt: HostRuntime) -> Result<(), Fail> {
-    let alloc = rt.alloc();
-    check(&rt, alloc, "1*v0 + 2", &[(0, 1)], 2);
-    check(&rt, alloc, "7", &[], 7);
-    check(&rt, alloc, "-7", &[], -7);
-    check(&rt, alloc, "2*v0 + -1*v3 + 7", &[(0, 2), (3, -1)], 7);
-    check(&rt, alloc, "5*v4294967295 + 0", &[(4_294_967_295, 5)], 0);
-    check(
-        &rt,
-        alloc,
-        "-1000000000000*v1 + 1000000000000",
-        &[(1, -1_000_000_000_000)],
-        1_000_000_000_000,
-    );
-    Ok(())
+    check(&rt, rt.alloc(), &Spelled, FORMS, 6)
 }
 
 #[test]
 fn zeros_may_lead(rt: HostRuntime) -> Result<(), Fail> {
-    let alloc = rt.alloc();
-    check(&rt, alloc, "-0", &[], 0);
-    check(&rt, alloc, "007*v0009 + -00", &[(9, 7)], 0);
-    check(
-        &rt,
-        alloc,
-        "1*v00000000000004294967295 + 00000000000001000000000000",
-        &[(4_294_967_295, 1)],
-        1_000_000_000_000,
-    );
-    Ok(())
+    check(&rt, rt.alloc(), &Spelled, LEADING_ZEROS, 3)
 }
 
 #[test]
 fn terms_rise_and_none_is_zero(rt: HostRuntime) -> Result<(), Fail> {
-    let alloc = rt.alloc();
-    check_refused(
-        &rt,
-        alloc,
-        &[
-            "1*v1 + 1*v0 + 2",
-            "1*v1 + 1*v1 + 2",
-            "1*v1 + 1*v2 + 1*v1 + 0",
-            "0*v0 + 2",
-            "-0*v0 + 2",
-            "1*v0 + 000*v1 + 2",
-        ],
-        NumRefusal::Malformed,
-    );
-    Ok(())
+    check(&rt, rt.alloc(), &Spelled, WRONG_TERMS, 6)
 }
 
 #[test]
 fn numbers_past_the_bound_overflow(rt: HostRuntime) -> Result<(), Fail> {
-    let alloc = rt.alloc();
-    check_refused(
-        &rt,
-        alloc,
-        &[
-            "1000000000001",
-            "-1000000000001",
-            "1000000000001*v0 + 0",
-            "1*v0 + -1000000000001*v1 + 2",
-            "99999999999999999999999999999999999999999*v0 + 1",
-            "1*v0 + 99999999999999999999999999999999999999999",
-        ],
-        NumRefusal::Overflow,
-    );
-    Ok(())
+    check(&rt, rt.alloc(), &Spelled, LARGE_NUMBERS, 6)
 }
 
 #[test]
 fn malformed_comes_before_overflow(rt: HostRuntime) -> Result<(), Fail> {
-    let alloc = rt.alloc();
-    check_refused(
-        &rt,
-        alloc,
-        &[
-            "1000000000001*v0 + x",
-            "1000000000001*v1 + 1*v0 + 2",
-            "1000000000001*v0 + 0*v1 + 2",
-            "1000000000001*v4294967296 + 2",
-        ],
-        NumRefusal::Malformed,
-    );
-    Ok(())
+    check(&rt, rt.alloc(), &Spelled, LARGE_AND_WRONG, 4)
 }
 
 #[test]
 fn other_texts_are_malformed(rt: HostRuntime) -> Result<(), Fail> {
-    let alloc = rt.alloc();
-    check_refused(
-        &rt,
-        alloc,
-        &[
-            "",
-            " ",
-            "-",
-            "--1",
-            "+1",
-            "1.0",
-            "1 ",
-            " 1",
-            "x",
-            "1*v0",
-            "1*v0 + ",
-            "1*v0 +",
-            "1*v0 2",
-            "1*v0+2",
-            "1*v0  + 2",
-            "1*v0 +  2",
-            "1*v0 - 2",
-            "1*v0 + 2\n",
-            "2 + 1*v0",
-            "1 + 2",
-            "v0 + 2",
-            "*v0 + 2",
-            "1*v + 2",
-            "1*v-1 + 2",
-            "1*v+1 + 2",
-            "1*x0 + 2",
-            "1*0 + 2",
-            "1v0 + 2",
-            "1**v0 + 2",
-            "1*v0*v1 + 2",
-            "1*v4294967296 + 2",
-            "1*v18446744073709551616 + 2",
-            "- 1*v0 + 2",
-            "1*v0 + - 2",
-        ],
-        NumRefusal::Malformed,
-    );
-    Ok(())
+    let line = parse_form(rt.alloc(), b"1*v0 + 2\n");
+    assert!(rt; matches!(line, Err(NumRefusal::Malformed)));
+    check(&rt, rt.alloc(), &Spelled, OTHER_TEXTS, 33)
 }

@@ -3,237 +3,82 @@
 ghost use Rattle.std.specs.Prelude.{◌<◌};
 ghost use Rattle.lt_formula.specs.View.{table_len};
 
+use crate::rows::{Judge, check};
 use crate::sheet::{Sheet, known};
-use lt_formula::ExpNode;
-use lt_formula::ExpNode::{
-    Add, And, Div, Eq, Flag, Ge, Gt, If, Int, Le, Local, Lt, Mul, Ne, Neg, Not, Or, Output,
-    PreOutput, Real, Sub,
-};
+use crate::shown::shown_formula;
 use lt_linear::{Form, form_compare};
-use lt_num::{Arith, Range};
-use lt_space::{Atom, Formula, FormulaRefusal, Relation, formula_of, holds, need};
+use lt_num::Range;
+use lt_space::{Atom, Formula, Relation, formula_of, holds, need};
 use std::alloc::Global;
 use std::process::Abort;
 use std::test::Fail;
 
-// The formula of the last of some expressions.
-fn formula(
-    rt: &impl Abort,
-    alloc: Global,
-    nodes: &[ExpNode],
-) -> Result<Result<Formula, FormulaRefusal>, Fail> {
-    let mut sheet = Sheet::new(alloc)?;
-    let last = sheet.put_all(rt, nodes)?;
-    assert!(rt; (last as usize) < sheet.table.len());
-    Ok(formula_of(alloc, &sheet.table, last, &known()))
-}
+// Of two ints the difference has its coefficients at two decimals, and its constant not.
+const DIFFERENCES: &str = "\
+y = 90u * z ==> 100*v2 + -90*v5 + 0 = 0
+-- The y before was 0.05: 0.045 is rounded once, away from 0.
+y = 90u * pre_y ==> 100*v2 + -5 = 0
+-- And 0.025 is rounded to 0.03.
+y = pre_y / 200u ==> 100*v2 + -3 = 0
+-- 3 - j < 0
+j > 3 ==> -100*v1 + 3 < 0
+2 * j + k >= neg j ==> -300*v1 + -100*v4 + 0 <= 0
+j <= 3 ==> 100*v1 + -3 <= 0
+j - j < 1 ==> -1 < 0
+-- The difference is exact, past the bound of numbers.
+1000000000000 * j < -1000000000000 * j ==> 200000000000000*v1 + 0 < 0
+-- Only what is chosen is there.
+( if true then j else j + 1 ) = 1 ==> 100*v1 + -1 = 0";
 
-// Whether a form has these terms and this constant.
-fn is(form: &Form, terms: &[(u32, i64)], constant: i64) -> bool {
-    form.terms.as_slice() == terms && form.constant == constant
-}
+const FAULTS: &str = "\
+j = 1 div 0 ==> DivisionByZero
+-- The b before has no value.
+pre_b and b ==> NoPrevious
+-- The left part isn't known.
+b and pre_b ==> NoPrevious
+1000000000000 * j + 1000000000000 * j = j ==> Overflow
+-- The left side comes first.
+1000000000000 * j + 1000000000000 * j > 1000000000000 div 0 ==> Overflow";
 
-// Whether a formula is a comparison of this form.
-fn compares(
-    answer: &Result<Formula, FormulaRefusal>,
-    terms: &[(u32, i64)],
-    constant: i64,
-    relation: Relation,
-) -> bool {
-    match answer {
-        Ok(Formula::Atom(Atom::Compare(form, found))) => is(form, terms, constant)
-            && *found == relation,
-        _ => false,
+const SETTLED: &str = "\
+false and j = 1 div 0 ==> false
+true or j = 1 div 0 ==> true
+-- What is known doesn't settle it, and stays.
+true and b ==> (true and v0)
+-- A denial, and its denial.
+j <> 1 ==> not 100*v1 + -1 = 0
+not ( j <> 1 ) ==> not not 100*v1 + -1 = 0";
+
+// Each row of a table has an expression, which stands for a formula, or has a fault.
+struct Stated;
+
+impl Judge for Stated {
+    fn answer(&self, rt: &impl Abort, alloc: Global, given: &str) -> Result<String, Fail> {
+        let mut sheet = Sheet::new(alloc)?;
+        let expression = sheet.read(rt, alloc, given)?;
+        let formula = formula_of(alloc, &sheet.table, expression, &known());
+        Ok(shown_formula(alloc, &formula)?)
     }
 }
 
 #[test]
 fn comparisons_are_differences(rt: HostRuntime) -> Result<(), Fail> {
-    let alloc = rt.alloc();
-    let cases: [(&[ExpNode], &[(u32, i64)], i64, Relation); 9] = [
-        // x = 0.9 * y
-        (
-            &[Output(2), Local(2), Real(90), Mul(2, 1), Eq(0, 3)],
-            &[(2, 100), (5, -90)],
-            0,
-            Relation::Equal,
-        ),
-        // x = 0.9 * pre x, where that was 0.05: 0.045 is rounded once, away from 0
-        (
-            &[Output(2), PreOutput(2), Real(90), Mul(2, 1), Eq(0, 3)],
-            &[(2, 100)],
-            -5,
-            Relation::Equal,
-        ),
-        // x = pre x / 2.0: 0.025 is rounded to 0.03
-        (
-            &[Output(2), PreOutput(2), Real(200), Div(1, 2), Eq(0, 3)],
-            &[(2, 100)],
-            -3,
-            Relation::Equal,
-        ),
-        // x > 3, of ints: 3 - x < 0
-        (
-            &[Output(1), Int(3), Gt(0, 1)],
-            &[(1, -100)],
-            3,
-            Relation::Below,
-        ),
-        // 2 * x + y >= -x
-        (
-            &[
-                Output(1),
-                Int(2),
-                Mul(1, 0),
-                Local(1),
-                Add(2, 3),
-                Neg(0),
-                Ge(4, 5),
-            ],
-            &[(1, -300), (4, -100)],
-            0,
-            Relation::NotAbove,
-        ),
-        // x <= 3
-        (
-            &[Output(1), Int(3), Le(0, 1)],
-            &[(1, 100)],
-            -3,
-            Relation::NotAbove,
-        ),
-        // x - x < 1
-        (
-            &[Output(1), Sub(0, 0), Int(1), Lt(1, 2)],
-            &[],
-            -1,
-            Relation::Below,
-        ),
-        // 10^12 * x < -10^12 * x: the difference is exact, past the bound of numbers
-        (
-            &[
-                Output(1),
-                Int(1_000_000_000_000),
-                Mul(1, 0),
-                Int(-1_000_000_000_000),
-                Mul(3, 0),
-                Lt(2, 4),
-            ],
-            &[(1, 200_000_000_000_000)],
-            0,
-            Relation::Below,
-        ),
-        // (if true then x else x + 1) = 1: only what is chosen is there
-        (
-            &[
-                Flag(true),
-                Output(1),
-                Int(1),
-                Add(1, 2),
-                If(0, 1, 3),
-                Eq(4, 2),
-            ],
-            &[(1, 100)],
-            -1,
-            Relation::Equal,
-        ),
-    ];
-    for (nodes, terms, constant, relation) in cases {
-        let found = formula(&rt, alloc, nodes)?;
-        assert!(rt; compares(&found, terms, constant, relation), "{nodes:?}");
-    }
-    Ok(())
+    check(&rt, rt.alloc(), &Stated, DIFFERENCES, 9)
 }
 
 #[test]
 fn the_first_fault_from_the_left_is_the_answer(rt: HostRuntime) -> Result<(), Fail> {
-    let alloc = rt.alloc();
-    let cases: [(&[ExpNode], Arith); 5] = [
-        // x = 1 div 0
-        (
-            &[Output(1), Int(1), Int(0), Div(1, 2), Eq(0, 3)],
-            Arith::DivisionByZero,
-        ),
-        // pre b and b, where b had no value before
-        (&[Output(0), PreOutput(0), And(1, 0)], Arith::NoPrevious),
-        // b and pre b: the left part isn't known
-        (&[Output(0), PreOutput(0), And(0, 1)], Arith::NoPrevious),
-        // 10^12 * x + 10^12 * x = x
-        (
-            &[
-                Output(1),
-                Int(1_000_000_000_000),
-                Mul(1, 0),
-                Add(2, 2),
-                Eq(3, 0),
-            ],
-            Arith::Overflow,
-        ),
-        // 10^12 * x + 10^12 * x > 1 div 0: the left side comes first
-        (
-            &[
-                Output(1),
-                Int(1_000_000_000_000),
-                Mul(1, 0),
-                Add(2, 2),
-                Int(0),
-                Div(1, 4),
-                Gt(3, 5),
-            ],
-            Arith::Overflow,
-        ),
-    ];
-    for (nodes, fault) in cases {
-        let found = formula(&rt, alloc, nodes)?;
-        assert!(rt;
-            matches!(found, Err(FormulaRefusal::Fault(met)) if met == fault),
-            "{nodes:?}"
-        );
-    }
-    Ok(())
+    check(&rt, rt.alloc(), &Stated, FAULTS, 5)
 }
 
 #[test]
 fn what_a_known_left_part_settles_is_a_truth(rt: HostRuntime) -> Result<(), Fail> {
-    let alloc = rt.alloc();
-    // false and (x = 1 div 0)
-    let found = formula(
-        &rt,
-        alloc,
-        &[
-            Flag(false),
-            Output(1),
-            Int(1),
-            Int(0),
-            Div(2, 3),
-            Eq(1, 4),
-            And(0, 5),
-        ],
-    )?;
-    assert!(rt; matches!(found, Ok(Formula::Truth(false))));
-    // true or (x = 1 div 0)
-    let found = formula(
-        &rt,
-        alloc,
-        &[
-            Flag(true),
-            Output(1),
-            Int(1),
-            Int(0),
-            Div(2, 3),
-            Eq(1, 4),
-            Or(0, 5),
-        ],
-    )?;
-    assert!(rt; matches!(found, Ok(Formula::Truth(true))));
-    // true and b: what is known doesn't settle it, and stays
-    let found = formula(&rt, alloc, &[Flag(true), Output(0), And(0, 1)])?;
-    assert!(rt; matches!(found, Ok(Formula::And(_, _))));
-    // x <> 1, and its denial
-    let found = formula(&rt, alloc, &[Output(1), Int(1), Ne(0, 1)])?;
-    assert!(rt; matches!(found, Ok(Formula::Not(_))));
-    let found = formula(&rt, alloc, &[Output(1), Int(1), Ne(0, 1), Not(2)])?;
-    assert!(rt; matches!(found, Ok(Formula::Not(_))));
-    Ok(())
+    check(&rt, rt.alloc(), &Stated, SETTLED, 5)
+}
+
+#[test]
+fn a_known_part_that_settles_nothing_keeps_its_truth(rt: HostRuntime) -> Result<(), Fail> {
+    check(&rt, rt.alloc(), &Stated, "a => b ==> (not true or v0)", 1)
 }
 
 #[test]

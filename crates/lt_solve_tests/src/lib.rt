@@ -15,7 +15,15 @@ mod parts;
 #[cfg(test)]
 mod problems;
 #[cfg(test)]
+mod reading;
+#[cfg(test)]
+mod rows;
+#[cfg(test)]
+mod searching;
+#[cfg(test)]
 mod sheet;
+#[cfg(test)]
+mod shown;
 #[cfg(test)]
 mod solutions;
 #[cfg(test)]

@@ -66,9 +66,10 @@ impl Problem {
     pub(crate) fn make(rt: &impl Abort, alloc: Global, number: u64) -> Result<Problem, Fail> {
         let mut numbers = Numbers::new(number);
         let mut sheet = Sheet::new(alloc)?;
-        let first = put_truth(rt, &mut sheet, &mut numbers)?;
-        let second = put_truth(rt, &mut sheet, &mut numbers)?;
-        let third = put_truth(rt, &mut sheet, &mut numbers)?;
+        let mut wanted = [0; 3];
+        for number in wanted.iter_mut() {
+            *number = put_truth(rt, &mut sheet, &mut numbers)?;
+        }
         let mut scope = [true; 6];
         let mut targets = [0; 6];
         for i in 0..6 {
@@ -77,7 +78,7 @@ impl Problem {
         }
         Ok(Problem {
             sheet,
-            wanted: [first, second, third],
+            wanted,
             scope,
             targets,
         })

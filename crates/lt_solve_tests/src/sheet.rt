@@ -39,15 +39,6 @@ impl Sheet {
         assert!(rt; has_parts(node.shape(), before));
         Ok(self.table.push(node)?)
     }
-
-    /// Puts expressions, each over those before it, and answers the number of the last.
-    pub(crate) fn put_all(&mut self, rt: &impl Abort, nodes: &[ExpNode]) -> Result<u32, Fail> {
-        let mut last = 0;
-        for node in nodes {
-            last = self.put(rt, *node)?;
-        }
-        Ok(last)
-    }
 }
 
 // Whether the parts of a shape are among so many, and its variable is one of three of its role.
