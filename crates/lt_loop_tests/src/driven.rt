@@ -1,12 +1,16 @@
 //! Runs that are driven over links and a sink in memory.
 
+ghost use Rattle.lt_loop.specs.CoreView.{standing};
+ghost use Rattle.lt_loop.specs.Event.{WantsTell};
+
 use crate::alone::Alone;
 use crate::echo::Echo;
 use lt_drive::{Driven, drive};
 use lt_io::{MemSink, ScriptLink};
-use lt_loop::{Core, Setup, Talk};
-use lt_rif::{End, Who};
-use std::alloc::Global;
+use lt_loop::{Core, Machine, Setup, Talk, Wants};
+use std::alloc::{AllocError, Global};
+use std::process::Abort;
+use std::str::from_utf8;
 use std::test::Fail;
 
 // The header of a run against a controller.
@@ -46,13 +50,13 @@ struct Script<'a> {
 }
 
 // What came of a run.
-#[derive(Drop)]
-struct Seen {
+#[derive(Clone, Copy)]
+struct Seen<'a> {
     driven: Driven,
     steps: u64,
-    controller: ScriptLink,
-    oracle: ScriptLink,
-    trace: MemSink,
+    controller: &'a ScriptLink,
+    oracle: &'a ScriptLink,
+    trace: &'a MemSink,
 }
 
 impl Said<'_> {
@@ -95,8 +99,8 @@ fn three_steps<'a>(controller: Said<'a>, oracle: Said<'a>) -> Script<'a> {
     }
 }
 
-// Drives a run of the machine that gives back what it is given.
-fn drive_echo(alloc: Global, script: Script<'_>) -> Result<Seen, Fail> {
+// Drives a run of the machine that gives back what it is given, and tells what came of it.
+fn drive_echo(alloc: Global, script: Script<'_>, header: &str) -> Result<String, Fail> {
     let setup = Setup {
         seed: 0,
         limit: u64::from(script.limit),
@@ -108,22 +112,13 @@ fn drive_echo(alloc: Global, script: Script<'_>) -> Result<Seen, Fail> {
         },
         oracle: script.has_oracle,
     };
-    let mut core = Core::make(alloc, Echo::make(alloc)?, setup)?;
-    let mut controller = script.controller.link(alloc)?;
-    let mut oracle = script.oracle.link(alloc)?;
-    let mut trace = MemSink::make(alloc, script.room, Vec::new(alloc))?;
-    let driven = drive(&mut core, &mut controller, &mut oracle, &mut trace);
-    Ok(Seen {
-        driven,
-        steps: core.steps(),
-        controller,
-        oracle,
-        trace,
-    })
+    let core = Core::make(alloc, Echo::make(alloc)?, setup)?;
+    drive_over(alloc, core, script, header)
 }
 
-// Drives a run that has no sides, of at most four steps, over links that fail at each call.
-fn drive_alone(alloc: Global, room: u64) -> Result<Seen, Fail> {
+// Drives a run that has no sides, of at most four steps, over links that fail at each call. There is memory for so many
+// steps.
+fn drive_alone(alloc: Global, room: u64) -> Result<String, Fail> {
     let setup = Setup {
         seed: 0,
         limit: 4,
@@ -131,91 +126,157 @@ fn drive_alone(alloc: Global, room: u64) -> Result<Seen, Fail> {
         controller: Talk::Nobody,
         oracle: false,
     };
-    let mut core = Core::make(alloc, Alone::make(alloc, room)?, setup)?;
     let dead = Said::apart("7 ", EACH.as_slice());
-    let mut controller = dead.link(alloc)?;
-    let mut oracle = dead.link(alloc)?;
-    let mut trace = MemSink::make(alloc, 1000, Vec::new(alloc))?;
-    let driven = drive(&mut core, &mut controller, &mut oracle, &mut trace);
-    Ok(Seen {
-        driven,
-        steps: core.steps(),
-        controller,
-        oracle,
-        trace,
-    })
+    let core = Core::make(alloc, Alone::make(alloc, room)?, setup)?;
+    drive_over(alloc, core, three_steps(dead, dead), LONE_HEADER)
 }
 
-impl Seen {
-    // Whether the trace is this header and these lines, the links were sent these lines, and so many faults came of the
-    // controller, of the oracle and of the trace.
-    fn is(&self, header: &str, lines: &str, sent: &str, shown: &str, faults: [u64; 3]) -> bool {
-        let is_traced = match self.trace.written().strip_prefix(header.as_bytes()) {
-            Some(rest) => rest == lines.as_bytes(),
-            None => false,
-        };
-        is_traced
-            && self.controller.sent() == sent.as_bytes()
-            && self.oracle.sent() == shown.as_bytes()
-            && self.controller.faults() == faults[0]
-            && self.oracle.faults() == faults[1]
-            && self.trace.faults() == faults[2]
+// Drives a run over the links and the sink of a script, and tells what came of it, with its trace behind this header.
+fn drive_over<M: Machine + Drop>(
+    alloc: Global,
+    mut core: Core<M>,
+    script: Script<'_>,
+    header: &str,
+) -> Result<String, Fail>
+    requires { WantsTell (standing core) Wants.Turn }
+{
+    let mut controller = script.controller.link(alloc)?;
+    let mut oracle = script.oracle.link(alloc)?;
+    let mut trace = MemSink::make(alloc, script.room, Vec::new(alloc))?;
+    let driven = drive(&mut core, &mut controller, &mut oracle, &mut trace);
+    let seen = Seen {
+        driven,
+        steps: core.steps(),
+        controller: &controller,
+        oracle: &oracle,
+        trace: &trace,
+    };
+    Ok(seen.shown(alloc, header)?)
+}
+
+impl Seen<'_> {
+    // What came of a run, as text: the trace behind its header, what the controller was sent and the oracle was shown,
+    // and how the driving ended, after how many steps, with how many faults of the controller, of the oracle and of the
+    // trace.
+    fn shown(&self, alloc: Global, header: &str) -> Result<String, AllocError> {
+        let trace = self.trace.written();
+        let lines = trace
+            .strip_prefix(header.as_bytes())
+            .unwrap_or(b"no header");
+        let lines = from_utf8(lines).unwrap_or("no text");
+        let sent = from_utf8(self.controller.sent()).unwrap_or("no text");
+        let shown = from_utf8(self.oracle.sent()).unwrap_or("no text");
+        let driven = self.driven;
+        let steps = self.steps;
+        let controller = self.controller.faults();
+        let oracle = self.oracle.faults();
+        let faults = self.trace.faults();
+        format!(in alloc;
+            "{lines}sent {sent:?}, shown {shown:?}\n{driven:?} after {steps}, faults {controller} {oracle} {faults}"
+        )
     }
 }
 
+// This comes of a script for the machine that gives back what it is given.
+fn check(rt: &impl Abort, alloc: Global, script: Script<'_>, due: &str) -> Result<(), Fail> {
+    let found = drive_echo(alloc, script, HEADER)?;
+    assert_eq!(rt; found.as_str(), due);
+    Ok(())
+}
+
+// This comes of a run that has no sides.
+fn check_alone(rt: &impl Abort, alloc: Global, room: u64, due: &str) -> Result<(), Fail> {
+    let found = drive_alone(alloc, room)?;
+    assert_eq!(rt; found.as_str(), due);
+    Ok(())
+}
+
+const ALL_STEPS: &str = r#"#step 1
+5 #outs 7
+#step 2
+7 #outs 8
+#step 3
+8 #outs 9
+#end limit 3
+sent "5\n7\n8\n", shown "5 7\n7 8\n8 9\n"
+Ended(Limit) after 3, faults 0 0 0"#;
+
 #[test]
 fn replies_come_in_pieces_of_any_length(rt: HostRuntime) -> Result<(), Fail> {
-    let lines = "#step 1\n5 #outs 7\n#step 2\n7 #outs 8\n#step 3\n8 #outs 9\n#end limit 3\n";
     for cut in [1, 2, 3, 4096] {
         let mut script = three_steps(Said::whole(REPLIES), Said::whole(VERDICTS));
         script.controller.cut = cut;
         script.oracle.cut = cut;
-        let seen = drive_echo(rt.alloc(), script)?;
-        assert!(rt; seen.driven == Driven::Ended(End::Limit) && seen.steps == 3);
-        assert!(rt; seen.is(HEADER, lines, "5\n7\n8\n", "5 7\n7 8\n8 9\n", [0, 0, 0]));
+        check(&rt, rt.alloc(), script, ALL_STEPS)?;
     }
     Ok(())
 }
+
+// What comes of a controller whose first call fails, or its second, its third or its fourth.
+const FAILING_CONTROLLERS: &str = r#"#end device controller 1
+sent "", shown ""
+Ended(Device(Controller)) after 0, faults 1 0 0
+
+#end device controller 1
+sent "5\n", shown ""
+Ended(Device(Controller)) after 0, faults 1 0 0
+
+#step 1
+5 #outs 7
+#end device controller 2
+sent "5\n", shown "5 7\n"
+Ended(Device(Controller)) after 1, faults 1 0 0
+
+#step 1
+5 #outs 7
+#end device controller 2
+sent "5\n7\n", shown "5 7\n"
+Ended(Device(Controller)) after 1, faults 1 0 0"#;
 
 #[test]
 fn a_controller_that_fails_ends_the_run(rt: HostRuntime) -> Result<(), Fail> {
-    let at_first = "#end device controller 1\n";
-    let later = "#step 1\n5 #outs 7\n#end device controller 2\n";
-    let cases = [
-        (0, at_first, "", ""),
-        (1, at_first, "5\n", ""),
-        (2, later, "5\n", "5 7\n"),
-        (3, later, "5\n7\n", "5 7\n"),
-    ];
-    for (call, lines, sent, shown) in cases {
+    let mut dues = FAILING_CONTROLLERS.split("\n\n");
+    for call in 0..4u64 {
         let failing = [call];
         let controller = Said::apart(REPLIES, failing.as_slice());
         let script = three_steps(controller, Said::apart(VERDICTS, &[]));
-        let seen = drive_echo(rt.alloc(), script)?;
-        assert!(rt; seen.driven == Driven::Ended(End::Device(Who::Controller)));
-        assert!(rt; seen.is(HEADER, lines, sent, shown, [1, 0, 0]));
+        check(&rt, rt.alloc(), script, dues.next().unwrap_or(""))?;
     }
+    assert_eq!(rt; dues.next(), None);
     Ok(())
 }
 
+// What comes of such an oracle.
+const FAILING_ORACLES: &str = r#"#end device oracle 1
+sent "5\n", shown ""
+Ended(Device(Oracle)) after 0, faults 0 1 0
+
+#end device oracle 1
+sent "5\n", shown "5 7\n"
+Ended(Device(Oracle)) after 0, faults 0 1 0
+
+#step 1
+5 #outs 7
+#end device oracle 2
+sent "5\n7\n", shown "5 7\n"
+Ended(Device(Oracle)) after 1, faults 0 1 0
+
+#step 1
+5 #outs 7
+#end device oracle 2
+sent "5\n7\n", shown "5 7\n7 8\n"
+Ended(Device(Oracle)) after 1, faults 0 1 0"#;
+
 #[test]
 fn an_oracle_that_fails_ends_the_run(rt: HostRuntime) -> Result<(), Fail> {
-    let at_first = "#end device oracle 1\n";
-    let later = "#step 1\n5 #outs 7\n#end device oracle 2\n";
-    let cases = [
-        (0, at_first, "5\n", ""),
-        (1, at_first, "5\n", "5 7\n"),
-        (2, later, "5\n7\n", "5 7\n"),
-        (3, later, "5\n7\n", "5 7\n7 8\n"),
-    ];
-    for (call, lines, sent, shown) in cases {
+    let mut dues = FAILING_ORACLES.split("\n\n");
+    for call in 0..4u64 {
         let failing = [call];
         let oracle = Said::apart(VERDICTS, failing.as_slice());
         let script = three_steps(Said::apart(REPLIES, &[]), oracle);
-        let seen = drive_echo(rt.alloc(), script)?;
-        assert!(rt; seen.driven == Driven::Ended(End::Device(Who::Oracle)));
-        assert!(rt; seen.is(HEADER, lines, sent, shown, [0, 1, 0]));
+        check(&rt, rt.alloc(), script, dues.next().unwrap_or(""))?;
     }
+    assert_eq!(rt; dues.next(), None);
     Ok(())
 }
 
@@ -223,24 +284,34 @@ fn an_oracle_that_fails_ends_the_run(rt: HostRuntime) -> Result<(), Fail> {
 fn a_front_is_sent_where_there_is_no_room_for_more(rt: HostRuntime) -> Result<(), Fail> {
     let mut script = three_steps(Said::whole(REPLIES), Said::whole(VERDICTS));
     script.controller.room = 3;
-    let seen = drive_echo(rt.alloc(), script)?;
-    assert!(rt; seen.driven == Driven::Ended(End::Device(Who::Controller)));
-    let lines = "#step 1\n5 #outs 7\n#end device controller 2\n";
-    assert!(rt; seen.is(HEADER, lines, "5\n7", "5 7\n", [1, 0, 0]));
-    Ok(())
+    let due = r#"#step 1
+5 #outs 7
+#end device controller 2
+sent "5\n7", shown "5 7\n"
+Ended(Device(Controller)) after 1, faults 1 0 0"#;
+    check(&rt, rt.alloc(), script, due)
 }
 
 #[test]
 fn a_trace_without_room_ends_the_driving(rt: HostRuntime) -> Result<(), Fail> {
     let text =
         "#seed 0\n#inputs \"x\":int\n#outputs \"y\":int\n#step 1\n5 #outs 7\n#step 2\n7 #outs 8\n";
-    for (room, step) in [(0, 0), (10, 0), (41, 1), (50, 1), (59, 2), (64, 2)] {
+    for (room, untraced) in [
+        (0, "Untraced { step: 0 }"),
+        (10, "Untraced { step: 0 }"),
+        (41, "Untraced { step: 1 }"),
+        (50, "Untraced { step: 1 }"),
+        (59, "Untraced { step: 2 }"),
+        (64, "Untraced { step: 2 }"),
+    ] {
         let mut script = three_steps(Said::whole(REPLIES), Said::whole(VERDICTS));
         script.room = room;
-        let seen = drive_echo(rt.alloc(), script)?;
-        assert!(rt; seen.driven == Driven::Untraced { step });
-        assert_eq!(rt; seen.trace.written(), &text.as_bytes()[..room]);
-        assert!(rt; seen.trace.faults() == 1 && seen.controller.faults() == 0);
+        let found = drive_echo(rt.alloc(), script, "")?;
+        let traced = text.get(..room).unwrap_or("no such place");
+        let behind = found.strip_prefix(traced).unwrap_or("another trace");
+        assert!(rt; behind.starts_with("sent "), "{found}");
+        assert!(rt; behind.contains(untraced), "{found}");
+        assert!(rt; behind.ends_with(" faults 0 0 1"), "{found}");
     }
     Ok(())
 }
@@ -251,27 +322,40 @@ fn a_side_and_the_trace_both_fail(rt: HostRuntime) -> Result<(), Fail> {
     let controller = Said::apart(REPLIES, failing.as_slice());
     let mut script = three_steps(controller, Said::whole(VERDICTS));
     script.room = 41;
-    let seen = drive_echo(rt.alloc(), script)?;
-    assert!(rt; seen.driven == Driven::Untraced { step: 1 });
-    assert!(rt; seen.is(HEADER, "", "5\n", "", [1, 0, 1]));
-    Ok(())
+    let due = r#"sent "5\n", shown ""
+Untraced { step: 1 } after 0, faults 1 0 1"#;
+    check(&rt, rt.alloc(), script, due)
 }
+
+const UNJUDGED: &str = r#"#step 1
+5 #outs 7
+#step 2
+7 #outs 8
+#step 3
+8 #outs 9
+#end limit 3
+sent "5\n7\n8\n", shown ""
+Ended(Limit) after 3, faults 0 0 0"#;
+
+const LONE: &str = r#"#step 1
+5 #outs
+#step 2
+5 #outs
+#step 3
+5 #outs
+#step 4
+5 #outs
+#end limit 4
+sent "", shown ""
+Ended(Limit) after 4, faults 0 0 0"#;
 
 #[test]
 fn sides_that_a_run_has_not_are_left_alone(rt: HostRuntime) -> Result<(), Fail> {
     let dead = Said::apart(VERDICTS, EACH.as_slice());
     let mut script = three_steps(Said::whole(REPLIES), dead);
     script.has_oracle = false;
-    let judged_by_nobody = drive_echo(rt.alloc(), script)?;
-    let lines = "#step 1\n5 #outs 7\n#step 2\n7 #outs 8\n#step 3\n8 #outs 9\n#end limit 3\n";
-    assert!(rt; judged_by_nobody.driven == Driven::Ended(End::Limit));
-    assert!(rt; judged_by_nobody.is(HEADER, lines, "5\n7\n8\n", "", [0, 0, 0]));
-    let alone = drive_alone(rt.alloc(), 9)?;
-    let lines =
-        "#step 1\n5 #outs\n#step 2\n5 #outs\n#step 3\n5 #outs\n#step 4\n5 #outs\n#end limit 4\n";
-    assert!(rt; alone.driven == Driven::Ended(End::Limit));
-    assert!(rt; alone.is(LONE_HEADER, lines, "", "", [0, 0, 0]));
-    Ok(())
+    check(&rt, rt.alloc(), script, UNJUDGED)?;
+    check_alone(&rt, rt.alloc(), 9, LONE)
 }
 
 #[test]
@@ -281,29 +365,36 @@ fn an_earlier_trace_is_sent_nothing(rt: HostRuntime) -> Result<(), Fail> {
     script.limit = 2;
     script.replays = true;
     script.controller.room = 0;
-    let seen = drive_echo(rt.alloc(), script)?;
-    let lines = "#step 1\n5 #outs 4\n#step 2\n4 #outs 6\n#end limit 2\n";
-    assert!(rt; seen.driven == Driven::Ended(End::Limit));
-    assert!(rt; seen.is(HEADER, lines, "", "5 4\n4 6\n", [0, 0, 0]));
-    Ok(())
+    let due = r#"#step 1
+5 #outs 4
+#step 2
+4 #outs 6
+#end limit 2
+sent "", shown "5 4\n4 6\n"
+Ended(Limit) after 2, faults 0 0 0"#;
+    check(&rt, rt.alloc(), script, due)
 }
 
 #[test]
 fn a_run_starves_where_memory_runs_out(rt: HostRuntime) -> Result<(), Fail> {
-    for (room, lines) in [(0, ""), (2, "#step 1\n5 #outs\n#step 2\n5 #outs\n")] {
-        let seen = drive_alone(rt.alloc(), room)?;
-        assert!(rt; seen.driven == Driven::Starved && seen.steps == room);
-        assert!(rt; seen.is(LONE_HEADER, lines, "", "", [0, 0, 0]));
-    }
-    Ok(())
+    let at_once = r#"sent "", shown ""
+Starved after 0, faults 0 0 0"#;
+    check_alone(&rt, rt.alloc(), 0, at_once)?;
+    let later = r#"#step 1
+5 #outs
+#step 2
+5 #outs
+sent "", shown ""
+Starved after 2, faults 0 0 0"#;
+    check_alone(&rt, rt.alloc(), 2, later)
 }
 
 #[test]
 fn a_run_without_steps_has_a_header_and_an_end(rt: HostRuntime) -> Result<(), Fail> {
     let mut script = three_steps(Said::whole(REPLIES), Said::whole(VERDICTS));
     script.limit = 0;
-    let seen = drive_echo(rt.alloc(), script)?;
-    assert!(rt; seen.driven == Driven::Ended(End::Limit) && seen.steps == 0);
-    assert!(rt; seen.is(HEADER, "#end limit 0\n", "", "", [0, 0, 0]));
-    Ok(())
+    let due = r#"#end limit 0
+sent "", shown ""
+Ended(Limit) after 0, faults 0 0 0"#;
+    check(&rt, rt.alloc(), script, due)
 }

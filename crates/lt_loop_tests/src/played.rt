@@ -5,25 +5,13 @@ ghost use Rattle.lt_loop.specs.Event.{WantsTell};
 
 use crate::alone::Alone;
 use crate::echo::Echo;
-use lt_drive::Driven;
 use lt_io::{Calls, MemSink, MemSpawner, ScriptLink};
 use lt_loop::{Core, Machine, Setup, Talk, Wants};
-use lt_rif::{End, Who};
 use lt_session::{Played, Sides, Source, play};
-use std::alloc::Global;
+use std::alloc::{AllocError, Global};
+use std::process::Abort;
+use std::str::from_utf8;
 use std::test::Fail;
-
-// The trace of two steps against a controller.
-const TWO_STEPS: &str =
-    "#seed 0\n#inputs \"x\":int\n#outputs \"y\":int\n#step 1\n5 #outs 7\n#step 2\n7 #outs 8\n#end limit 2\n";
-
-// What came of a run.
-#[derive(Drop)]
-struct Seen {
-    played: Played,
-    spawner: MemSpawner,
-    trace: MemSink,
-}
 
 // A program in memory: its command, what it says, and its calls that fail.
 type Program<'a> = (&'a str, &'a str, &'a [u64]);
@@ -44,7 +32,7 @@ fn spawner_of(alloc: Global, programs: &[Program<'_>]) -> Result<MemSpawner, Fai
 }
 
 // Plays a run of two steps at most of the machine that gives back what it is given.
-fn play_echo(alloc: Global, sides: Sides<'_>, programs: &[Program<'_>]) -> Result<Seen, Fail> {
+fn play_echo(alloc: Global, sides: Sides<'_>, programs: &[Program<'_>]) -> Result<String, Fail> {
     let setup = Setup {
         seed: 0,
         limit: 2,
@@ -59,51 +47,75 @@ fn play_echo(alloc: Global, sides: Sides<'_>, programs: &[Program<'_>]) -> Resul
     play_over(alloc, core, sides, programs)
 }
 
-// Plays a run, with these programs and a sink in memory.
+// Plays a run, with these programs and a sink in memory, and tells what came of it: the trace, how the run ended, the
+// commands that were asked for, and how many faults were counted.
 fn play_over<M: Machine + Drop>(
     alloc: Global,
     mut core: Core<M>,
     sides: Sides<'_>,
     programs: &[Program<'_>],
-) -> Result<Seen, Fail>
+) -> Result<String, Fail>
     requires { WantsTell (standing core) Wants.Turn }
 {
     let mut spawner = spawner_of(alloc, programs)?;
     let mut trace = MemSink::make(alloc, 1000, Vec::new(alloc))?;
     let played = play(alloc, &mut core, sides, &mut spawner, &mut trace);
-    Ok(Seen {
-        played,
-        spawner,
-        trace,
-    })
+    Ok(shown(alloc, played, &spawner, &trace)?)
 }
 
-impl Seen {
-    // Whether the trace is this text, these commands were asked for, and so many faults were counted.
-    fn is(&self, text: &str, asked: &[&str], faults: u64) -> bool {
-        self.trace.written() == text.as_bytes()
-            && self.spawner.asked.len() == asked.len()
-            && self
-                .spawner
-                .asked
-                .iter()
-                .zip(asked)
-                .all(|(name, command)| name.as_str() == *command)
-            && self.spawner.calls.faults == faults
-    }
+// What came of a run, as text.
+fn shown(
+    alloc: Global,
+    played: Played,
+    spawner: &MemSpawner,
+    trace: &MemSink,
+) -> Result<String, AllocError> {
+    let trace = from_utf8(trace.written()).unwrap_or("no text");
+    let asked = &spawner.asked;
+    let faults = spawner.calls.faults;
+    format!(in alloc; "{trace}{played:?}, asked for {asked:?}, {faults} faults")
 }
+
+// This comes of a run of the machine that gives back what it is given.
+fn check(
+    rt: &impl Abort,
+    alloc: Global,
+    sides: Sides<'_>,
+    programs: &[Program<'_>],
+    due: &str,
+) -> Result<(), Fail> {
+    let found = play_echo(alloc, sides, programs)?;
+    assert_eq!(rt; found.as_str(), due);
+    Ok(())
+}
+
+// The programs that may be started.
+const JUDGE: Program<'_> = ("judge", "t t ", &[]);
+
+const CAR: Program<'_> = ("car", "7\n8\n", &[]);
 
 #[test]
 fn programs_are_started_by_their_commands(rt: HostRuntime) -> Result<(), Fail> {
-    let programs: [Program<'_>; 2] = [("judge", "t t ", &[]), ("car 1", "7\n8\n", &[])];
     let sides = Sides {
         controller: Source::Program("car 1"),
         oracle: Some("judge"),
     };
-    let seen = play_echo(rt.alloc(), sides, &programs)?;
-    assert!(rt; seen.played == Played::Driven(Driven::Ended(End::Limit)));
-    assert!(rt; seen.is(TWO_STEPS, &["car 1", "judge"], 0));
-    Ok(())
+    let due = r#"#seed 0
+#inputs "x":int
+#outputs "y":int
+#step 1
+5 #outs 7
+#step 2
+7 #outs 8
+#end limit 2
+Driven(Ended(Limit)), asked for ["car 1", "judge"], 0 faults"#;
+    check(
+        &rt,
+        rt.alloc(),
+        sides,
+        &[JUDGE, ("car 1", "7\n8\n", &[])],
+        due,
+    )
 }
 
 #[test]
@@ -113,10 +125,16 @@ fn recorded_bytes_stand_for_a_controller(rt: HostRuntime) -> Result<(), Fail> {
         controller: Source::Recorded(earlier.as_bytes()),
         oracle: None,
     };
-    let seen = play_echo(rt.alloc(), sides, &[])?;
-    assert!(rt; seen.played == Played::Driven(Driven::Ended(End::Limit)));
-    assert!(rt; seen.is(TWO_STEPS, &[], 0));
-    Ok(())
+    let due = r#"#seed 0
+#inputs "x":int
+#outputs "y":int
+#step 1
+5 #outs 7
+#step 2
+7 #outs 8
+#end limit 2
+Driven(Ended(Limit)), asked for [], 0 faults"#;
+    check(&rt, rt.alloc(), sides, &[], due)
 }
 
 #[test]
@@ -133,11 +151,15 @@ fn a_run_without_a_controller_starts_nothing(rt: HostRuntime) -> Result<(), Fail
         controller: Source::Nobody,
         oracle: None,
     };
-    let programs: [Program<'_>; 1] = [("car", "7\n", &[])];
-    let seen = play_over(rt.alloc(), core, sides, &programs)?;
-    assert!(rt; seen.played == Played::Driven(Driven::Ended(End::Limit)));
-    let text = "#seed 0\n#inputs \"x\":int\n#outputs\n#step 1\n5 #outs\n#end limit 1\n";
-    assert!(rt; seen.is(text, &[], 0));
+    let found = play_over(rt.alloc(), core, sides, &[("car", "7\n", &[])])?;
+    let due = r#"#seed 0
+#inputs "x":int
+#outputs
+#step 1
+5 #outs
+#end limit 1
+Driven(Ended(Limit)), asked for [], 0 faults"#;
+    assert_eq!(rt; found.as_str(), due);
     Ok(())
 }
 
@@ -147,15 +169,10 @@ fn a_program_that_is_not_there_is_blamed(rt: HostRuntime) -> Result<(), Fail> {
         controller: Source::Program("car"),
         oracle: Some("judge"),
     };
-    let judge: [Program<'_>; 1] = [("judge", "t t ", &[])];
-    let seen = play_echo(rt.alloc(), sides, &judge)?;
-    assert!(rt; seen.played == Played::Unstarted(Who::Controller));
-    assert!(rt; seen.is("", &["car"], 1));
-    let car: [Program<'_>; 1] = [("car", "7\n8\n", &[])];
-    let seen = play_echo(rt.alloc(), sides, &car)?;
-    assert!(rt; seen.played == Played::Unstarted(Who::Oracle));
-    assert!(rt; seen.is("", &["car", "judge"], 1));
-    Ok(())
+    let controller = r#"Unstarted(Controller), asked for ["car"], 1 faults"#;
+    check(&rt, rt.alloc(), sides, &[JUDGE], controller)?;
+    let oracle = r#"Unstarted(Oracle), asked for ["car", "judge"], 1 faults"#;
+    check(&rt, rt.alloc(), sides, &[CAR], oracle)
 }
 
 #[test]
@@ -164,10 +181,10 @@ fn a_link_that_fails_is_counted(rt: HostRuntime) -> Result<(), Fail> {
         controller: Source::Program("car"),
         oracle: None,
     };
-    let car: [Program<'_>; 1] = [("car", "7\n8\n", &[1])];
-    let seen = play_echo(rt.alloc(), sides, &car)?;
-    assert!(rt; seen.played == Played::Driven(Driven::Ended(End::Device(Who::Controller))));
-    let text = "#seed 0\n#inputs \"x\":int\n#outputs \"y\":int\n#end device controller 1\n";
-    assert!(rt; seen.is(text, &["car"], 1));
-    Ok(())
+    let due = r#"#seed 0
+#inputs "x":int
+#outputs "y":int
+#end device controller 1
+Driven(Ended(Device(Controller))), asked for ["car"], 1 faults"#;
+    check(&rt, rt.alloc(), sides, &[("car", "7\n8\n", &[1])], due)
 }

@@ -4,11 +4,13 @@ use crate::echo::Echo;
 use crate::running::{Script, Written, run};
 use lt_loop::{Core, Event, PieceKind, Setup, Talk, Wants};
 use lt_rif::{End, Who};
-use std::alloc::Global;
+use std::alloc::{AllocError, Global};
+use std::process::Abort;
+use std::str::from_utf8;
 use std::test::Fail;
 
 // The header of each of these runs.
-const HEADER: &[u8] = b"#seed 0\n#inputs \"x\":int\n#outputs \"y\":int\n";
+const HEADER: &str = "#seed 0\n#inputs \"x\":int\n#outputs \"y\":int\n";
 
 // A run against a controller alone, of at most so many steps.
 fn live(limit: u16, replies: &[u8]) -> Script<'_> {
@@ -20,55 +22,50 @@ fn live(limit: u16, replies: &[u8]) -> Script<'_> {
     }
 }
 
-// Whether a run's trace is the header and these lines, in pieces of any length, and these lines are sent to its sides.
-fn puts_out(
-    alloc: Global,
-    script: Script<'_>,
-    trace: &[u8],
-    sent: &[u8],
-    shown: &[u8],
-) -> Result<bool, Fail> {
+// This comes of a run, in pieces of any length: its trace behind the header, and what is sent to its sides.
+fn check(rt: &impl Abort, alloc: Global, script: Script<'_>, due: &str) -> Result<(), Fail> {
     for length in 1..80 {
-        let written = run(alloc, script, length)?;
-        let is_same = is_trace(&written, trace)
-            && written.sent.as_slice() == sent
-            && written.shown.as_slice() == shown;
-        if !is_same {
-            return Ok(false);
-        }
+        let found = shown(alloc, &run(alloc, script, length)?)?;
+        assert_eq!(rt; found.as_str(), due);
     }
-    Ok(true)
+    Ok(())
 }
 
-// Whether a trace is the header and these lines.
-fn is_trace(written: &Written, lines: &[u8]) -> bool {
-    match written.trace.as_slice().strip_prefix(HEADER) {
-        Some(rest) => rest == lines,
-        None => false,
-    }
+// What a run puts out, as text.
+fn shown(alloc: Global, written: &Written) -> Result<String, AllocError> {
+    let trace = from_utf8(&written.trace).unwrap_or("no text");
+    let lines = trace.strip_prefix(HEADER).unwrap_or("no header");
+    let sent = from_utf8(&written.sent).unwrap_or("no text");
+    let shown = from_utf8(&written.shown).unwrap_or("no text");
+    format!(in alloc; "{lines}sent {sent:?}, shown {shown:?}")
 }
 
 #[test]
 fn first_value_is_the_first_input_and_inputs_come_back(rt: HostRuntime) -> Result<(), Fail> {
-    let trace = b"#step 1\n5 #outs 7\n#step 2\n7 #outs 8\n#step 3\n8 #outs 9\n#end limit 3\n";
-    let is_so = puts_out(rt.alloc(), live(3, b"7\n8 9 "), trace, b"5\n7\n8\n", b"")?;
-    assert!(rt; is_so);
-    Ok(())
+    let due = r#"#step 1
+5 #outs 7
+#step 2
+7 #outs 8
+#step 3
+8 #outs 9
+#end limit 3
+sent "5\n7\n8\n", shown """#;
+    check(&rt, rt.alloc(), live(3, b"7\n8 9 "), due)
 }
 
 #[test]
 fn a_scenario_that_is_over_ends_the_run(rt: HostRuntime) -> Result<(), Fail> {
-    let trace =
-        b"#step 1\n5 #outs 1\n#step 2\n1 #outs 2\n#step 3\n2 #outs 3\n#step 4\n3 #outs 4\n#end normal 4\n";
-    let is_so = puts_out(
-        rt.alloc(),
-        live(9, b"1 2 3 4 5 "),
-        trace,
-        b"5\n1\n2\n3\n",
-        b"",
-    )?;
-    assert!(rt; is_so);
-    Ok(())
+    let due = r#"#step 1
+5 #outs 1
+#step 2
+1 #outs 2
+#step 3
+2 #outs 3
+#step 4
+3 #outs 4
+#end normal 4
+sent "5\n1\n2\n3\n", shown """#;
+    check(&rt, rt.alloc(), live(9, b"1 2 3 4 5 "), due)
 }
 
 #[test]
@@ -79,22 +76,31 @@ fn verdicts_judge_their_own_steps(rt: HostRuntime) -> Result<(), Fail> {
         replies: b"1 2 3 4 ",
         verdicts: Some(b"t f t "),
     };
-    let trace = b"#step 1\n5 #outs 1\n#step 2\n1 #outs 2\n#end oracle 2\n";
-    let is_so = puts_out(rt.alloc(), script, trace, b"5\n1\n", b"5 1\n1 2\n")?;
-    assert!(rt; is_so);
-    Ok(())
+    let due = r#"#step 1
+5 #outs 1
+#step 2
+1 #outs 2
+#end oracle 2
+sent "5\n1\n", shown "5 1\n1 2\n""#;
+    check(&rt, rt.alloc(), script, due)
 }
 
 #[test]
 fn an_end_comes_behind_the_bytes_before_it(rt: HostRuntime) -> Result<(), Fail> {
-    let malformed =
-        b"#step 1\n5 #outs 1\n#step 2\n1 #outs 2\n#end malformed controller NotAValue 3\n";
-    let is_so = puts_out(rt.alloc(), live(9, b"1 2 -"), malformed, b"5\n1\n2\n", b"")?;
-    assert!(rt; is_so);
-    let ended = b"#step 1\n5 #outs 1\n#step 2\n1 #outs 2\n#end ended controller 3\n";
-    let is_so = puts_out(rt.alloc(), live(9, b"1 2"), ended, b"5\n1\n2\n", b"")?;
-    assert!(rt; is_so);
-    Ok(())
+    let malformed = r#"#step 1
+5 #outs 1
+#step 2
+1 #outs 2
+#end malformed controller NotAValue 3
+sent "5\n1\n2\n", shown """#;
+    check(&rt, rt.alloc(), live(9, b"1 2 -"), malformed)?;
+    let ended = r#"#step 1
+5 #outs 1
+#step 2
+1 #outs 2
+#end ended controller 3
+sent "5\n1\n2\n", shown """#;
+    check(&rt, rt.alloc(), live(9, b"1 2"), ended)
 }
 
 #[test]
@@ -105,10 +111,13 @@ fn a_trace_is_played_again(rt: HostRuntime) -> Result<(), Fail> {
         replies: b"#seed 3\n#inputs \"x\":int\n#step 1\n5 #outs 4\n#step 2\n4 #outs 6\n#end limit 2\n",
         verdicts: None,
     };
-    let trace = b"#step 1\n5 #outs 4\n#step 2\n4 #outs 6\n#end limit 2\n";
-    let is_so = puts_out(rt.alloc(), script, trace, b"", b"")?;
-    assert!(rt; is_so);
-    Ok(())
+    let due = r#"#step 1
+5 #outs 4
+#step 2
+4 #outs 6
+#end limit 2
+sent "", shown """#;
+    check(&rt, rt.alloc(), script, due)
 }
 
 #[test]
