@@ -21,6 +21,9 @@ not (v1 and v0) of [0, 1], 1 known; ";
 const KNOWN_FIRST: &str = "\
 b, j > 3 or a or j > 3 or b ==> (((v1 or v0) or v1) or v2) of [4, 3, 0], 1 known; ";
 
+// The numbers: `not a`, which is known as a whole, is 1, and b is 2.
+const KNOWN_WHOLE: &str = "not a or b ==> (v0 or v1) of [1, 2], 1 known; ";
+
 const UNEQUAL: &str = "not ( j <> 3 ) ==> not not v0 of [2], 0 known; ";
 
 // Each row of a table has a constraint. The answer is its parts: of each its conjunct, in which a variable stands for
@@ -54,6 +57,11 @@ fn conjuncts_are_parts_of_the_outermost_ands(rt: HostRuntime) -> Result<(), Fail
 #[test]
 fn atoms_that_are_known_stand_first(rt: HostRuntime) -> Result<(), Fail> {
     check(&rt, rt.alloc(), &Divided, KNOWN_FIRST, 1)
+}
+
+#[test]
+fn what_is_known_as_a_whole_is_one_atom(rt: HostRuntime) -> Result<(), Fail> {
+    check(&rt, rt.alloc(), &Divided, KNOWN_WHOLE, 1)
 }
 
 #[test]
