@@ -7,4 +7,4 @@ mod asked;
 #[cfg(test)]
 mod refused;
 #[cfg(test)]
-mod words;
+mod rows;
