@@ -1,10 +1,15 @@
 //! Expressions with ample memory, which no clause can promise, and that they are worth what the rules of numbers say.
+//!
+//! A row gives expressions by their constructors, with the numbers of parts or the places of variables:
+//! `Int(2); Neg(0); Mul(0, 1)`. Reals are raw numbers at two decimals; the greatest size of one is 1000000000000. What is
+//! wanted is a value, or a fault by its name.
 
 ghost use Rattle.std.specs.Prelude.{◌≡◌, ◌<◌, IfOk, IsTrue, length};
 ghost use Rattle.lt_formula.specs.Kinds.{Kinds};
 ghost use Rattle.lt_formula.specs.Table.{fits};
 ghost use Rattle.lt_formula.specs.View.{table_kinds, table_len};
 
+use crate::rows::{halves, rows};
 use lt_formula::ExpNode::{
     Add, And, Div, Eq, Flag, Ge, If, Implies, Input, Int, Le, Local, Lt, Mod, Mul, Ne, Neg, Not,
     Or, Output, PreInput, PreLocal, PreOutput, Real, Sub, Xor,
@@ -14,24 +19,6 @@ use lt_num::{Arith, Kind, Value};
 use std::alloc::Global;
 use std::process::Abort;
 use std::test::Fail;
-
-const FALSE: Result<Value, Arith> = Ok(Value::Bool(false));
-
-const TRUE: Result<Value, Arith> = Ok(Value::Bool(true));
-
-const OVERFLOW: Result<Value, Arith> = Err(Arith::Overflow);
-
-const BY_ZERO: Result<Value, Arith> = Err(Arith::DivisionByZero);
-
-const NO_PREVIOUS: Result<Value, Arith> = Err(Arith::NoPrevious);
-
-// The greatest size of a raw number.
-const MOST: i64 = 1_000_000_000_000;
-
-// A number as an answer.
-fn num(raw: i64) -> Result<Value, Arith> {
-    Ok(Value::Num(raw))
-}
 
 // Expressions over an input, an output and a local of each kind: a Boolean, an int and a real.
 #[derive(Drop)]
@@ -112,156 +99,224 @@ fn instant() -> Valuation<'static>
     }
 }
 
+// The expression over two parts that has this name.
+fn over_two(name: &str, a: u32, b: u32) -> Result<ExpNode, Fail> {
+    match name {
+        "And" => Ok(And(a, b)),
+        "Or" => Ok(Or(a, b)),
+        "Xor" => Ok(Xor(a, b)),
+        "Implies" => Ok(Implies(a, b)),
+        "Eq" => Ok(Eq(a, b)),
+        "Ne" => Ok(Ne(a, b)),
+        "Lt" => Ok(Lt(a, b)),
+        "Le" => Ok(Le(a, b)),
+        "Ge" => Ok(Ge(a, b)),
+        "Add" => Ok(Add(a, b)),
+        "Sub" => Ok(Sub(a, b)),
+        "Mul" => Ok(Mul(a, b)),
+        "Div" => Ok(Div(a, b)),
+        "Mod" => Ok(Mod(a, b)),
+        _ => Err(Fail::new("an expression over two parts")),
+    }
+}
+
+// The variable, or the expression over one part, that has this name.
+fn over_one(name: &str, a: u32) -> Result<ExpNode, Fail> {
+    match name {
+        "Input" => Ok(Input(a)),
+        "Output" => Ok(Output(a)),
+        "Local" => Ok(Local(a)),
+        "PreInput" => Ok(PreInput(a)),
+        "PreOutput" => Ok(PreOutput(a)),
+        "PreLocal" => Ok(PreLocal(a)),
+        "Not" => Ok(Not(a)),
+        "Neg" => Ok(Neg(a)),
+        _ => Err(Fail::new("a variable, or an expression over one part")),
+    }
+}
+
+// The choice with these three numbers.
+fn choice(numbers: &str) -> Result<ExpNode, Fail> {
+    let (condition, parts) = numbers.split_once(", ").ok_or("three numbers")?;
+    let (first, second) = parts.split_once(", ").ok_or("three numbers")?;
+    Ok(If(condition.parse()?, first.parse()?, second.parse()?))
+}
+
+// The expression that a constructor with these numbers makes.
+fn made(name: &str, numbers: &str) -> Result<ExpNode, Fail> {
+    match name {
+        "Flag" => Ok(Flag(numbers.parse()?)),
+        "Int" => Ok(Int(numbers.parse()?)),
+        "Real" => Ok(Real(numbers.parse()?)),
+        "If" => choice(numbers),
+        _ => match numbers.split_once(", ") {
+            Some((a, b)) => over_two(name, a.parse()?, b.parse()?),
+            None => over_one(name, numbers.parse()?),
+        },
+    }
+}
+
+// The expression of a text, as `Mul(0, 1)`.
+fn node_of(text: &str) -> Result<ExpNode, Fail> {
+    let text = text.strip_suffix(')').ok_or("a parenthesis")?;
+    let (name, numbers) = text.split_once('(').ok_or("numbers")?;
+    made(name, numbers)
+}
+
+// The value or the fault of this name.
+fn answer_of(name: &str) -> Result<Result<Value, Arith>, Fail> {
+    match name {
+        "false" => Ok(Ok(Value::Bool(false))),
+        "true" => Ok(Ok(Value::Bool(true))),
+        "Overflow" => Ok(Err(Arith::Overflow)),
+        "DivisionByZero" => Ok(Err(Arith::DivisionByZero)),
+        "NoPrevious" => Ok(Err(Arith::NoPrevious)),
+        raw => Ok(Ok(Value::Num(raw.parse()?))),
+    }
+}
+
 // The value of the last of some expressions, each of which is new and stands over those before it.
 fn value_of_last(
     rt: &impl Abort,
     alloc: Global,
-    nodes: &[ExpNode],
+    nodes: &str,
 ) -> Result<Result<Value, Arith>, Fail> {
     let mut sheet = Sheet::new(alloc)?;
     let mut last = 0;
-    for node in nodes {
-        last = sheet.put_new(rt, *node)?;
+    for node in nodes.split("; ") {
+        last = sheet.put_new(rt, node_of(node)?)?;
     }
     assert!(rt; (last as usize) < sheet.table.len());
     Ok(value_under(&instant(), &sheet.table, last))
 }
 
-// Each case is expressions, each over those before it, and the value of the last one.
-type Cases<'a> = &'a [(&'a [ExpNode], Result<Value, Arith>)];
+// That the last of the expressions of a row has the value of the row.
+fn check_row(rt: &impl Abort, alloc: Global, row: &str) -> Result<(), Fail> {
+    let (nodes, wanted) = halves(row)?;
+    let found = value_of_last(rt, alloc, nodes)?;
+    assert_eq!(rt; found, answer_of(wanted)?, "{nodes}");
+    Ok(())
+}
 
-fn check(rt: &impl Abort, alloc: Global, cases: Cases<'_>) -> Result<(), Fail> {
-    for (nodes, wanted) in cases {
-        assert_eq!(rt; value_of_last(rt, alloc, nodes)?, *wanted, "{nodes:?}");
+// The same of each row of a table, which has so many.
+fn check(rt: &impl Abort, alloc: Global, table: &str, count: usize) -> Result<(), Fail> {
+    for row in rows(rt, table, count) {
+        check_row(rt, alloc, row)?;
     }
     Ok(())
 }
 
+const ROUNDED: &str = "
+Real(90); Real(100); Mul(0, 1) ==> 90
+Real(90); PreOutput(2); Mul(0, 1) ==> 73
+Real(1); Real(50); Mul(0, 1) ==> 1
+Real(-1); Real(50); Mul(0, 1) ==> -1
+Real(100); Real(300); Div(0, 1) ==> 33
+Real(200); Real(-300); Div(0, 1) ==> -67
+Real(150); Real(25); Add(0, 1) ==> 175
+Real(150); Real(25); Sub(1, 0) ==> -125
+Int(7); Int(2); Div(0, 1) ==> 3
+Int(-7); Int(2); Div(0, 1) ==> -3
+Int(-7); Int(2); Mod(0, 1) ==> -1
+Int(7); Int(-2); Mod(0, 1) ==> 1
+Int(90); Int(81); Mul(0, 1) ==> 7290
+Int(7); Neg(0) ==> -7
+";
+
 #[test]
 fn reals_are_rounded_and_ints_are_cut(rt: HostRuntime) -> Result<(), Fail> {
-    check(
-        &rt,
-        rt.alloc(),
-        &[
-            (&[Real(90), Real(100), Mul(0, 1)], num(90)),
-            (&[Real(90), PreOutput(2), Mul(0, 1)], num(73)),
-            (&[Real(1), Real(50), Mul(0, 1)], num(1)),
-            (&[Real(-1), Real(50), Mul(0, 1)], num(-1)),
-            (&[Real(100), Real(300), Div(0, 1)], num(33)),
-            (&[Real(200), Real(-300), Div(0, 1)], num(-67)),
-            (&[Real(150), Real(25), Add(0, 1)], num(175)),
-            (&[Real(150), Real(25), Sub(1, 0)], num(-125)),
-            (&[Int(7), Int(2), Div(0, 1)], num(3)),
-            (&[Int(-7), Int(2), Div(0, 1)], num(-3)),
-            (&[Int(-7), Int(2), Mod(0, 1)], num(-1)),
-            (&[Int(7), Int(-2), Mod(0, 1)], num(1)),
-            (&[Int(90), Int(81), Mul(0, 1)], num(7290)),
-            (&[Int(7), Neg(0)], num(-7)),
-        ],
-    )
+    check(&rt, rt.alloc(), ROUNDED, 14)
 }
+
+const PAST_THE_BOUND: &str = "
+Int(1000000000000) ==> 1000000000000
+Int(1000000000001) ==> Overflow
+Real(1000000000001) ==> Overflow
+Int(1000000000000); Int(1); Add(0, 1) ==> Overflow
+Int(1000000000000); Int(1); Sub(0, 1) ==> 999999999999
+Int(1000000); Mul(0, 0) ==> 1000000000000
+Int(1000000); Int(1000001); Mul(0, 1) ==> Overflow
+Real(1000000000000); Real(99); Div(0, 1) ==> Overflow
+Int(-1000000000000); Neg(0) ==> 1000000000000
+";
 
 #[test]
 fn numbers_past_the_bound_overflow(rt: HostRuntime) -> Result<(), Fail> {
-    check(
-        &rt,
-        rt.alloc(),
-        &[
-            (&[Int(MOST)], num(MOST)),
-            (&[Int(MOST + 1)], OVERFLOW),
-            (&[Real(MOST + 1)], OVERFLOW),
-            (&[Int(MOST), Int(1), Add(0, 1)], OVERFLOW),
-            (&[Int(MOST), Int(1), Sub(0, 1)], num(MOST - 1)),
-            (&[Int(1_000_000), Mul(0, 0)], num(MOST)),
-            (&[Int(1_000_000), Int(1_000_001), Mul(0, 1)], OVERFLOW),
-            (&[Real(MOST), Real(99), Div(0, 1)], OVERFLOW),
-            (&[Int(-MOST), Neg(0)], num(MOST)),
-        ],
-    )
+    check(&rt, rt.alloc(), PAST_THE_BOUND, 9)
 }
+
+const FAULTS: &str = "
+Int(1); Int(0); Div(0, 1) ==> DivisionByZero
+Real(1); Real(0); Div(0, 1) ==> DivisionByZero
+Int(1); Int(0); Mod(0, 1) ==> DivisionByZero
+PreInput(1) ==> NoPrevious
+PreInput(1); Int(0); Div(1, 1); Add(0, 2) ==> NoPrevious
+PreInput(1); Int(0); Div(1, 1); Add(2, 0) ==> DivisionByZero
+Int(1000000000001); Int(0); Div(0, 1) ==> Overflow
+";
 
 #[test]
 fn the_first_fault_from_the_left_is_the_answer(rt: HostRuntime) -> Result<(), Fail> {
-    check(
-        &rt,
-        rt.alloc(),
-        &[
-            (&[Int(1), Int(0), Div(0, 1)], BY_ZERO),
-            (&[Real(1), Real(0), Div(0, 1)], BY_ZERO),
-            (&[Int(1), Int(0), Mod(0, 1)], BY_ZERO),
-            (&[PreInput(1)], NO_PREVIOUS),
-            (&[PreInput(1), Int(0), Div(1, 1), Add(0, 2)], NO_PREVIOUS),
-            (&[PreInput(1), Int(0), Div(1, 1), Add(2, 0)], BY_ZERO),
-            (&[Int(MOST + 1), Int(0), Div(0, 1)], OVERFLOW),
-        ],
-    )
+    check(&rt, rt.alloc(), FAULTS, 7)
 }
+
+const SETTLED: &str = "
+Flag(false); PreOutput(0); And(0, 1) ==> false
+Flag(true); PreOutput(0); And(0, 1) ==> NoPrevious
+Flag(true); PreOutput(0); Or(0, 1) ==> true
+Flag(false); PreOutput(0); Or(0, 1) ==> NoPrevious
+Flag(false); PreOutput(0); Implies(0, 1) ==> true
+Flag(true); PreOutput(0); Implies(0, 1) ==> NoPrevious
+Flag(false); PreOutput(0); Xor(0, 1) ==> NoPrevious
+Flag(false); PreOutput(0); And(1, 0) ==> NoPrevious
+Flag(true); Int(5); PreInput(1); If(0, 1, 2) ==> 5
+Flag(false); Int(5); PreInput(1); If(0, 1, 2) ==> NoPrevious
+";
 
 #[test]
 fn what_the_left_part_settles_needs_no_right_part(rt: HostRuntime) -> Result<(), Fail> {
-    check(
-        &rt,
-        rt.alloc(),
-        &[
-            (&[Flag(false), PreOutput(0), And(0, 1)], FALSE),
-            (&[Flag(true), PreOutput(0), And(0, 1)], NO_PREVIOUS),
-            (&[Flag(true), PreOutput(0), Or(0, 1)], TRUE),
-            (&[Flag(false), PreOutput(0), Or(0, 1)], NO_PREVIOUS),
-            (&[Flag(false), PreOutput(0), Implies(0, 1)], TRUE),
-            (&[Flag(true), PreOutput(0), Implies(0, 1)], NO_PREVIOUS),
-            (&[Flag(false), PreOutput(0), Xor(0, 1)], NO_PREVIOUS),
-            (&[Flag(false), PreOutput(0), And(1, 0)], NO_PREVIOUS),
-            (&[Flag(true), Int(5), PreInput(1), If(0, 1, 2)], num(5)),
-            (
-                &[Flag(false), Int(5), PreInput(1), If(0, 1, 2)],
-                NO_PREVIOUS,
-            ),
-        ],
-    )
+    check(&rt, rt.alloc(), SETTLED, 10)
 }
+
+const VARIABLES: &str = "
+Input(0); Local(0); Xor(0, 1) ==> false
+Output(0); Not(0) ==> true
+Input(1); Output(1); Add(0, 1) ==> 4
+Input(2); Output(2); Local(2); Add(0, 1); Add(3, 2) ==> 300
+PreOutput(1); PreLocal(1); Lt(1, 0) ==> true
+PreInput(2); Input(2); Neg(1); Eq(0, 2) ==> true
+Local(1); Int(0); Ne(0, 1) ==> false
+Input(1); Int(7); Le(0, 1) ==> true
+Output(1); Local(1); Ge(0, 1) ==> false
+PreInput(0); Flag(false); Eq(0, 1) ==> true
+";
 
 #[test]
 fn variables_have_their_values(rt: HostRuntime) -> Result<(), Fail> {
-    check(
-        &rt,
-        rt.alloc(),
-        &[
-            (&[Input(0), Local(0), Xor(0, 1)], FALSE),
-            (&[Output(0), Not(0)], TRUE),
-            (&[Input(1), Output(1), Add(0, 1)], num(4)),
-            (
-                &[Input(2), Output(2), Local(2), Add(0, 1), Add(3, 2)],
-                num(300),
-            ),
-            (&[PreOutput(1), PreLocal(1), Lt(1, 0)], TRUE),
-            (&[PreInput(2), Input(2), Neg(1), Eq(0, 2)], TRUE),
-            (&[Local(1), Int(0), Ne(0, 1)], FALSE),
-            (&[Input(1), Int(7), Le(0, 1)], TRUE),
-            (&[Output(1), Local(1), Ge(0, 1)], FALSE),
-            (&[PreInput(0), Flag(false), Eq(0, 1)], TRUE),
-        ],
-    )
+    check(&rt, rt.alloc(), VARIABLES, 10)
 }
 
-// Expressions in the order in which they are put, each with its number, and how many there are then.
-const NUMBERED: [(ExpNode, u32, usize); 9] = [
-    (Output(1), 0, 1),
-    (Int(3), 1, 2),
-    (Lt(0, 1), 2, 3),
-    (Output(1), 0, 3),
-    (Lt(0, 1), 2, 3),
-    (Lt(1, 0), 3, 4),
-    (PreOutput(1), 4, 5),
-    (Real(3), 5, 6),
-    (Int(3), 1, 6),
-];
+// Expressions in the order in which they are put, each with its number, and of how many it is one then.
+const NUMBERED: &str = "
+Output(1) ==> 0 of 1
+Int(3) ==> 1 of 2
+Lt(0, 1) ==> 2 of 3
+Output(1) ==> 0 of 3
+Lt(0, 1) ==> 2 of 3
+Lt(1, 0) ==> 3 of 4
+PreOutput(1) ==> 4 of 5
+Real(3) ==> 5 of 6
+Int(3) ==> 1 of 6
+";
 
 #[test]
 fn equal_expressions_have_one_number(rt: HostRuntime) -> Result<(), Fail> {
     let mut sheet = Sheet::new(rt.alloc())?;
-    for (node, number, len) in &NUMBERED {
-        let found = sheet.put(&rt, *node)?;
-        assert!(rt; found == *number && sheet.table.len() == *len, "{node:?}");
+    for row in rows(&rt, NUMBERED, 9) {
+        let (node, wanted) = halves(row)?;
+        let number = sheet.put(&rt, node_of(node)?)?;
+        let found = format!(in rt.alloc(); "{number} of {}", sheet.table.len())?;
+        assert_eq!(rt; found.as_str(), wanted, "{node}");
     }
     Ok(())
 }
@@ -280,23 +335,24 @@ fn known() -> Known<'static>
 }
 
 // Expressions in the order in which they are put, each with its value.
-const KNOWN: [(ExpNode, Result<Value, Arith>); 7] = [
-    (Input(1), Ok(Value::Num(7))),
-    (PreOutput(1), Ok(Value::Num(4))),
-    (Mul(0, 1), Ok(Value::Num(28))),
-    (Input(2), Ok(Value::Num(250))),
-    (PreLocal(2), Ok(Value::Num(-75))),
-    (Mul(3, 4), Ok(Value::Num(-188))),
-    (PreInput(0), NO_PREVIOUS),
-];
+const KNOWN: &str = "
+Input(1) ==> 7
+PreOutput(1) ==> 4
+Mul(0, 1) ==> 28
+Input(2) ==> 250
+PreLocal(2) ==> -75
+Mul(3, 4) ==> -188
+PreInput(0) ==> NoPrevious
+";
 
 #[test]
 fn known_values_need_no_outputs(rt: HostRuntime) -> Result<(), Fail> {
     let mut sheet = Sheet::new(rt.alloc())?;
-    for (node, wanted) in &KNOWN {
-        let number = sheet.put(&rt, *node)?;
+    for row in rows(&rt, KNOWN, 7) {
+        let (node, wanted) = halves(row)?;
+        let number = sheet.put(&rt, node_of(node)?)?;
         let value = known_value(&sheet.table, number, &known());
-        assert_eq!(rt; value, *wanted, "{node:?}");
+        assert_eq!(rt; value, answer_of(wanted)?, "{node}");
     }
     Ok(())
 }

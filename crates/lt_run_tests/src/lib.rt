@@ -22,4 +22,6 @@ mod plants;
 #[cfg(test)]
 mod replies;
 #[cfg(test)]
+mod rows;
+#[cfg(test)]
 mod traces;
