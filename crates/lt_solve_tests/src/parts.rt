@@ -1,6 +1,6 @@
 //! Parts of constraints, and what a load says of their atoms. What is expected was worked out by hand from the rules.
 
-ghost use Rattle.std.specs.Prelude.{◌<◌};
+ghost use Rattle.std.specs.Prelude.{◌<◌, ◌≤◌};
 ghost use Rattle.lt_formula.specs.View.{table_len};
 
 use crate::rows::{Judge, check, halves};
@@ -116,36 +116,44 @@ pre_i in j + pre_i > j + 1 div 0 ==> NoPrevious";
 
 // Each row of a table has an atom in a constraint. The answer is what a load says of it, or the fault that the load
 // meets.
-struct Told;
+struct Loads;
 
-impl Judge for Told {
+impl Judge for Loads {
     fn answer(&self, rt: &impl Abort, alloc: Global, given: &str) -> Result<String, Fail> {
         let (atom, constraint) = halves(rt, given, " in ");
         let mut sheet = Sheet::new(alloc)?;
         let constraint = sheet.read(rt, alloc, constraint)?;
         let atom = sheet.read(rt, alloc, atom)?;
-        let table = &sheet.table;
-        assert!(rt; (constraint as usize) < table.len());
+        assert!(rt; (constraint as usize) < sheet.table.len());
         assert!(rt; atom <= constraint, "it is no part: {given}");
-        let mut space = Space::make(alloc, table, 1)?;
-        match space.load(table, &[constraint], &known()) {
-            Ok(()) => Ok(shown_atom(alloc, space.atom(atom))?),
-            Err(fault) => Ok(format!(in alloc; "{fault:?}")?),
-        }
+        told(alloc, &sheet, constraint, atom)
     }
+}
+
+// What a load of a constraint says of an atom, or the fault that it meets.
+fn told(alloc: Global, sheet: &Sheet, constraint: u32, atom: u32) -> Result<String, Fail>
+    requires constraint { constraint < table_len sheet.now.table }
+    requires atom { atom ≤ constraint }
+{
+    let mut space = Space::make(alloc, &sheet.table, 1)?;
+    let text = match space.load(&sheet.table, &[constraint], &known()) {
+        Ok(()) => shown_atom(alloc, space.atom(atom)),
+        Err(fault) => format!(in alloc; "{fault:?}"),
+    };
+    Ok(text?)
 }
 
 #[test]
 fn each_atom_is_what_it_is_in_the_instant(rt: HostRuntime) -> Result<(), Fail> {
-    check(&rt, rt.alloc(), &Told, ATOMS, 3)
+    check(&rt, rt.alloc(), &Loads, ATOMS, 3)
 }
 
 #[test]
 fn what_a_known_part_settles_is_skipped(rt: HostRuntime) -> Result<(), Fail> {
-    check(&rt, rt.alloc(), &Told, SKIPPED, 8)
+    check(&rt, rt.alloc(), &Loads, SKIPPED, 8)
 }
 
 #[test]
 fn the_left_side_of_greater_is_evaluated_first(rt: HostRuntime) -> Result<(), Fail> {
-    check(&rt, rt.alloc(), &Told, FAULTS_OF_GREATER, 2)
+    check(&rt, rt.alloc(), &Loads, FAULTS_OF_GREATER, 2)
 }
