@@ -25,9 +25,10 @@ impl Sheet {
     /// Puts the expressions of a text, which are apart by `, `, and answers the number of the last.
     ///
     /// Between all words of an expression, parentheses too, are blanks, as in `not ( j <> 3 ) and b`. The words are those
-    /// of scenarios, but for `neg`, the minus before a part, and names such as `pre_b`, what `b` was before. Booleans are
-    /// `a`, an input, `b`, an output, and `c`, a local; ints are `i`, `j` and `k`, and reals `x`, `y` and `z`, in this
-    /// order. A real number stands in units of its last decimal: `90u` is 0.90.
+    /// of scenarios, but for `neg`, the minus before a part, and `pre_a`, `pre_b`, `pre_i` and `pre_y`, what a variable was
+    /// before. Of Booleans `a` is an input, `b` an output and `c` a local; of ints `i` is an input, `j` an output and `k` a
+    /// local; and of reals `y` is an output and `z` a local. A real number stands in units of its last decimal: `90u` is
+    /// 0.90.
     pub(crate) fn read(&mut self, rt: &impl Abort, alloc: Global, text: &str) -> Result<u32, Fail>
         ensures { IfOk result (λ number. number < table_len self.new.table) }
     {
