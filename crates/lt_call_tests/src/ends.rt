@@ -107,7 +107,7 @@ f is node n() returns (b: bool) = loop [1,1] { loop false }
 fn exceptions_that_nothing_catches_end_runs(rt: HostRuntime) -> Result<(), Fail> {
     check_rows(
         &rt,
-        3,
+        4,
         r#"
 $ run f
 > #seed 0\n#inputs "x":int\n#outputs
@@ -116,6 +116,11 @@ $ run f
 f is exception Alarm node n() returns (x: int [0;3]) = { &> loop x = 1 &> raise Alarm }
 > #end raise Alarm 1
 = 5 lurette: raise Alarm 1
+
+-- Of two at once the one that is written first counts.
+f is exception A, B node n() returns (x: int [0;3]) = { &> raise B &> raise A }
+> #end raise B 1
+= 5 lurette: raise B 1
 
 -- The first that is raised isn't the first that is declared, and another one is caught.
 f is exception A, B, C node n() returns (x: int [0;3]) = catch B in { x = 1 fby { &> try raise C do x = 2 &> x = 3 } fby raise A }
@@ -133,7 +138,7 @@ f is exception A, B node n() returns (x: int [0;3]) = catch A in { x = 1 fby rai
 fn arithmetic_faults_end_runs(rt: HostRuntime) -> Result<(), Fail> {
     check_rows(
         &rt,
-        4,
+        5,
         r#"
 $ run f
 > #seed 0\n#inputs "x":int\n#outputs
@@ -146,6 +151,11 @@ f is node n() returns (x: int [0;3]) = x = pre x
 f is node n() returns (x: int [0;3]) = x = 1 div 0
 > #end fault DivisionByZero 1
 = 6 lurette: fault DivisionByZero 1
+
+-- What is asserted is worked out before what it holds over.
+f is node n() returns (x: int [0;3]) = assert x = pre x in x = 1 div 0
+> #end fault NoPrevious 1
+= 6 lurette: fault NoPrevious 1
 
 f is node n() returns (x: int [0;3]) = { |0 - 1: x = 1 |1: x = 2 }
 > #end fault NegativeWeight 1
@@ -182,6 +192,35 @@ fn an_instant_that_offers_too_much_ends_a_run(rt: HostRuntime) -> Result<(), Fai
     check_sixty_choices(&rt, "", "b")?;
     // What the last side may raise is counted once, however many sides stand before it.
     check_sixty_choices(&rt, "exception stop ", "raise stop")
+}
+
+// A choice of two traces and of these alternatives. Each of the two has fourteen choices of two side by side: once such
+// a choice has 3 leaves and choices, and each further one doubles them and adds one, so fourteen have 32,767.
+fn check_two_halves(
+    rt: &(impl Abort + AllocGlobal),
+    others: &str,
+    outcome: &str,
+) -> Result<(), Fail> {
+    let half = " &> { |1: b |1: b }".repeat(rt.alloc(), 14)?;
+    let row = format!(in rt.alloc();
+        r#"
+$ run f
+f is node n() returns (b: bool) = {{ | {{{half} }} | {{{half} }}{others} }}
+> #seed 0\n#inputs "b":bool\n#outputs
+{outcome}
+"#
+    )?;
+    check_rows(rt, 1, "", &row)
+}
+
+#[test]
+fn an_instant_may_offer_65536_leaves_and_choices(rt: HostRuntime) -> Result<(), Fail> {
+    check_two_halves(&rt, " | b", r"> #step 1\nt #outs\n#end normal 1")?;
+    check_two_halves(
+        &rt,
+        " | b | b",
+        "> #end toolarge 1\n= 14 lurette: toolarge 1",
+    )
 }
 
 #[test]
