@@ -31,19 +31,3 @@ fn a_row_that_no_point_satisfies_is_found(rt: HostRuntime) -> Result<(), Fail> {
     assert_eq!(rt; tighten(&mut ranges, &rows), Tight::Empty);
     Ok(())
 }
-
-#[test]
-fn ranges_are_tightened_in_eight_passes(rt: HostRuntime) -> Result<(), Fail> {
-    // x + 1 - y <= 0 and y - x <= 0, which no point satisfies: each pass takes one number from each end.
-    let rows = Rows {
-        width: 3,
-        cells: vec![in rt.alloc(); 1, -1, 1, -1, 1, 0]?,
-    };
-    let mut ranges = [Range { low: 0, high: 99 }, Range { low: 0, high: 99 }];
-    assert_eq!(rt; tighten(&mut ranges, &rows), Tight::Narrowed);
-    assert_eq!(rt;
-        ranges,
-        [Range { low: 8, high: 91 }, Range { low: 8, high: 91 }]
-    );
-    Ok(())
-}
