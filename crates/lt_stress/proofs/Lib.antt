@@ -1,3 +1,5 @@
+-- what was read of a text counts in the sum of its numbers
+pub mod Sums
 -- the lines of a text with one byte more
 pub mod Lines
 -- where a plant stands with one byte more, and what fits it

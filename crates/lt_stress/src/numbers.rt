@@ -1,11 +1,12 @@
 //! The numbers in a line.
 
-ghost use Rattle.std.specs.Prelude.{◌≡◌, IfSome};
+ghost use Rattle.std.specs.Prelude.{◌≡◌, ◌≤◌, ◌^◌, None, IfSome};
 ghost use Rattle.lt_stress.specs.Plant.{sum_in};
 
-/// The sum of the numbers in a line. None where the sum, or one of them, is past 64 bits.
+/// The sum of the numbers in a line. None where it is past 64 bits.
 pub fn sum_in(line: &[u8]) -> Option<u64>
-    ensures { IfSome result (λ sum. sum ≡ sum_in line.now) }
+    ensures sum { IfSome result (λ sum. sum ≡ sum_in line.now) }
+    ensures past { result ≡ None → 2 ^ 64 ≤ sum_in line.now }
 {
     let mut sum: u64 = 0;
     let mut number: u64 = 0;
