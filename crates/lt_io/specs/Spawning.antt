@@ -2,7 +2,8 @@
 use Rattle.std.specs.Prelude.{◌≡◌, ℕ, ◌+◌, ◌-◌, ◌^◌, min, List, [], ◌∷◌, ◌++◌, None, Some}
 use Rattle.std.specs.declared.option.Option.{Option}
 
--- what a finished link leaves behind: the bytes that it was sent, where they are told, and how often it failed
+-- what a finished link leaves behind: the bytes that it was sent, where they are told, and how often it failed, a count
+-- which stays at the greatest number of 64 bits
 pub record Closed : Type 0 where
   pub sent : Option (List ℕ)
   pub faults : ℕ

@@ -52,7 +52,8 @@ abbrev pub IsFaulty : Who → Option Who → ℕ → Type 0
 IsFaulty w fault count = MatchBool (is_fault_of w fault) (0 < count) (count ≡ 0)
 
 -- However a run ended that was driven, the trace and the two sides got what is for them of the same pieces, which are those
--- of what was received: of each side, where it is told what comes of it, the first of that.
+-- of what was received: of each side, where it is told what comes of it, the first of that, and all of it where its end was
+-- received. A side's link has faults exactly where it was this side that failed.
 abbrev pub SidesGetTheirPieces : Type 0 → Type 0
 SidesGetTheirPieces State =
     (k : Course) (controller oracle : Origin) (old new : Outside) (core : Standing State) (how : Driven) → IsPlayed k controller oracle old new core (played.Driven how) →

@@ -10,14 +10,14 @@ Gives nobody programs bytes = bytes ≡ []
 Gives (recorded given) programs bytes = bytes ≡ given
 Gives (program command) programs bytes = (others : List (List ℕ)) × (programs.coming command ≡ Some (bytes ∷ others))
 
--- the controller's program and the oracle's are started by commands that differ
+-- one command doesn't start both sides: where both are programs, their commands differ
 abbrev pub AreApart : Origin → Origin → Type 0
 AreApart (program c) (program o) = c ≢ o
 AreApart _ _ = Unit {0}
 
 -- What comes of the oracle, where the controller is opened before it, is told to be these bytes. A row a way.
 pub data GivesBeside (controller oracle : Origin) (programs : Programs) (bytes : List ℕ) : Type 0 where
-  -- they are no two programs of one command
+  -- one command doesn't start both: what comes of the oracle is told by its origin alone
   apart : AreApart controller oracle → Gives oracle programs bytes → GivesBeside controller oracle programs bytes
   -- one command starts both: the oracle's program is the second that it starts
   second : (command first : List ℕ) (others : List (List ℕ)) → controller ≡ program command → oracle ≡ program command →

@@ -7,7 +7,8 @@ use lt_drive::undisturbed_runs_are_whole;
 use lt_loop::Machine;
 
 /// However a run ended that was driven, the trace and the two sides got what is for them of the same pieces: those of its
-/// play, up to what cut it short.
+/// play, up to what cut it short. What was received of a side is the first of what comes of it, where that is told, and all
+/// of it where its end was received; a side's link has faults exactly where it was this side that failed.
 pub fn sides_get_their_pieces<M: Machine>()
     ensures { SidesGetTheirPieces M.State }
 {}

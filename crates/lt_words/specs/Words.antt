@@ -130,16 +130,16 @@ abbrev pub requested : List Text → Result Request UsageKind
 requested words = if is_empty (fault_of command words) then asked_by (matches_of command words) else Err usage.Words
 
 -- clap promises to take these words: they name what the command has, each once at most, with a value of its own where it wants
--- one, and what has to be there is there
+-- one, which is within its bounds; what has to be there is there, and no help is asked for
 abbrev pub IsPromised : List Text → Type 0
 IsPromised words = takes command words ≡ true
 
--- of what is wrong with words: not that they have another form
+-- of what is wrong with words: not that they have another form, or ask for help
 abbrev pub IsOfMeaning : UsageKind → Type 0
 IsOfMeaning usage.Words = ⊥
 IsOfMeaning _ = Unit {0}
 
--- the words aren't refused for their form
+-- the words aren't refused for their form, or as asking for help
 abbrev pub HaveForm : WordsRefusal → Type 0
 HaveForm (refusal.Usage kind) = IsOfMeaning kind
 HaveForm refusal.Memory = Unit {0}
