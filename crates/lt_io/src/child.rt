@@ -102,6 +102,23 @@ fn command_of(alloc: Global, command: &str) -> Result<Command, StartRefusal> {
 }
 
 // Starts a program by its command.
+fn launched<R: Processes<Started = SystemProcess>>(
+    rt: &R,
+    alloc: Global,
+    command: &str,
+) -> Result<process::Child, StartRefusal> {
+    let mut command = command_of(alloc, command)?;
+    command.spawn(rt).map_err(|error| refusal_of(&error))
+}
+
+// The pipes of a program that has just been started.
+fn pipes_of(process: &mut process::Child, room: Vec<u8>) -> Option<Pipes> {
+    let input = process.stdin.take()?;
+    let output = process.stdout.take()?;
+    Pipes::new(input, output, room).ok()
+}
+
+// Starts a program by its command, and takes its pipes. One whose pipes can't be had is waited for.
 fn started<R: Processes<Started = SystemProcess>>(
     rt: &R,
     alloc: Global,
@@ -109,13 +126,9 @@ fn started<R: Processes<Started = SystemProcess>>(
 ) -> Result<Child, StartRefusal>
     ensures { IfOk result (λ child. child.faults ≡ 0) }
 {
-    let mut command = command_of(alloc, command)?;
     let room = Pipes::room(alloc).map_err(|_| StartRefusal::Memory)?;
-    let mut process = command.spawn(rt).map_err(|error| refusal_of(&error))?;
-    if let Some(input) = process.stdin.take()
-        && let Some(output) = process.stdout.take()
-        && let Ok(pipes) = Pipes::new(input, output, room)
-    {
+    let mut process = launched(rt, alloc, command)?;
+    if let Some(pipes) = pipes_of(&mut process, room) {
         return Ok(Child {
             process,
             pipes,
