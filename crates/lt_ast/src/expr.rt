@@ -8,7 +8,7 @@ use crate::span::Span;
 use crate::trace::Braced;
 
 /// An operator with one operand.
-#[derive(Clone, Copy, Debug, PartialEq, Eq)]
+#[derive(Clone, Copy, PartialEq, Eq)]
 pub enum UnOp {
     /// `-`.
     Neg,
@@ -84,7 +84,7 @@ pub enum BinOp {
 }
 
 /// What an operator with two operands is about.
-#[derive(Clone, Copy, Debug, PartialEq, Eq)]
+#[derive(Clone, Copy, PartialEq, Eq)]
 pub enum OperatorClass {
     /// `and`, `or`, `xor`, `=>`: Booleans, and what follows from them.
     Connective,

@@ -7,7 +7,7 @@ use crate::name::{Literal, Names};
 use crate::sign::Sign;
 
 /// The name of a type.
-#[derive(Clone, Copy, Debug, PartialEq, Eq)]
+#[derive(Clone, Copy, PartialEq, Eq)]
 pub enum TypeName {
     /// `bool`.
     Bool,

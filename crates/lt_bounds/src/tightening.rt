@@ -23,7 +23,7 @@ pub enum Tight {
 }
 
 // What a pass, or one row of it, did.
-#[derive(Clone, Copy, Debug, PartialEq, Eq)]
+#[derive(Clone, Copy, PartialEq, Eq)]
 enum Passed {
     // A range would be without a number.
     Empty,

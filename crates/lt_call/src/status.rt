@@ -8,7 +8,7 @@ use lt_rif::{End, Who};
 use lt_words::UsageKind;
 
 /// How a call of the program ended, with all that its line on standard error says.
-#[derive(Clone, Copy, Debug, PartialEq, Eq)]
+#[derive(Clone, Copy, PartialEq, Eq)]
 pub enum Status {
     /// What was asked for was written whole.
     Done,
@@ -38,7 +38,7 @@ pub enum Status {
 }
 
 /// How a run ended.
-#[derive(Clone, Copy, Debug, PartialEq, Eq)]
+#[derive(Clone, Copy, PartialEq, Eq)]
 pub struct Ending {
     /// Why.
     pub end: End,
@@ -49,7 +49,7 @@ pub struct Ending {
 }
 
 /// Why what was asked for is refused.
-#[derive(Clone, Copy, Debug, PartialEq, Eq)]
+#[derive(Clone, Copy, PartialEq, Eq)]
 pub enum Refusal {
     /// A file is longer than [`LONGEST_TEXT`](lt_words::LONGEST_TEXT), or an earlier trace than
     /// [`LONGEST_REPLAY`](lt_words::LONGEST_REPLAY).
@@ -63,7 +63,7 @@ pub enum Refusal {
 }
 
 /// What failed outside.
-#[derive(Clone, Copy, Debug, PartialEq, Eq)]
+#[derive(Clone, Copy, PartialEq, Eq)]
 pub enum Device {
     /// A file.
     File,

@@ -11,7 +11,7 @@ use crate::valuation::{Valuation, value_under};
 use lt_num::{Arith, Value};
 
 /// What is known in an instant before its outputs and locals are drawn.
-#[derive(Clone, Copy, Debug)]
+#[derive(Clone, Copy)]
 pub struct Known<'a> {
     /// The values of the inputs.
     pub inputs: &'a [Value],

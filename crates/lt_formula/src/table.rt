@@ -20,7 +20,7 @@ use lt_num::Kind;
 use std::alloc::Global;
 
 /// Expressions by number, from 0, each of them once. The parts of an expression have smaller numbers than it.
-#[derive(Debug, Drop)]
+#[derive(Drop)]
 pub struct Table {
     nodes: IndexMap<ExpNode, Facts>,
     inputs: Vec<Kind>,

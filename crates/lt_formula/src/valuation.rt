@@ -14,7 +14,7 @@ use crate::values::{binary_value, constant_value, settled, unary_value};
 use lt_num::{Arith, Value};
 
 /// The values of variables in an instant and in the one before.
-#[derive(Clone, Copy, Debug)]
+#[derive(Clone, Copy)]
 pub struct Valuation<'a> {
     /// The inputs.
     pub inputs: &'a [Value],

@@ -6,7 +6,7 @@ ghost use Rattle.lt_loop.specs.Play.{destination_of};
 use lt_rif::End;
 
 /// Where a piece goes.
-#[derive(Clone, Copy, Debug, PartialEq, Eq)]
+#[derive(Clone, Copy, PartialEq, Eq)]
 pub enum Destination {
     /// To the controller.
     Controller,
@@ -19,7 +19,7 @@ pub enum Destination {
 }
 
 /// What a piece is, of all that a core puts out.
-#[derive(Clone, Copy, Debug, PartialEq, Eq)]
+#[derive(Clone, Copy, PartialEq, Eq)]
 pub enum PieceKind {
     /// The header of the trace.
     Header,
@@ -76,7 +76,7 @@ pub enum Event<'a> {
 }
 
 /// What a core waits for.
-#[derive(Clone, Copy, Debug, PartialEq, Eq)]
+#[derive(Clone, Copy, PartialEq, Eq)]
 pub enum Wants {
     /// A turn: it can go on with what it holds.
     Turn,
@@ -95,7 +95,7 @@ pub enum Wants {
 }
 
 /// What a core answers to an event.
-#[derive(Clone, Copy, Debug, PartialEq, Eq)]
+#[derive(Clone, Copy, PartialEq, Eq)]
 pub struct Emits {
     /// How many bytes of the event's piece were taken, from its front.
     pub taken: usize,

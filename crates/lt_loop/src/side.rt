@@ -15,7 +15,7 @@ use std::alloc::{AllocError, Global};
 pub const MOST_KEPT: usize = 65_536;
 
 /// What a read of a side's reply finds.
-#[derive(Clone, Copy, Debug, PartialEq, Eq)]
+#[derive(Clone, Copy, PartialEq, Eq)]
 pub enum Read {
     /// The reply is whole.
     Whole,

@@ -6,7 +6,7 @@ ghost use Rattle.lt_loop.specs.Scene.{first_value, is_sound, may_hold, nearest_z
 use lt_num::{Kind, Range, Value};
 
 /// A variable of a scenario, as a core knows it.
-#[derive(Debug, Drop)]
+#[derive(Drop)]
 pub struct Var {
     /// Its name in the text.
     pub name: String,

@@ -3,7 +3,7 @@
 use lt_space::Formula;
 
 /// A conjunct of a constraint.
-#[derive(Debug, Drop)]
+#[derive(Drop)]
 pub struct Part {
     /// The conjunct, with `Flag(i)` for the atom at place i. For `a <> b` the flag stands for what `a = b` says, and is
     /// denied.

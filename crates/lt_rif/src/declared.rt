@@ -3,7 +3,7 @@
 use lt_num::Kind;
 
 /// A variable as a header declares it.
-#[derive(Debug, Drop)]
+#[derive(Drop)]
 pub struct Declared {
     /// Its name.
     pub name: String,

@@ -15,7 +15,7 @@ use std::mem;
 pub const LONGEST: usize = 65_536;
 
 /// What a word is to a reply.
-#[derive(Clone, Copy, Debug, PartialEq, Eq)]
+#[derive(Clone, Copy, PartialEq, Eq)]
 pub enum Look {
     /// It is passed. A comment goes on behind it or not.
     Pass { is_comment: bool },
@@ -28,7 +28,7 @@ pub enum Look {
 }
 
 /// What a word makes of a reply.
-#[derive(Clone, Copy, Debug, PartialEq, Eq)]
+#[derive(Clone, Copy, PartialEq, Eq)]
 pub enum Effect {
     /// It goes on.
     More,

@@ -76,7 +76,7 @@ fn real_of(word: &[u8], decimals: u32) -> Result<i64, ValueFault>
 }
 
 /// A whole number of which the point moves: to the right by so many places, and to the left by so many.
-#[derive(Clone, Copy, Debug, PartialEq, Eq)]
+#[derive(Clone, Copy, PartialEq, Eq)]
 pub struct Scaled {
     pub size: u128,
     pub right: u32,

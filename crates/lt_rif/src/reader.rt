@@ -14,7 +14,7 @@ use lt_num::Value;
 use std::alloc::{AllocError, Global};
 
 /// What a reader makes of a piece of its stream.
-#[derive(Clone, Copy, Debug, PartialEq, Eq)]
+#[derive(Clone, Copy, PartialEq, Eq)]
 pub enum Fed {
     /// So many bytes of the piece end a reply, and the next piece begins another.
     Whole(usize),
@@ -27,7 +27,7 @@ pub enum Fed {
 }
 
 /// What the end of its stream makes of the reply at hand.
-#[derive(Clone, Copy, Debug, PartialEq, Eq)]
+#[derive(Clone, Copy, PartialEq, Eq)]
 pub enum Closing {
     /// It is whole.
     Whole,
@@ -40,7 +40,7 @@ pub enum Closing {
 }
 
 /// Why and where a reply is refused.
-#[derive(Clone, Copy, Debug, PartialEq, Eq)]
+#[derive(Clone, Copy, PartialEq, Eq)]
 pub struct Refusal {
     /// What is wrong.
     pub fault: ValueFault,

@@ -3,7 +3,7 @@
 use lt_num::{Kind, Range};
 
 /// A place for one value of a reply.
-#[derive(Clone, Copy, Debug, PartialEq, Eq)]
+#[derive(Clone, Copy, PartialEq, Eq)]
 pub struct Slot {
     /// The kind of its value.
     pub kind: Kind,

@@ -6,7 +6,7 @@ ghost use Rattle.lt_rif.specs.Word.{is_blank, class_of};
 ghost use Rattle.lt_rif.specs.inner.Chunk.{IsChunk};
 
 /// What a word is that stands outside comments.
-#[derive(Clone, Copy, Debug, PartialEq, Eq)]
+#[derive(Clone, Copy, PartialEq, Eq)]
 pub enum WordClass {
     /// No value: nothing at all, or the word `#outs`.
     Passed,

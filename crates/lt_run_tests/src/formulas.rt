@@ -52,7 +52,7 @@ impl Sheet {
     fn put_new(&mut self, rt: &impl Abort, node: ExpNode) -> Result<u32, Fail> {
         let before = self.table.len();
         let number = self.put(rt, node)?;
-        assert_eq!(rt; number as usize, before, "{node:?} is new");
+        assert_eq!(rt; number as usize, before);
         Ok(number)
     }
 }

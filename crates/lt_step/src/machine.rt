@@ -14,7 +14,7 @@ use lt_term::{Memory, Scenario, Var, body_is_valid, turns_grow_by_one};
 use std::alloc::Global;
 
 /// What a step of a machine answers.
-#[derive(Clone, Copy, Debug, PartialEq, Eq)]
+#[derive(Clone, Copy, PartialEq, Eq)]
 pub enum Outcome {
     /// The outputs have values for this instant, and so have the locals in scope.
     Values,

@@ -27,7 +27,7 @@ pub enum Mode {
 }
 
 /// What the words of a call ask for.
-#[derive(Clone, Copy, Debug)]
+#[derive(Clone, Copy)]
 pub struct Request<'a> {
     /// What is done.
     pub mode: Mode,
