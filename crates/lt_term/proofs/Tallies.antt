@@ -212,11 +212,17 @@ pub turn_tally : (whole a : Process ℕ) (k body : Tally) → ((w : Weights) →
 turn_tally whole a k body e ha h w =
     h w ∙ plus_alike w.other w.other _ _ refl (plus_alike _ _ w.vanish w.vanish (ha (record w { vanish = w.other })) refl) ∙ sym (ap capped (e w))
 
+-- two parts, and a choice above them
+pub either_tally : (a b : Process ℕ) (k below first second : Tally) → IsTally a first → IsTally b second
+    → ((w : Weights) → IsAlike (tally_weight w below) (tally_weight w first + tally_weight w second)) → ((w : Weights) → IsAlike (tally_weight w k) (w.other + tally_weight w below))
+    → (w : Weights) → IsAlike (tally_weight w k) (w.other + (weight_of w a + weight_of w b))
+either_tally a b k below first second ha hb h g w =
+    g w ∙ plus_alike w.other w.other _ _ refl (h w ∙ plus_alike _ _ _ _ (ha w) (hb w))
+
 -- a priority, or a part that has another one for where nothing can be done
-pub order_tally : (whole a b : Process ℕ) (k below first second : Tally) → ((w : Weights) → weight_of w whole ≡ w.other + (weight_of w a + weight_of w b)) → IsTally a first → IsTally b second
-    → ((w : Weights) → IsAlike (tally_weight w below) (tally_weight w first + tally_weight w second)) → ((w : Weights) → IsAlike (tally_weight w k) (w.other + tally_weight w below)) → IsTally whole k
-order_tally whole a b k below first second e ha hb h g w =
-    g w ∙ plus_alike w.other w.other _ _ refl (h w ∙ plus_alike _ _ _ _ (ha w) (hb w)) ∙ sym (ap capped (e w))
+pub order_tally : (r : Result Tally AllocError) (whole a b : Process ℕ) → ((w : Weights) → weight_of w whole ≡ w.other + (weight_of w a + weight_of w b))
+    → IfOk r (λ k. (w : Weights) → IsAlike (tally_weight w k) (w.other + (weight_of w a + weight_of w b))) → IfOk r (λ k. (w : Weights) → IsAlike (tally_weight w k) (weight_of w whole))
+order_tally r whole a b e h = refined r (λ w. w.other + (weight_of w a + weight_of w b)) (λ w. weight_of w whole) (λ w. sym (ap capped (e w))) h
 
 -- what parts of a choice weigh, one by one
 each_weight : (w : Weights) (parts : List (ℕ × Term)) → weight_of_each w (choices parts) ≡ sum_by (λ p. weight_of w (process p.1)) parts

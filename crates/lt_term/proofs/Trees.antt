@@ -94,17 +94,17 @@ on_ok : {T E A B : Type 0} (r : Result T E) → (A → B) → OnOk r A → OnOk 
 on_ok (Ok x) f h = f h
 on_ok (Err e) f h = tt
 
-pub loop_put : {T E : Type 0} (kinds : List Kind) (r : Result T E) (whole again t : Process ℕ) (old before behind new ns : List (Node ℕ (Process ℕ))) → whole ≡ loop t → again ≡ loop t → ns ≡ flattened (offers_of kinds t) → before ≡ old ++ ordered_node ∷ []
-    → behind ≡ before ++ flat_map (replaced (in_turn again)) ns → OnOk r (new ≡ behind ++ leaf_node vanish ∷ []) → OnOk r (new ≡ old ++ flattened (offers_of kinds whole))
-loop_put kinds r whole again t old before behind new ns w a n b e = on_ok r (λ l.
-    let middle : behind ≡ before ++ flattened (with_leaves (in_turn (loop t)) (offers_of kinds t)) = leaves_put (in_turn (loop t)) (offers_of kinds t) before behind ns n (e ∙ ap (λ u. before ++ flat_map (replaced (in_turn u)) ns) a) in
-    rw w (rw (l, middle, b) (simp append_assoc)))
+pub loop_put : {T E : Type 0} (kinds : List Kind) (r : Result T E) (whole t : Process ℕ) (old new ns : List (Node ℕ (Process ℕ))) → whole ≡ loop t → ns ≡ flattened (offers_of kinds t)
+    → OnOk r (new ≡ old ++ ordered_node ∷ (flat_map (replaced (in_turn (loop t))) ns ++ leaf_node vanish ∷ [])) → OnOk r (new ≡ old ++ flattened (offers_of kinds whole))
+loop_put kinds r whole t old new ns w n = on_ok r (λ l.
+    l ∙ ap (λ ms. old ++ ordered_node ∷ (ms ++ leaf_node vanish ∷ [])) (ap (flat_map (replaced (in_turn (loop t)))) n ∙ sym (flattened-with_leaves (in_turn (loop t)) (offers_of kinds t)))
+    ∙ ap (λ u. old ++ flattened (offers_of kinds u)) (sym w))
 
-pub count_put : {T E : Type 0} (kinds : List Kind) (r : Result T E) (whole again t : Process ℕ) (i done : ℕ) (old before behind new ns : List (Node ℕ (Process ℕ))) → whole ≡ count i done t → again ≡ count i (suc done) t → ns ≡ flattened (offers_of kinds t)
-    → before ≡ old ++ weighted_node [] (more i done ∷ stop i done ∷ []) ∷ [] → behind ≡ before ++ flat_map (replaced (in_turn again)) ns → OnOk r (new ≡ behind ++ leaf_node vanish ∷ []) → OnOk r (new ≡ old ++ flattened (offers_of kinds whole))
-count_put kinds r whole again t i done old before behind new ns w a n b e = on_ok r (λ l.
-    let middle : behind ≡ before ++ flattened (with_leaves (in_turn (count i (suc done) t)) (offers_of kinds t)) = leaves_put (in_turn (count i (suc done) t)) (offers_of kinds t) before behind ns n (e ∙ ap (λ u. before ++ flat_map (replaced (in_turn u)) ns) a) in
-    rw w (rw (l, middle, b) (simp append_assoc)))
+pub count_put : {T E : Type 0} (kinds : List Kind) (r : Result T E) (whole t : Process ℕ) (i done : ℕ) (old new ns : List (Node ℕ (Process ℕ))) → whole ≡ count i done t → ns ≡ flattened (offers_of kinds t)
+    → OnOk r (new ≡ old ++ weighted_node [] (more i done ∷ stop i done ∷ []) ∷ (flat_map (replaced (in_turn (count i (suc done) t))) ns ++ leaf_node vanish ∷ [])) → OnOk r (new ≡ old ++ flattened (offers_of kinds whole))
+count_put kinds r whole t i done old new ns w n = on_ok r (λ l.
+    l ∙ ap (λ ms. old ++ weighted_node [] (more i done ∷ stop i done ∷ []) ∷ (ms ++ leaf_node vanish ∷ [])) (ap (flat_map (replaced (in_turn (count i (suc done) t)))) n ∙ sym (flattened-with_leaves (in_turn (count i (suc done) t)) (offers_of kinds t)))
+    ∙ ap (λ u. old ++ flattened (offers_of kinds u)) (sym w))
 
 -- an instant of the first side, among those that were put out
 pub par_go : (kinds : List Kind) (b n : Process ℕ) (cs : List ℕ) (ls : Lasts) (x : TreeNode) (xs : List TreeNode) (old before new ns : List (Node ℕ (Process ℕ))) → tree_node x ≡ leaf_node (go cs ls n) → ns ≡ flattened (offers_of kinds b)

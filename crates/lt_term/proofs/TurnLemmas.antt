@@ -1,5 +1,5 @@
 -- Counted loops turn at most once in an instant.
-use Rattle.std.proofs.Common.{◌≤◌, ℕ, suc, Bool, true, false, nat_eq, if◌then◌else◌, List, [], ◌∷◌, ◌++◌, All, arith}
+use Rattle.std.proofs.Common.{◌≤◌, ℕ, suc, Bool, true, false, nat_eq, if◌then◌else◌, List, [], ◌++◌, All, arith}
 use Rattle.std.proofs.lemmas.List.Elements.{All-append, All-cons, All-nil}
 use Rattle.lt_num.specs.declared.kind.Kind.{Kind}
 use Rattle.lt_num.specs.declared.value.Value.{Value}

@@ -12,6 +12,7 @@ ghost use Rattle.lt_term.specs.inner.Renewed.{choices_of, first_of, part_of, sec
 
 use crate::last::Last;
 use crate::memory::Memory;
+use crate::next::shared;
 use crate::term::Term;
 use lt_num::Value;
 use std::alloc::{AllocError, Global};
@@ -57,14 +58,10 @@ fn go_on(alloc: Global, term: &Term, values: &[(u32, Value)]) -> Result<Option<T
 {
     match term {
         Term::Eps | Term::Dead | Term::Con(_) | Term::Raise(_) => Ok(None),
-        Term::Seq(first, second) => {
-            let new_first = go_on_part(alloc, first, values)?;
-            let new_second = go_on_part(alloc, second, values)?;
-            match both_of(first, new_first, second, new_second)? {
-                None => Ok(None),
-                Some(both) => Ok(Some(Term::Seq(both.first, both.second))),
-            }
-        }
+        Term::Seq(first, second) => match go_on_both(alloc, first, second, values)? {
+            None => Ok(None),
+            Some(both) => Ok(Some(Term::Seq(both.first, both.second))),
+        },
         Term::Loop(body) => match go_on_part(alloc, body, values)? {
             None => Ok(None),
             Some(body) => Ok(Some(Term::Loop(body))),
@@ -85,22 +82,14 @@ fn go_on(alloc: Global, term: &Term, values: &[(u32, Value)]) -> Result<Option<T
             None => Ok(None),
             Some(parts) => Ok(Some(Term::Any(parts))),
         },
-        Term::Pri(first, second) => {
-            let new_first = go_on_part(alloc, first, values)?;
-            let new_second = go_on_part(alloc, second, values)?;
-            match both_of(first, new_first, second, new_second)? {
-                None => Ok(None),
-                Some(both) => Ok(Some(Term::Pri(both.first, both.second))),
-            }
-        }
-        Term::Par(first, second) => {
-            let new_first = go_on_part(alloc, first, values)?;
-            let new_second = go_on_part(alloc, second, values)?;
-            match both_of(first, new_first, second, new_second)? {
-                None => Ok(None),
-                Some(both) => Ok(Some(Term::Par(both.first, both.second))),
-            }
-        }
+        Term::Pri(first, second) => match go_on_both(alloc, first, second, values)? {
+            None => Ok(None),
+            Some(both) => Ok(Some(Term::Pri(both.first, both.second))),
+        },
+        Term::Par(first, second) => match go_on_both(alloc, first, second, values)? {
+            None => Ok(None),
+            Some(both) => Ok(Some(Term::Par(both.first, both.second))),
+        },
         Term::Assert(constraint, body) => match go_on_part(alloc, body, values)? {
             None => Ok(None),
             Some(body) => Ok(Some(Term::Assert(*constraint, body))),
@@ -120,29 +109,21 @@ fn go_on(alloc: Global, term: &Term, values: &[(u32, Value)]) -> Result<Option<T
             exception,
             body,
             otherwise,
-        } => {
-            let new_body = go_on_part(alloc, body, values)?;
-            let new_otherwise = go_on_part(alloc, otherwise, values)?;
-            match both_of(body, new_body, otherwise, new_otherwise)? {
-                None => Ok(None),
-                Some(both) => Ok(Some(Term::Catch {
-                    exception: *exception,
-                    body: both.first,
-                    otherwise: both.second,
-                })),
-            }
-        }
-        Term::Try { body, otherwise } => {
-            let new_body = go_on_part(alloc, body, values)?;
-            let new_otherwise = go_on_part(alloc, otherwise, values)?;
-            match both_of(body, new_body, otherwise, new_otherwise)? {
-                None => Ok(None),
-                Some(both) => Ok(Some(Term::Try {
-                    body: both.first,
-                    otherwise: both.second,
-                })),
-            }
-        }
+        } => match go_on_both(alloc, body, otherwise, values)? {
+            None => Ok(None),
+            Some(both) => Ok(Some(Term::Catch {
+                exception: *exception,
+                body: both.first,
+                otherwise: both.second,
+            })),
+        },
+        Term::Try { body, otherwise } => match go_on_both(alloc, body, otherwise, values)? {
+            None => Ok(None),
+            Some(both) => Ok(Some(Term::Try {
+                body: both.first,
+                otherwise: both.second,
+            })),
+        },
     }
 }
 
@@ -157,8 +138,24 @@ fn go_on_part(
 {
     match go_on(alloc, part, values)? {
         None => Ok(None),
-        Some(next) => Ok(Some(Rc::new(alloc, next)?)),
+        Some(next) => Ok(Some(shared(alloc, next)?)),
     }
+}
+
+// Two parts with the values, and nothing where no scope of them is entered.
+#[cycle(advance)]
+fn go_on_both(
+    alloc: Global,
+    first: &Rc<Term>,
+    second: &Rc<Term>,
+    values: &[(u32, Value)],
+) -> Result<Option<Both>, AllocError>
+    ensures first { IfOk result (λ b. process (first_of first.now.value b) ≡ advanced values.now (process first.now.value)) }
+    ensures second { IfOk result (λ b. process (second_of second.now.value b) ≡ advanced values.now (process second.now.value)) }
+{
+    let new_first = go_on_part(alloc, first, values)?;
+    let new_second = go_on_part(alloc, second, values)?;
+    both_of(first, new_first, second, new_second)
 }
 
 // Two parts, where at least one is new, and else nothing.

@@ -4,7 +4,7 @@ ghost use Rattle.std.specs.Prelude.{◌≤◌};
 ghost use Rattle.lt_formula.specs.Limits.{most_turns};
 
 /// How often a counted loop turns.
-#[derive(Clone, Copy, Debug)]
+#[derive(Clone, Copy)]
 pub struct Counter {
     /// The least number of turns.
     pub least: u64,

@@ -12,6 +12,13 @@ use lt_num::Value;
 use std::alloc::{AllocError, Global};
 use std::rc::Rc;
 
+/// A term as a part of others.
+pub(crate) fn shared(alloc: Global, term: Term) -> Result<Rc<Term>, AllocError>
+    ensures { IfOk result (λ t. t.value ≡ term) }
+{
+    Ok(Rc::new(alloc, term)?)
+}
+
 /// What is left of a first term, and then the second.
 pub(crate) fn sequence(
     alloc: Global,
@@ -23,7 +30,7 @@ pub(crate) fn sequence(
     let second = second.clone()?;
     match &*first {
         Term::Eps => Ok(second),
-        _ => Ok(Rc::new(alloc, Term::Seq(first, second))?),
+        _ => shared(alloc, Term::Seq(first, second)),
     }
 }
 
@@ -39,7 +46,7 @@ pub(crate) fn side_by_side(
     match (&*first, &*second) {
         (Term::Eps, _) => Ok(second),
         (_, Term::Eps) => Ok(first),
-        (_, _) => Ok(Rc::new(alloc, Term::Par(first, second))?),
+        (_, _) => shared(alloc, Term::Par(first, second)),
     }
 }
 
@@ -53,7 +60,7 @@ pub(crate) fn asserted(
 {
     match &*body {
         Term::Eps => Ok(body),
-        _ => Ok(Rc::new(alloc, Term::Assert(constraint, body))?),
+        _ => shared(alloc, Term::Assert(constraint, body)),
     }
 }
 
@@ -70,7 +77,7 @@ pub(crate) fn scoped(
     let last = kept_value(start, last);
     match &*body {
         Term::Eps => Ok(body),
-        _ => Ok(Rc::new(alloc, Term::Exist { local, last, body })?),
+        _ => shared(alloc, Term::Exist { local, last, body }),
     }
 }
 
@@ -93,16 +100,16 @@ pub(crate) fn caught(
 ) -> Result<Rc<Term>, AllocError>
     ensures { IfOk result (λ t. process t.value ≡ catching exception (process body.value) (process handler.now.value)) }
 {
-    let otherwise = handler.clone()?;
     match &*body {
         Term::Eps => Ok(body),
         _ => {
+            let otherwise = handler.clone()?;
             let caught = Term::Catch {
                 exception,
                 body,
                 otherwise,
             };
-            Ok(Rc::new(alloc, caught)?)
+            shared(alloc, caught)
         }
     }
 }
@@ -115,9 +122,11 @@ pub(crate) fn tried(
 ) -> Result<Rc<Term>, AllocError>
     ensures { IfOk result (λ t. process t.value ≡ trying (process body.value) (process otherwise.now.value)) }
 {
-    let otherwise = otherwise.clone()?;
     match &*body {
         Term::Eps => Ok(body),
-        _ => Ok(Rc::new(alloc, Term::Try { body, otherwise })?),
+        _ => {
+            let otherwise = otherwise.clone()?;
+            shared(alloc, Term::Try { body, otherwise })
+        }
     }
 }

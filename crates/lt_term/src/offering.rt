@@ -6,16 +6,16 @@ ghost use Rattle.lt_formula.specs.Expression.{Expression};
 ghost use Rattle.lt_term.specs.Counted.{IsCounted};
 ghost use Rattle.lt_formula.specs.Limits.{most_turns};
 ghost use Rattle.lt_term.specs.Mapped.{node_passes, node_with_constraints};
-ghost use Rattle.lt_term.specs.Offers.{in_catch, in_par, in_seq, offers_of};
-ghost use Rattle.lt_term.specs.Process.{count, loop, with_constraints};
+ghost use Rattle.lt_term.specs.Offers.{in_catch, in_par, in_seq, in_turn, offers_of};
+ghost use Rattle.lt_term.specs.Process.{count, eps, loop, with_constraints};
 ghost use Rattle.lt_term.specs.Replaced.{replaced};
-ghost use Rattle.lt_term.specs.Tree.{expression, flattened, more, stop, weighted_node};
+ghost use Rattle.lt_term.specs.Tree.{expression, flattened, go, leaf_node, more, ordered_node, stop, vanish, weighted_node};
 ghost use Rattle.lt_term.specs.TreeView.{tree_nodes, weight};
 ghost use Rattle.lt_term.specs.View.{kinds_of, process};
 ghost use Rattle.lt_term.specs.Within.{Tests, passes};
 
 use crate::memory::Memory;
-use crate::next::{caught, sequence};
+use crate::next::{caught, sequence, shared};
 use crate::rules::{put, put_assert, put_exist, put_joined, put_try, put_turn, start_of};
 use crate::scenario::Scenario;
 use crate::term::Term;
@@ -66,19 +66,7 @@ fn emit(
     match term {
         Term::Eps => put(out, TreeNode::Vanish),
         Term::Dead => put(out, TreeNode::None),
-        Term::Con(constraint) => {
-            let constraints = vec![in alloc; *constraint]?;
-            let lasts = Vec::new(alloc);
-            let next = Rc::new(alloc, Term::Eps)?;
-            put(
-                out,
-                TreeNode::Go {
-                    constraints,
-                    lasts,
-                    next,
-                },
-            )
-        }
+        Term::Con(constraint) => put_instant(alloc, out, *constraint),
         Term::Raise(exception) => put(out, TreeNode::Raise(*exception)),
         Term::Seq(first, second) => {
             let nodes = nodes_of(alloc, locals, first)?;
@@ -86,10 +74,7 @@ fn emit(
         }
         Term::Loop(body) => {
             let nodes = nodes_of(alloc, locals, body)?;
-            put(out, TreeNode::Pri)?;
-            let again = once_more(alloc, body)?;
-            put_turn(alloc, out, nodes, &again)?;
-            put(out, TreeNode::Vanish)
+            put_loop(alloc, out, nodes, body)
         }
         Term::Count {
             counter,
@@ -97,15 +82,10 @@ fn emit(
             body,
         } => {
             let nodes = nodes_of(alloc, locals, body)?;
-            let again = one_more_done(alloc, *counter, *done, body)?;
-            put_count(alloc, out, *counter, *done)?;
-            put_turn(alloc, out, nodes, &again)?;
-            put(out, TreeNode::Vanish)
+            put_counted(alloc, out, nodes, *counter, *done, body)
         }
         Term::Any(parts) => {
-            let weights = weights_of(alloc, parts)?;
-            let lasts = Vec::new(alloc);
-            put(out, TreeNode::Any { weights, lasts })?;
+            put_choice(alloc, out, parts)?;
             emit_parts(alloc, locals, out, parts)
         }
         Term::Pri(first, second) => {
@@ -135,8 +115,8 @@ fn emit(
             put_catch(alloc, locals, out, nodes, *exception, otherwise)
         }
         Term::Try { body, otherwise } => {
-            let nodes = nodes_of(alloc, locals, body)?;
             put(out, TreeNode::Pri)?;
+            let nodes = nodes_of(alloc, locals, body)?;
             put_try(alloc, out, nodes, otherwise)?;
             emit(alloc, locals, out, otherwise)
         }
@@ -160,6 +140,36 @@ fn emit_parts(
     Ok(())
 }
 
+// The node of one instant in which an expression holds, and after which there is nothing.
+fn put_instant(alloc: Global, out: &mut Vec<TreeNode>, constraint: u32) -> Result<(), AllocError>
+    ensures { OnOk result (tree_nodes out.new.items ≡ tree_nodes out.old.items ++ leaf_node (go (constraint ∷ []) [] eps) ∷ []) }
+{
+    let next = shared(alloc, Term::Eps)?;
+    let constraints = vec![in alloc; constraint]?;
+    let lasts = Vec::new(alloc);
+    put(
+        out,
+        TreeNode::Go {
+            constraints,
+            lasts,
+            next,
+        },
+    )
+}
+
+// The root of a choice.
+fn put_choice(
+    alloc: Global,
+    out: &mut Vec<TreeNode>,
+    parts: &Vec<(u32, Term)>,
+) -> Result<(), AllocError>
+    ensures { OnOk result (tree_nodes out.new.items ≡ tree_nodes out.old.items ++ weighted_node [] (map (λ p. expression p.0) parts.now.items) ∷ []) }
+{
+    let weights = weights_of(alloc, parts)?;
+    let lasts = Vec::new(alloc);
+    put(out, TreeNode::Any { weights, lasts })
+}
+
 // The weights of the parts of a choice.
 fn weights_of(alloc: Global, parts: &Vec<(u32, Term)>) -> Result<Vec<Weight>, AllocError>
     ensures { IfOk result (λ ws. map weight ws.items ≡ map (λ p. expression p.0) parts.now.items) }
@@ -169,6 +179,39 @@ fn weights_of(alloc: Global, parts: &Vec<(u32, Term)>) -> Result<Vec<Weight>, Al
         weights.push(Weight::Exp(*number))?;
     }
     Ok(weights)
+}
+
+// The nodes of a loop, by those of its part: one more turn, or the end.
+fn put_loop(
+    alloc: Global,
+    out: &mut Vec<TreeNode>,
+    nodes: Vec<TreeNode>,
+    body: &Rc<Term>,
+) -> Result<(), AllocError>
+    ensures { OnOk result (tree_nodes out.new.items ≡ tree_nodes out.old.items ++ ordered_node ∷ (flat_map (replaced (in_turn (loop (process body.now.value)))) (tree_nodes nodes.items) ++ leaf_node vanish ∷ [])) }
+{
+    put(out, TreeNode::Pri)?;
+    let again = once_more(alloc, body)?;
+    put_turn(alloc, out, nodes, &again)?;
+    put(out, TreeNode::Vanish)
+}
+
+// The nodes of a counted loop, likewise.
+fn put_counted(
+    alloc: Global,
+    out: &mut Vec<TreeNode>,
+    nodes: Vec<TreeNode>,
+    counter: u32,
+    done: u64,
+    body: &Rc<Term>,
+) -> Result<(), AllocError>
+    requires { done ≤ most_turns }
+    ensures { OnOk result (tree_nodes out.new.items ≡ tree_nodes out.old.items ++ weighted_node [] (more counter done ∷ stop counter done ∷ []) ∷ (flat_map (replaced (in_turn (count counter (suc done) (process body.now.value)))) (tree_nodes nodes.items) ++ leaf_node vanish ∷ [])) }
+{
+    put_count(alloc, out, counter, done)?;
+    let again = one_more_done(alloc, counter, done, body)?;
+    put_turn(alloc, out, nodes, &again)?;
+    put(out, TreeNode::Vanish)
 }
 
 // The root of a counted loop: one more turn, or the end.
@@ -192,7 +235,7 @@ fn once_more(alloc: Global, body: &Rc<Term>) -> Result<Rc<Term>, AllocError>
     ensures { IfOk result (λ t. process t.value ≡ loop (process body.now.value)) }
 {
     let again = Term::Loop(body.clone()?);
-    Ok(Rc::new(alloc, again)?)
+    shared(alloc, again)
 }
 
 // A counted loop of which one more turn is done.
@@ -210,7 +253,7 @@ fn one_more_done(
         done: done + 1,
         body: body.clone()?,
     };
-    Ok(Rc::new(alloc, again)?)
+    shared(alloc, again)
 }
 
 // The nodes of a first part for a sequence: those of the second part where the first is over.

@@ -17,7 +17,7 @@ use lt_formula::Table;
 /// A scenario: its variables, and what it does.
 ///
 /// Whoever makes one shows what the ghost fields say, each by itself.
-#[derive(Debug, Drop)]
+#[derive(Drop)]
 pub struct Scenario {
     /// The name of its node.
     pub name: String,

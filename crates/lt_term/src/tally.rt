@@ -17,7 +17,7 @@ use std::alloc::{AllocError, Global};
 const MOST: u64 = 65_537;
 
 // How many nodes of each kind a tree has. Each number is exact up to `MOST`.
-#[derive(Debug, Drop)]
+#[derive(Drop)]
 struct Tally {
     // Choices of either kind, and leaves at which nothing can be done.
     others: u64,
@@ -246,8 +246,7 @@ fn tally_of(alloc: Global, term: &Term) -> Result<Tally, AllocError>
         Term::Con(_) => Ok(one_go(alloc)),
         Term::Raise(exception) => one_raise(alloc, *exception),
         Term::Seq(first, second) => {
-            let first = tally_of(alloc, first)?;
-            let second = tally_of(alloc, second)?;
+            let (first, second) = tallies_of(alloc, first, second)?;
             followed(first, &second)
         }
         Term::Loop(body) => {
@@ -262,15 +261,9 @@ fn tally_of(alloc: Global, term: &Term) -> Result<Tally, AllocError>
             let below = tally_of_each(alloc, parts)?;
             Ok(with_choice(below))
         }
-        Term::Pri(first, second) => {
-            let first = tally_of(alloc, first)?;
-            let second = tally_of(alloc, second)?;
-            let below = both(first, &second)?;
-            Ok(with_choice(below))
-        }
+        Term::Pri(first, second) => tally_of_either(alloc, first, second),
         Term::Par(first, second) => {
-            let first = tally_of(alloc, first)?;
-            let second = tally_of(alloc, second)?;
+            let (first, second) = tallies_of(alloc, first, second)?;
             beside(first, second)
         }
         Term::Assert(_, body) => tally_of(alloc, body),
@@ -280,17 +273,32 @@ fn tally_of(alloc: Global, term: &Term) -> Result<Tally, AllocError>
             body,
             otherwise,
         } => {
-            let body = tally_of(alloc, body)?;
-            let handler = tally_of(alloc, otherwise)?;
+            let (body, handler) = tallies_of(alloc, body, otherwise)?;
             caught(*exception, body, &handler)
         }
-        Term::Try { body, otherwise } => {
-            let first = tally_of(alloc, body)?;
-            let second = tally_of(alloc, otherwise)?;
-            let below = both(first, &second)?;
-            Ok(with_choice(below))
-        }
+        Term::Try { body, otherwise } => tally_of_either(alloc, body, otherwise),
     }
+}
+
+// The nodes of the trees of two terms, each by itself.
+#[cycle(tally)]
+fn tallies_of(alloc: Global, first: &Term, second: &Term) -> Result<(Tally, Tally), AllocError>
+    ensures first { IfOk result (λ ks. (w : Weights) → IsAlike (tally_weight w ks.0) (weight_of w (process first.now))) }
+    ensures second { IfOk result (λ ks. (w : Weights) → IsAlike (tally_weight w ks.1) (weight_of w (process second.now))) }
+{
+    let first = tally_of(alloc, first)?;
+    let second = tally_of(alloc, second)?;
+    Ok((first, second))
+}
+
+// The nodes of the trees of two terms, and a choice above them.
+#[cycle(tally)]
+fn tally_of_either(alloc: Global, first: &Term, second: &Term) -> Result<Tally, AllocError>
+    ensures { IfOk result (λ k. (w : Weights) → IsAlike (tally_weight w k) (w.other + (weight_of w (process first.now) + weight_of w (process second.now)))) }
+{
+    let (first, second) = tallies_of(alloc, first, second)?;
+    let below = both(first, &second)?;
+    Ok(with_choice(below))
 }
 
 // The nodes of the trees of the parts of a choice.

@@ -5,7 +5,7 @@ use crate::term::Term;
 use std::rc::Rc;
 
 /// The weight of a tree to choose.
-#[derive(Clone, Copy, Debug, PartialEq, Eq)]
+#[derive(Clone, Copy)]
 pub enum Weight {
     /// What an expression says.
     Exp(u32),
@@ -18,7 +18,7 @@ pub enum Weight {
 }
 
 /// A node of a tree.
-#[derive(Debug, Drop)]
+#[derive(Drop)]
 pub enum TreeNode {
     /// A leaf at which nothing can be done.
     None,
@@ -49,7 +49,7 @@ pub enum TreeNode {
 }
 
 /// What a term offers in one instant.
-#[derive(Debug, Drop)]
+#[derive(Drop)]
 pub struct Tree {
     /// The nodes in preorder: each before those below it, and the left ones before the right ones.
     pub nodes: Vec<TreeNode>,

@@ -7,7 +7,7 @@ ghost use Rattle.lt_term.specs.Fitting.{IsValueOf};
 use lt_num::{Kind, Range, Value};
 
 /// A variable.
-#[derive(Debug, Drop)]
+#[derive(Drop)]
 pub struct Var {
     /// Its name.
     pub name: String,

@@ -1,7 +1,9 @@
-use Rattle.std.proofs.Common.{rules, suc, ap, sym, ◌∙◌, subst}
+use Rattle.std.proofs.Common.{rules, ap, sym, ◌∙◌, subst}
 use Rattle.lt_term.specs.declared.term.Term.TheFolds
 use Rattle.lt_term.specs.Counted.{IsCounted}
-use Rattle.lt_term.specs.Process.{Process, loop, count, try}
+use Rattle.lt_term.specs.Offers.{offers_of}
+use Rattle.lt_term.specs.Process.{Process, try}
+use Rattle.lt_term.specs.Tree.{flattened}
 use Rattle.lt_term.specs.TreeView.{tree_node, tree_nodes}
 use Rattle.lt_term.specs.View.{kinds_of, process}
 use Rattle.lt_term.proofs.Trees.{any_counted, loop_put, count_put, par_go, try_put}
@@ -12,17 +14,15 @@ emit-emit_parts-requires t c =
     let P = λ (u : Process _). IsCounted u in
     (search (rules, TheFolds.the_lemmas), any_counted c.in-Any.parts (subst P (ap process c.in-Any.is) c.requires))
 
-pub emit-returns-in_ok-put_turn-in-Loop : goal.emit-returns-in_ok-put_turn-in-Loop
-emit-returns-in_ok-put_turn-in-Loop t c =
-    let body = ap (λ u. loop (process u)) (sym c.deref-in-Loop.ensures) in
-    loop_put _ _ _ _ _ _ _ _ _ _ (ap process c.in-Loop.is ∙ body) (c.in_ok-again-in-Loop.ensures ∙ body)
-    c.in_ok-nodes-in-Loop.ensures c.in_ok-put-in-Loop.ensures c.in_ok-put_turn-in-Loop.ensures c.put-in-Loop-2.ensures
+pub emit-returns-in_ok-nodes-in-Loop : goal.emit-returns-in_ok-nodes-in-Loop
+emit-returns-in_ok-nodes-in-Loop t c =
+    let body = ap process c.deref-in-Loop.ensures in
+    loop_put _ _ _ _ _ _ _ (ap process c.in-Loop.is) (c.in_ok-nodes-in-Loop.ensures ∙ ap (λ u. flattened (offers_of (kinds_of c.args.locals.now) u)) body) c.put_loop.ensures
 
-pub emit-returns-in_ok-put_turn-in-Count : goal.emit-returns-in_ok-put_turn-in-Count
-emit-returns-in_ok-put_turn-in-Count t c =
-    count_put _ _ _ _ _ _ _ _ _ _ _ _ (ap process c.in-Count.is ∙ ap (λ u. count c.in-Count.counter c.in-Count.done (process u)) (sym c.deref-in-Count.ensures))
-    (c.in_ok-again-in-Count.ensures ∙ ap (λ u. count c.in-Count.counter (suc c.in-Count.done) (process u)) (sym c.deref-in-Count.ensures))
-    c.in_ok-nodes-in-Count.ensures c.in_ok-put_count-in-Count.ensures c.in_ok-put_turn-in-Count.ensures c.put-in-Count.ensures
+pub emit-returns-in_ok-nodes-in-Count : goal.emit-returns-in_ok-nodes-in-Count
+emit-returns-in_ok-nodes-in-Count t c =
+    let body = ap process c.deref-in-Count.ensures in
+    count_put _ _ _ _ _ _ _ _ _ (ap process c.in-Count.is) (c.in_ok-nodes-in-Count.ensures ∙ ap (λ u. flattened (offers_of (kinds_of c.args.locals.now) u)) body) c.put_counted.ensures
 
 pub emit-returns-in_ok-put_try-in-Try : goal.emit-returns-in_ok-put_try-in-Try
 emit-returns-in_ok-put_try-in-Try t c =
