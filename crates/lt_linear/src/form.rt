@@ -9,7 +9,7 @@ use std::marker::Model;
 
 /// Terms of a form: the numbers of variables, each with its raw coefficient. They are in rising order of
 /// variable, and no coefficient is 0.
-#[derive(Debug, Drop)]
+#[derive(Drop)]
 pub struct Terms {
     items: Vec<(u32, i64)>,
 }
@@ -39,7 +39,7 @@ impl Terms {
 }
 
 /// A linear form: the sum of its terms, each the coefficient times the variable's value, and of its constant.
-#[derive(Debug, Drop)]
+#[derive(Drop)]
 pub struct Form {
     /// The terms.
     pub terms: Terms,

@@ -11,7 +11,7 @@ use lt_linear::{Form, FormRef};
 use std::alloc::{AllocError, Global};
 
 /// A part of a circuit. Its own parts are gates with smaller numbers.
-#[derive(Clone, Copy, Debug, PartialEq, Eq)]
+#[derive(Clone, Copy)]
 pub enum Gate {
     /// A truth.
     Truth(bool),
@@ -54,7 +54,7 @@ pub enum Gate {
 ///
 /// Its variables have numbers below 128. A comparison has at most 128 terms, no coefficient is past 2 * 10^18
 /// in size, and no constant past 2 * 10^12.
-#[derive(Debug, Drop)]
+#[derive(Drop)]
 pub struct Circuit {
     gates: Vec<Gate>,
     terms: Vec<(u32, i64)>,

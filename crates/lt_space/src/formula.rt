@@ -3,7 +3,7 @@
 use lt_linear::Form;
 
 /// How a form stands to 0.
-#[derive(Clone, Copy, Debug, PartialEq, Eq)]
+#[derive(Clone, Copy)]
 pub enum Relation {
     /// Below 0.
     Below,
@@ -17,7 +17,7 @@ pub enum Relation {
 
 /// What a formula is made of. Outputs and locals have one sequence of numbers here, in which the outputs stand
 /// first.
-#[derive(Debug, Drop)]
+#[derive(Drop)]
 pub enum Atom {
     /// A Boolean variable, by its number. It holds where its raw number isn't 0.
     Flag(u32),
@@ -28,7 +28,7 @@ pub enum Atom {
 }
 
 /// A formula.
-#[derive(Debug, Drop)]
+#[derive(Drop)]
 pub enum Formula {
     /// A truth.
     Truth(bool),

@@ -10,7 +10,7 @@ use crate::formula::Relation;
 use lt_linear::FormRef;
 
 /// What a load says of an atom of a constraint.
-#[derive(Clone, Copy, Debug)]
+#[derive(Clone, Copy)]
 pub enum Loaded<'a> {
     /// The load didn't evaluate it.
     Skipped,

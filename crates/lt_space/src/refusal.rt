@@ -5,7 +5,7 @@ use lt_num::Arith;
 use std::alloc::{AllocError, AllocFailed};
 
 /// Why there is no formula.
-#[derive(Clone, Copy, Debug, PartialEq, Eq)]
+#[derive(Clone, Copy)]
 pub enum FormulaRefusal {
     /// The first fault that the evaluation meets.
     Fault(Arith),
