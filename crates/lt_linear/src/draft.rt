@@ -7,13 +7,13 @@ ghost use Rattle.lt_linear.specs.Form.{constant_form, form_by, form_compared, fo
 ghost use Rattle.lt_linear.specs.Order.{is_difference, is_form};
 ghost use Rattle.lt_linear.specs.inner.Merging.{IsOperation, combined, is_usable};
 
-use crate::form::Form;
+use crate::form::{Form, Terms};
 use crate::merging::{Operation, combined, merge, put};
 use lt_num::{Arith, Fixed};
 use std::alloc::{AllocError, Global};
 
 /// A form that stands elsewhere.
-#[derive(Clone, Copy, Debug)]
+#[derive(Clone, Copy)]
 pub struct FormRef<'a> {
     /// Its terms.
     pub terms: &'a [(u32, i64)],
@@ -55,7 +55,7 @@ impl Form {
 /// Each call that sets it says what it is then, or the fault of the first number that is past its bound. After a
 /// fault it is some form. A form over variables below a number, in rising order and without coefficients of 0,
 /// gives another such form: so room for twice as many terms as there are variables is enough.
-#[derive(Debug, Drop)]
+#[derive(Drop)]
 pub struct Draft {
     terms: Vec<(u32, i64)>,
     constant: i64,
@@ -77,6 +77,27 @@ impl Draft {
             terms: Vec::with_capacity(alloc, terms)?,
             constant: 0,
         })
+    }
+
+    /// The form 0, with room for what comes of two forms.
+    pub(crate) fn for_both(
+        alloc: Global,
+        a: FormRef<'_>,
+        b: FormRef<'_>,
+    ) -> Result<Draft, AllocError>
+        ensures { IfOk result (λ draft. length a.entry.terms.now + length b.entry.terms.now ≤ draft_room draft) }
+    {
+        Draft::with_room(alloc, a.terms.len() + b.terms.len())
+    }
+
+    /// The form that it is, for good.
+    pub(crate) fn into_form(self) -> Form
+        ensures { result ≡ draft_form self }
+    {
+        Form {
+            terms: Terms::from_vec(self.terms),
+            constant: self.constant,
+        }
     }
 
     /// The form that it is.
@@ -194,13 +215,19 @@ impl Draft {
         self.constant = a.constant - b.constant;
     }
 
-    // Makes it what an operation gives on two forms.
-    fn set_by(&mut self, operation: Operation, a: FormRef<'_>, b: FormRef<'_>) -> Result<(), Arith>
+    /// Makes it what an operation gives on two forms.
+    pub(crate) fn set_by(
+        &mut self,
+        operation: Operation,
+        a: FormRef<'_>,
+        b: FormRef<'_>,
+    ) -> Result<(), Arith>
         requires operation { IsOperation operation }
         requires usable { (raw : ℤ) → IsTrue (is_usable operation raw) }
         requires room { length a.terms.now + length b.terms.now ≤ draft_room self.old }
         ensures told { DraftTells result (draft_form self.new) (form_by (combined operation) (lent_form a.entry) (lent_form b.entry)) }
         ensures order { (below : ℕ) → IsTrue (is_form below (lent_form a.entry)) → IsTrue (is_form below (lent_form b.entry)) → OnOk result (IsTrue (is_form below (draft_form self.new))) }
+        ensures bounded { OnOk result (IsTrue (is_bounded (draft_form self.new))) }
         ensures room { draft_room self.old ≤ draft_room self.new }
     {
         self.terms.clear();

@@ -2,12 +2,14 @@
 
 ghost use Rattle.std.specs.Prelude.{◌≡◌, ◌≤◌, ℤ, IfOk, IsTrue, unsigned_abs};
 ghost use Rattle.lt_num.specs.Bounds.{most_decimals};
+ghost use Rattle.lt_linear.specs.Draft.{lent_form};
 ghost use Rattle.lt_linear.specs.Form.{form_by, form_compared, form_difference, form_divided, form_scaled, form_sum, is_bounded};
 ghost use Rattle.lt_linear.specs.Refusal.{TellsForm};
 ghost use Rattle.lt_linear.specs.inner.Merging.{IsOperation, combined, is_usable};
 
-use crate::form::{Form, Terms};
-use crate::merging::{Operation, combined, merge};
+use crate::draft::{Draft, FormRef};
+use crate::form::Form;
+use crate::merging::Operation;
 use crate::refusal::NumRefusal;
 use lt_num::Fixed;
 use std::alloc::{AllocError, Global};
@@ -21,7 +23,7 @@ pub fn form_add(alloc: Global, a: &Form, b: &Form) -> Result<Form, NumRefusal>
     ensures told { TellsForm result (form_sum a.now b.now) }
     ensures bounded { IfOk result (λ form. IsTrue (is_bounded form)) }
 {
-    form_by(alloc, Operation::Sum, a, b)
+    form_by(alloc, Operation::Sum, a.lend(), b.lend())
 }
 
 /// The difference of two forms: that of their coefficients and constants.
@@ -33,7 +35,7 @@ pub fn form_sub(alloc: Global, a: &Form, b: &Form) -> Result<Form, NumRefusal>
     ensures told { TellsForm result (form_difference a.now b.now) }
     ensures bounded { IfOk result (λ form. IsTrue (is_bounded form)) }
 {
-    form_by(alloc, Operation::Difference, a, b)
+    form_by(alloc, Operation::Difference, a.lend(), b.lend())
 }
 
 /// A form times a number with so many decimals, 0 to 6: each coefficient and the constant is multiplied and
@@ -47,8 +49,12 @@ pub fn form_scale(alloc: Global, a: &Form, by: Fixed, decimals: u32) -> Result<F
     ensures told { TellsForm result (form_scaled a.now by.raw decimals) }
     ensures bounded { IfOk result (λ form. IsTrue (is_bounded form)) }
 {
-    let nothing = Form::of_constant(alloc, 0);
-    form_by(alloc, Operation::Scaled(by, decimals), a, &nothing)
+    form_by(
+        alloc,
+        Operation::Scaled(by, decimals),
+        a.lend(),
+        FormRef::zero(),
+    )
 }
 
 /// A form divided by a number with so many decimals, 0 to 6: each coefficient and the constant is divided and
@@ -66,8 +72,12 @@ pub fn form_divide(alloc: Global, a: &Form, by: Fixed, decimals: u32) -> Result<
     if by.raw == 0 {
         return Err(NumRefusal::DivisionByZero);
     }
-    let nothing = Form::of_constant(alloc, 0);
-    form_by(alloc, Operation::Divided(by, decimals), a, &nothing)
+    form_by(
+        alloc,
+        Operation::Divided(by, decimals),
+        a.lend(),
+        FormRef::zero(),
+    )
 }
 
 /// The difference of two forms, which a comparison compares with 0: exactly, with its coefficients times a
@@ -82,32 +92,27 @@ pub fn form_compare(alloc: Global, a: &Form, b: &Form, factor: i64) -> Result<Fo
     requires factor { unsigned_abs factor ≤ 1_000_000 }
     ensures { IfOk result (λ form. form ≡ form_compared factor a.now b.now) }
 {
-    let (left, right) = (a.terms.as_slice(), b.terms.as_slice());
-    let mut terms = Vec::with_capacity(alloc, left.len() + right.len())?;
-    merge(Operation::Compared(factor), left, right, &mut terms).unwrap();
-    Ok(Form {
-        terms: Terms::from_vec(terms),
-        constant: a.constant - b.constant,
-    })
+    let (first, second) = (a.lend(), b.lend());
+    let mut draft = Draft::for_both(alloc, first, second)?;
+    draft.set_comparison(first, second, factor);
+    Ok(draft.into_form())
 }
 
 // The form whose coefficients and constant are what an operation gives on those of two forms.
-fn form_by(alloc: Global, operation: Operation, a: &Form, b: &Form) -> Result<Form, NumRefusal>
+fn form_by(
+    alloc: Global,
+    operation: Operation,
+    a: FormRef<'_>,
+    b: FormRef<'_>,
+) -> Result<Form, NumRefusal>
     requires operation { IsOperation operation }
     requires usable { (raw : ℤ) → IsTrue (is_usable operation raw) }
-    ensures told { TellsForm result (form_by (combined operation) a.now b.now) }
+    ensures told { TellsForm result (form_by (combined operation) (lent_form a.entry) (lent_form b.entry)) }
     ensures bounded { IfOk result (λ form. IsTrue (is_bounded form)) }
 {
-    let (left, right) = (a.terms.as_slice(), b.terms.as_slice());
-    let mut terms = Vec::with_capacity(alloc, left.len() + right.len())?;
-    if merge(operation, left, right, &mut terms).is_none() {
-        return Err(NumRefusal::Overflow);
-    }
-    match combined(operation, a.constant, b.constant) {
-        Some(constant) => Ok(Form {
-            terms: Terms::from_vec(terms),
-            constant,
-        }),
-        None => Err(NumRefusal::Overflow),
+    let mut draft = Draft::for_both(alloc, a, b)?;
+    match draft.set_by(operation, a, b) {
+        Ok(()) => Ok(draft.into_form()),
+        Err(_) => Err(NumRefusal::Overflow),
     }
 }
