@@ -131,15 +131,15 @@ rolled v kinds (unary op e) y h = h
 rolled v kinds (binary op d e) y h = h
 rolled v kinds (choice c d e) y h = h
 
-where_in : (b : Bool) (P : Type 0) → b ≡ true → P → Where b P
+pub where_in : (b : Bool) (P : Type 0) → b ≡ true → P → Where b P
 where_in true P h p = p
 where_in false P h p = absurd (cc)
 
-where_out : (b : Bool) (P : Type 0) → Where b P → P
+pub where_out : (b : Bool) (P : Type 0) → Where b P → P
 where_out true P h = h
 where_out false P h = absurd h
 
-where_none : (b : Bool) (P : Type 0) → b ≡ false → Where b P → ⊥
+pub where_none : (b : Bool) (P : Type 0) → b ≡ false → Where b P → ⊥
 where_none true P h p = absurd (cc)
 where_none false P h p = p
 

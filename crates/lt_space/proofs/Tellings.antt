@@ -1,17 +1,14 @@
 -- What forms and formulas are, by the shape of an expression, and what is told of them where there is a fault.
 use Rattle.std.proofs.Common.{◌≡◌, ℕ, ◌^◌, true, false, pos, refl, ap, sym, ◌∙◌, subst, Result, Ok, Err, if◌then◌else◌}
 use Rattle.lt_linear.specs.Form.{constant_form, form_difference, variable_form}
-use Rattle.lt_linear.specs.Refusal.{TellsForm}
 use Rattle.lt_num.specs.Value.{is_true}
 use Rattle.lt_num.specs.declared.fault.Arith.{Arith}
-use Rattle.lt_linear.specs.declared.form.Form.{Form}
-use Rattle.lt_linear.specs.declared.refusal.NumRefusal.{NumRefusal}
-use Rattle.lt_linear.specs.declared.refusal.NumRefusal.TheVariants as num
 use Rattle.lt_formula.specs.Expression.{Expression, constant, variable, previous, unary, binary, choice}
 use Rattle.lt_space.specs.Formula.{atom, negation}
 use Rattle.lt_formula.specs.Kinds.{Kinds, kind_of_variable, number_of}
 use Rattle.lt_space.specs.Meaning.{after, binary_form, binary_formula, choice_formula, decimals_of, form_of, formula_of, is_known, known_form, known_formula}
-use Rattle.lt_space.specs.Refusal.{Tells, refusal_of, same}
+use Rattle.lt_space.specs.Refusal.{Tells}
+use Rattle.lt_space.specs.inner.Both.{both}
 use Rattle.lt_formula.specs.Valuation.{Valuation, value_under}
 use Rattle.lt_space.specs.declared.formula.Atom.TheVariants.{Flag}
 use Rattle.lt_formula.specs.declared.operator.BinaryOperator.{BinaryOperator}
@@ -36,15 +33,19 @@ value_after other a answer due f h k = subst (λ d. Tells other answer (after d 
 pub fault_after : {B C D : Type 0} (other : C → D) (fault : Arith) (due : Result B Arith) (f : B → Result D Arith) → Err fault ≡ due → Tells other (Err (Fault fault)) (after due f)
 fault_after other fault due f h = ap (λ answer. after answer f) h
 
--- what a call on forms told
-pub form_told : (form : Form) (due : Result Form Arith) → TellsForm (Ok form) due → Tells same (Ok form) due
-form_told form due h = h
+-- the same of two parts
+after_both : {A B D : Type 0} (a : Result A Arith) (b : Result B Arith) (f : A → B → Result D Arith) → after (both a b) (λ p. f p.0 p.1) ≡ after a (λ x. after b (f x))
+after_both (Ok x) (Ok y) f = refl
+after_both (Ok x) (Err fault) f = refl
+after_both (Err fault) b f = refl
 
-pub form_refused : (r : NumRefusal) (given : FormulaRefusal) (due : Result Form Arith) → given ≡ refusal_of r → TellsForm (Err r) due → Tells same (Err given) due
-form_refused num.Overflow given due e h = subst (λ g. Tells same (Err g) due) (sym e) h
-form_refused num.DivisionByZero given due e h = subst (λ g. Tells same (Err g) due) (sym e) h
-form_refused num.Malformed given due e h = absurd h
-form_refused num.Memory given due e h = subst (λ g. Tells same (Err g) due) (sym e) tt
+pub refused_after_both : {A B C D E : Type 0} (view : E → A × B) (other : C → D) (r : FormulaRefusal) (a : Result A Arith) (b : Result B Arith) (f : A → B → Result D Arith)
+    → Tells view (Err r) (both a b) → Tells other (Err r) (after a (λ x. after b (f x)))
+refused_after_both view other r a b f h = subst (λ d. Tells other (Err r) d) (after_both a b f) (refused_after view other r (both a b) (λ p. f p.0 p.1) h)
+
+pub told_after_both : {A B C D E : Type 0} (view : E → A × B) (other : C → D) (pair : E) (answer : Result C FormulaRefusal) (a : Result A Arith) (b : Result B Arith) (f : A → B → Result D Arith)
+    → Tells view (Ok pair) (both a b) → Tells other answer (f (view pair).0 (view pair).1) → Tells other answer (after a (λ x. after b (f x)))
+told_after_both view other pair answer a b f h k = subst (λ d. Tells other answer d) (after_both a b f) (told_after view other pair answer (both a b) (λ p. f p.0 p.1) h k)
 
 -- the meanings of an expression, by what it is
 module _ (v : Valuation) (kinds : Kinds) (x : Expression) where
@@ -114,6 +115,6 @@ module _ (v : Valuation) (kinds : Kinds) (x : Expression) where
       ap (formula_of v kinds) s
       ∙ ap (λ b. if b then known_formula v kinds (choice c d e) else choice_formula v kinds c (formula_of v kinds c) (formula_of v kinds d) (formula_of v kinds e)) (sym (ap (is_known kinds) s) ∙ h)
 
-pub ruleset tellings = (refused_after, told_after, value_after, fault_after, form_told, form_refused)
+pub ruleset tellings = (refused_after, told_after, refused_after_both, told_after_both, value_after, fault_after)
 
 pub ruleset knowns = (form_known, formula_known)

@@ -8,3 +8,4 @@ pub mod Measures
 pub mod Pushed
 pub mod Work
 pub mod Noted
+pub mod Both

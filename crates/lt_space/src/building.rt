@@ -3,14 +3,16 @@
 ghost use Rattle.std.specs.Prelude.{◌≡◌, ◌<◌, ◌≤◌, Ok, IsTrue, unsigned_abs};
 ghost use Rattle.lt_num.specs.Bounds.{most_decimals};
 ghost use Rattle.lt_linear.specs.Form.{is_bounded};
+ghost use Rattle.lt_space.specs.Formula.{negation};
 ghost use Rattle.lt_space.specs.FormulaView.{boxed_view, formula_view};
 ghost use Rattle.lt_space.specs.Meaning.{binary_formula, choice_formula, compared, comparison, connected, factor_of, formula_of, known_formula, settled_truth};
 ghost use Rattle.lt_space.specs.Refusal.{Tells};
+ghost use Rattle.lt_space.specs.inner.Both.{both, boxed_views};
 ghost use Rattle.lt_formula.specs.Kinds.{HasFewVariables};
 ghost use Rattle.lt_formula.specs.Table.{spelled};
 ghost use Rattle.lt_formula.specs.View.{table_expressions, table_kinds, table_len, valuation_of_known};
 
-use crate::forming::{form_value, power_of_ten};
+use crate::forming::{both_forms, power_of_ten};
 use crate::formula::{Atom, Formula, Relation};
 use crate::refusal::FormulaRefusal;
 use lt_formula::{BinaryOperator, Known, Shape, Table, known_value, settled};
@@ -74,7 +76,28 @@ fn boxed_formula(
     ensures { Tells boxed_view result (formula_of (valuation_of_known known.now) (table_kinds table.now) (spelled (table_expressions table.now) exp)) }
 {
     let formula = formula_of(alloc, table, exp, known)?;
-    Ok(Box::new(alloc, formula)?)
+    boxed(alloc, formula)
+}
+
+// Two of them, or the first fault that their evaluation meets.
+#[cycle(formula_of)]
+#[tactic(auto, using(crate::proofs::Tellings::tellings))]
+fn both_formulas(
+    alloc: Global,
+    table: &Table,
+    left: u32,
+    right: u32,
+    known: &Known<'_>,
+) -> Result<(Box<Formula>, Box<Formula>), FormulaRefusal>
+    requires left { left < table_len table.now }
+    requires right { right < table_len table.now }
+    requires few { HasFewVariables (table_kinds table.now) }
+    requires decimals { known.now.decimals ≤ most_decimals }
+    ensures { Tells boxed_views result (both (formula_of (valuation_of_known known.now) (table_kinds table.now) (spelled (table_expressions table.now) left)) (formula_of (valuation_of_known known.now) (table_kinds table.now) (spelled (table_expressions table.now) right))) }
+{
+    let first = boxed_formula(alloc, table, left, known)?;
+    let second = boxed_formula(alloc, table, right, known)?;
+    Ok((first, second))
 }
 
 // The formula of an operator on two parts that are not both known.
@@ -98,15 +121,13 @@ fn binary_formula(
 {
     let kind = table.facts(left).kind;
     if !matches!(kind, Kind::Bool) {
-        let first = form_value(alloc, table, left, known)?;
-        let second = form_value(alloc, table, right, known)?;
+        let (first, second) = both_forms(alloc, table, left, right, known)?;
         return comparison(alloc, operator, kind, known.decimals, &first, &second);
     }
     if let Some(truth) = settled_truth(table, operator, left, known)? {
         return Ok(Formula::Truth(truth));
     }
-    let first = boxed_formula(alloc, table, left, known)?;
-    let second = boxed_formula(alloc, table, right, known)?;
+    let (first, second) = both_formulas(alloc, table, left, right, known)?;
     connected(alloc, operator, first, second)
 }
 
@@ -139,13 +160,11 @@ fn choice_formula(
         };
     }
     let test = boxed_formula(alloc, table, condition, known)?;
-    let yes = boxed_formula(alloc, table, first, known)?;
-    let no = boxed_formula(alloc, table, second, known)?;
+    let (yes, no) = both_formulas(alloc, table, first, second, known)?;
     Ok(Formula::If(test, yes, no))
 }
 
 // The formula of a known Boolean.
-#[tactic(auto, using(crate::proofs::Tellings::tellings))]
 fn known_formula(table: &Table, exp: u32, known: &Known<'_>) -> Result<Formula, FormulaRefusal>
     requires within { exp < table_len table.now }
     requires decimals { known.now.decimals ≤ most_decimals }
@@ -177,7 +196,6 @@ pub(crate) fn settled_truth(
 /// # Errors
 ///
 /// [`FormulaRefusal::Memory`].
-#[tactic(auto, using(crate::proofs::Tellings::tellings))]
 pub fn connected(
     alloc: Global,
     operator: BinaryOperator,
@@ -190,19 +208,30 @@ pub fn connected(
         BinaryOperator::And => Ok(Formula::And(left, right)),
         BinaryOperator::Or => Ok(Formula::Or(left, right)),
         BinaryOperator::Implies => {
-            let denied = Box::new(alloc, Formula::Not(left))?;
+            let denied = boxed(alloc, Formula::Not(left))?;
             Ok(Formula::Or(denied, right))
         }
         BinaryOperator::Xor | BinaryOperator::Ne => Ok(Formula::Xor(left, right)),
-        _ => {
-            let different = Box::new(alloc, Formula::Xor(left, right))?;
-            Ok(Formula::Not(different))
-        }
+        _ => denied(alloc, Formula::Xor(left, right)),
     }
 }
 
+// The negation of a formula.
+fn denied(alloc: Global, formula: Formula) -> Result<Formula, FormulaRefusal>
+    ensures { Tells formula_view result (Ok (negation (formula_view formula))) }
+{
+    let part = boxed(alloc, formula)?;
+    Ok(Formula::Not(part))
+}
+
+// A formula in a box.
+fn boxed(alloc: Global, formula: Formula) -> Result<Box<Formula>, FormulaRefusal>
+    ensures { Tells boxed_view result (Ok (formula_view formula)) }
+{
+    Ok(Box::new(alloc, formula)?)
+}
+
 // What an operator gives on two forms of a kind.
-#[tactic(auto, using(crate::proofs::Tellings::tellings))]
 fn comparison(
     alloc: Global,
     operator: BinaryOperator,
@@ -219,11 +248,8 @@ fn comparison(
     match operator {
         BinaryOperator::Eq => compared(alloc, kind, decimals, a, b, Relation::Equal),
         BinaryOperator::Ne => {
-            let equal = Box::new(
-                alloc,
-                compared(alloc, kind, decimals, a, b, Relation::Equal)?,
-            )?;
-            Ok(Formula::Not(equal))
+            let equal = compared(alloc, kind, decimals, a, b, Relation::Equal)?;
+            denied(alloc, equal)
         }
         BinaryOperator::Lt => compared(alloc, kind, decimals, a, b, Relation::Below),
         BinaryOperator::Le => compared(alloc, kind, decimals, a, b, Relation::NotAbove),
@@ -234,7 +260,6 @@ fn comparison(
 }
 
 // The atom that the difference of two forms of a kind is.
-#[tactic(auto, using(crate::proofs::Tellings::tellings))]
 fn compared(
     alloc: Global,
     kind: Kind,

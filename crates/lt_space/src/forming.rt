@@ -2,18 +2,21 @@
 
 ghost use Rattle.std.specs.Prelude.{◌≡◌, ◌<◌, ◌≤◌, ◌^◌, Ok, IfOk, IsTrue, pos, unsigned_abs};
 ghost use Rattle.lt_num.specs.Bounds.{most_decimals};
-ghost use Rattle.lt_linear.specs.Form.{is_bounded, variable_form};
+ghost use Rattle.lt_linear.specs.Form.{constant_form, form_difference, form_divided, is_bounded, variable_form};
+ghost use Rattle.lt_linear.specs.Refusal.{TellsForm};
 ghost use Rattle.lt_num.specs.Value.{raw_of};
 ghost use Rattle.lt_formula.specs.Expression.{binary};
-ghost use Rattle.lt_space.specs.Meaning.{binary_form, decimals_of, form_of, form_times, known_form};
+ghost use Rattle.lt_space.specs.Meaning.{FormAnswer, after, binary_form, decimals_of, form_of, form_times, known_form};
 ghost use Rattle.lt_space.specs.Refusal.{Tells, same};
+ghost use Rattle.lt_space.specs.inner.Both.{both};
 ghost use Rattle.lt_formula.specs.Kinds.{HasFewVariables};
 ghost use Rattle.lt_formula.specs.Table.{spelled};
+ghost use Rattle.lt_formula.specs.Valuation.{value_under};
 ghost use Rattle.lt_formula.specs.View.{table_expressions, table_kinds, table_len, valuation_of_known};
 
 use crate::refusal::FormulaRefusal;
 use lt_formula::{BinaryOperator, Known, Shape, Table, known_value};
-use lt_linear::{Form, form_add, form_divide, form_scale, form_sub};
+use lt_linear::{Form, NumRefusal, form_add, form_divide, form_scale, form_sub};
 use lt_num::{Fixed, Kind, Value, add};
 use std::alloc::Global;
 
@@ -42,9 +45,8 @@ pub(crate) fn form_value(
             variable_form(alloc, table.number_of(role, place), kind, known.decimals)
         }
         Shape::Unary(_, part) => {
-            let zero = Form::of_constant(alloc, 0);
             let form = form_value(alloc, table, part, known)?;
-            Ok(form_sub(alloc, &zero, &form)?)
+            negative_form(alloc, &form)
         }
         Shape::Binary(operator, left, right) => {
             binary_form(alloc, table, exp, operator, left, right, known)
@@ -84,23 +86,43 @@ fn binary_form(
 {
     match operator {
         BinaryOperator::Add => {
-            let first = form_value(alloc, table, left, known)?;
-            let second = form_value(alloc, table, right, known)?;
-            Ok(form_add(alloc, &first, &second)?)
+            let (first, second) = both_forms(alloc, table, left, right, known)?;
+            formed(form_add(alloc, &first, &second))
         }
         BinaryOperator::Sub => {
-            let first = form_value(alloc, table, left, known)?;
-            let second = form_value(alloc, table, right, known)?;
-            Ok(form_sub(alloc, &first, &second)?)
+            let (first, second) = both_forms(alloc, table, left, right, known)?;
+            formed(form_sub(alloc, &first, &second))
         }
         BinaryOperator::Mul => product_form(alloc, table, left, right, known),
         BinaryOperator::Div => {
             let form = form_value(alloc, table, left, known)?;
-            let by = known_value(table, right, known)?;
-            Ok(form_divide(alloc, &form, Fixed { raw: by.raw() }, known.decimals)?)
+            form_over_known(alloc, table, &form, right, known)
         }
         _ => known_form(alloc, table, exp, known),
     }
+}
+
+/// The forms of two numbers, or the first fault that their evaluation meets.
+#[cycle(form_value)]
+#[tactic(auto, using(crate::proofs::Tellings::tellings))]
+pub(crate) fn both_forms(
+    alloc: Global,
+    table: &Table,
+    left: u32,
+    right: u32,
+    known: &Known<'_>,
+) -> Result<(Form, Form), FormulaRefusal>
+    requires left { left < table_len table.now }
+    requires right { right < table_len table.now }
+    requires few { HasFewVariables (table_kinds table.now) }
+    requires decimals { known.now.decimals ≤ most_decimals }
+    ensures told { Tells same result (both (form_of (valuation_of_known known.now) (table_kinds table.now) (spelled (table_expressions table.now) left)) (form_of (valuation_of_known known.now) (table_kinds table.now) (spelled (table_expressions table.now) right))) }
+    ensures first { IfOk result (λ forms. IsTrue (is_bounded forms.0)) }
+    ensures second { IfOk result (λ forms. IsTrue (is_bounded forms.1)) }
+{
+    let first = form_value(alloc, table, left, known)?;
+    let second = form_value(alloc, table, right, known)?;
+    Ok((first, second))
 }
 
 // The form of a product: one of its factors is known.
@@ -129,13 +151,20 @@ fn product_form(
         form_times(alloc, facts.kind, known.decimals, &form, by)
     } else {
         let form = form_value(alloc, table, left, known)?;
-        let by = known_value(table, right, known)?;
-        form_times(alloc, facts.kind, known.decimals, &form, by)
+        form_times_known(alloc, table, facts.kind, &form, right, known)
     }
 }
 
+// A form with the other sign.
+fn negative_form(alloc: Global, form: &Form) -> Result<Form, FormulaRefusal>
+    ensures told { Tells same result (form_difference (constant_form (pos 0)) form.now) }
+    ensures bounded { IfOk result (λ form. IsTrue (is_bounded form)) }
+{
+    let zero = Form::of_constant(alloc, 0);
+    formed(form_sub(alloc, &zero, form))
+}
+
 // A form times a known number of a kind.
-#[tactic(auto, using(crate::proofs::Tellings::tellings))]
 fn form_times(
     alloc: Global,
     kind: Kind,
@@ -147,16 +176,55 @@ fn form_times(
     ensures told { Tells same result (form_times kind decimals form.now (raw_of by)) }
     ensures bounded { IfOk result (λ form. IsTrue (is_bounded form)) }
 {
-    Ok(form_scale(
-        alloc,
-        form,
-        Fixed { raw: by.raw() },
-        decimals_of(kind, decimals),
-    )?)
+    let by = Fixed { raw: by.raw() };
+    formed(form_scale(alloc, form, by, decimals_of(kind, decimals)))
+}
+
+// A form of a kind times what is known of an expression.
+fn form_times_known(
+    alloc: Global,
+    table: &Table,
+    kind: Kind,
+    form: &Form,
+    factor: u32,
+    known: &Known<'_>,
+) -> Result<Form, FormulaRefusal>
+    requires within { factor < table_len table.now }
+    requires decimals { known.now.decimals ≤ most_decimals }
+    ensures told { Tells same result (after (value_under (valuation_of_known known.now) (table_kinds table.now) (spelled (table_expressions table.now) factor)) (λ by. form_times kind known.now.decimals form.now (raw_of by))) }
+    ensures bounded { IfOk result (λ form. IsTrue (is_bounded form)) }
+{
+    let by = known_value(table, factor, known)?;
+    form_times(alloc, kind, known.decimals, form, by)
+}
+
+// A form divided by what is known of an expression.
+fn form_over_known(
+    alloc: Global,
+    table: &Table,
+    form: &Form,
+    divisor: u32,
+    known: &Known<'_>,
+) -> Result<Form, FormulaRefusal>
+    requires within { divisor < table_len table.now }
+    requires decimals { known.now.decimals ≤ most_decimals }
+    ensures told { Tells same result (after (value_under (valuation_of_known known.now) (table_kinds table.now) (spelled (table_expressions table.now) divisor)) (λ by. form_divided form.now (raw_of by) known.now.decimals)) }
+    ensures bounded { IfOk result (λ form. IsTrue (is_bounded form)) }
+{
+    let by = known_value(table, divisor, known)?;
+    let by = Fixed { raw: by.raw() };
+    formed(form_divide(alloc, form, by, known.decimals))
+}
+
+// What a call on forms answered.
+fn formed(answer: Result<Form, NumRefusal>) -> Result<Form, FormulaRefusal>
+    ensures told { (due : FormAnswer) → TellsForm answer due → Tells same result due }
+    ensures bounded { IfOk answer (λ form. IsTrue (is_bounded form)) → IfOk result (λ form. IsTrue (is_bounded form)) }
+{
+    Ok(answer?)
 }
 
 // The form of a known number.
-#[tactic(auto, using(crate::proofs::Tellings::tellings))]
 fn known_form(
     alloc: Global,
     table: &Table,

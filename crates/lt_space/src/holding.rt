@@ -8,6 +8,7 @@ ghost use Rattle.lt_space.specs.Formula.{atom_holds, form_at, holds, stands, sum
 ghost use Rattle.lt_space.specs.FormulaView.{formula_view};
 ghost use Rattle.lt_space.specs.Size.{is_small, is_small_atom, is_small_form, most_terms};
 
+use crate::forming::power_of_ten;
 use crate::formula::{Atom, Formula, Relation};
 use lt_linear::Form;
 
@@ -76,7 +77,7 @@ fn form_at(form: &Form, assignment: &[i64], decimals: u32) -> i128
     ensures { result ≡ form_at decimals assignment.now form.now }
 {
     let sum = sum_at(form.terms.as_slice(), assignment);
-    sum + i128::from(form.constant) * i128::from(10u32.pow(decimals))
+    sum + product(form.constant, power_of_ten(decimals))
 }
 
 // The sum of terms at raw numbers.
@@ -95,7 +96,7 @@ fn sum_at(terms: &[(u32, i64)], assignment: &[i64]) -> i128
     sum
 }
 
-// A coefficient times a raw number.
+// A number times one that isn't past the bound of raw numbers.
 fn product(coefficient: i64, value: i64) -> i128
     requires value { unsigned_abs value ≤ most_raw }
     ensures product { result ≡ coefficient *ℤ value }

@@ -71,12 +71,13 @@ impl Space {
         if expressions > MOST_EXPRESSIONS || most > MOST_WANTED {
             return Err(Memory);
         }
+        let wanted = Vec::with_capacity(alloc, most)?;
+        let noted = Memo::make(alloc, expressions)?;
         let mut work = Work::make(alloc, expressions, table.variables(), most)?;
         let root = work.empty();
-        let noted = Memo::make(alloc, expressions)?;
         Ok(Space {
             work,
-            wanted: Vec::with_capacity(alloc, most)?,
+            wanted,
             noted,
             root,
             decimals: 0,

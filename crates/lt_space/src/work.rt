@@ -46,10 +46,13 @@ impl Work {
         ensures len { IfOk result (λ work. length (gates_in work) ≡ expressions) }
         ensures variables { IfOk result (λ work. work.measures.variables ≡ variables) }
     {
+        let memo = Memo::make(alloc, expressions)?;
+        let circuit = Circuit::make(alloc, expressions * 2 + most + 1, expressions * variables)?;
+        let measures = Measures::make(alloc, expressions, variables)?;
         Ok(Work {
-            circuit: Circuit::make(alloc, expressions * 2 + most + 1, expressions * variables)?,
-            memo: Memo::make(alloc, expressions)?,
-            measures: Measures::make(alloc, expressions, variables)?,
+            circuit,
+            memo,
+            measures,
         })
     }
 

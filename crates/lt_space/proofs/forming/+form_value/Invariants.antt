@@ -10,3 +10,6 @@ decreases-binary_form l = 3 * max l.left l.right + 3
 
 abbrev pub decreases-product_form : goal.decreases-product_form
 decreases-product_form l = 3 * max l.left l.right + 2
+
+abbrev pub decreases-both_forms : goal.decreases-both_forms
+decreases-both_forms l = 3 * max l.left l.right + 2

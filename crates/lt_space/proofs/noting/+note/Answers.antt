@@ -1,14 +1,14 @@
-use Rattle.std.proofs.Common.{◌≡◌, ◌+◌, ◌∙◌, true, false, ap, sym, arith}
-use Rattle.lt_formula.specs.Expression.{choice}
+use Rattle.std.proofs.Common.{◌≡◌, ◌+◌, ◌∙◌, true, false, not, ap, sym, subst, arith}
+use Rattle.lt_formula.specs.Expression.{Expression, choice, unary}
 use Rattle.lt_formula.specs.Valuation.{value_under}
 use Rattle.lt_formula.specs.View.{table_kinds, valuation_of_known}
 use Rattle.lt_formula.specs.declared.facts.Facts.{Facts}
-use Rattle.lt_space.specs.Evaluated.{Evaluates, is_truth}
+use Rattle.lt_space.specs.Evaluated.{Evaluates, is_divided, is_truth}
 use Rattle.lt_space.specs.Meaning.{is_known}
 use Rattle.lt_space.specs.inner.Memo.{memo_numbers}
-use Rattle.lt_space.specs.inner.Noted.{at}
+use Rattle.lt_space.specs.inner.Noted.{EvaluatesWithin, IsNoted, Notes, at}
 use Rattle.lt_space.specs.inner.Work.{formula_due}
-use Rattle.lt_space.proofs.Notings.{condition_due, either_first, either_second, in_first, in_second, left_due, not_is_false, not_is_true, noted_on, notes_both, notes_choice, notes_left, notes_then, notes_whole, right_due, visited_ok}
+use Rattle.lt_space.proofs.Notings.{condition_due, due_ok, either_first, either_second, in_first, in_second, left_due, not_is_false, not_is_true, noted_on, notes_as, notes_both, notes_choice, notes_left, notes_none, notes_then, notes_whole, one_due, right_due, some_noted, visited_ok, where_in, where_none, where_out}
 use Rattle.lt_space.proofs.noting.+note.Goals as goal
 
 pub note-note_parts-requires : goal.note-note_parts-requires
@@ -174,3 +174,73 @@ note_choice-returns t c =
     let last = c.note-2 in
     notes_choice v table c.args.work.now (memo_numbers c.args.noted.now) x y z _ c.note.new.work last.new.work (memo_numbers c.note.new.noted) (memo_numbers last.new.noted) unknown (λ k w. either_second _ _ _ no (either_first _ _ _ known w))
     (λ k w. in_first _ _ _ known (in_second _ _ _ no w)) c.note.ensures last.ensures
+
+pub note-returns-then-is_some : goal.note-returns-then-is_some
+note-returns-then-is_some t c =
+    let v = valuation_of_known c.args.known.now in
+    let table = c.args.table.now in
+    let numbers = memo_numbers c.args.noted.now in
+    let here : IsNoted numbers c.args.exp = some_noted numbers c.args.exp c.find.result c.find.ensures (sym c.is_some.ensures ∙ c.if-is_some.true) in
+    notes_none v table _ c.args.work.now numbers c.requires.noted (λ k h e. c.requires.noted.closed c.args.exp k here c.requires.within h e)
+
+pub note-unwrap-gate-requires : goal.note-unwrap-gate-requires
+note-unwrap-gate-requires t c =
+    let v = valuation_of_known c.args.known.now in
+    let table = c.args.table.now in
+    due_ok v table (c.args.exp + 1) 0 (formula_due v table c.args.exp) c.visit.result c.args.work.now c.visit.new.work c.requires.due c.visit.ensures
+
+pub note_one-returns-then-facts : goal.note_one-returns-then-facts
+note_one-returns-then-facts t c =
+    let v = valuation_of_known c.args.known.now in
+    let table = c.args.table.now in
+    let known : is_known (table_kinds table) (at table c.args.part) ≡ true = sym (ap (λ (f : Facts). f.is_known) c.facts.ensures) ∙ c.if-facts.true in
+    notes_none v table _ c.args.work.now (memo_numbers c.args.noted.now) c.requires.noted (λ k h e. absurd (where_none _ _ (ap not known) e))
+
+pub note_one-note-requires : goal.note_one-note-requires
+note_one-note-requires t c =
+    let v = valuation_of_known c.args.known.now in
+    let table = c.args.table.now in
+    let unknown : is_known (table_kinds table) (at table c.args.part) ≡ false = sym (ap (λ (f : Facts). f.is_known) c.facts.ensures) ∙ c.if-facts.false in
+    (omega (arith, c.decreases), (c.requires.part, (c.requires.few, (c.requires.decimals, (c.requires.once, (c.requires.noted, one_due v (table_kinds table) c.args.operator (at table c.args.part) unknown c.requires.due))))))
+
+pub note_one-returns : goal.note_one-returns
+note_one-returns t c =
+    let v = valuation_of_known c.args.known.now in
+    let table = c.args.table.now in
+    let kinds = table_kinds table in
+    let e = at table c.args.part in
+    let unknown : is_known kinds e ≡ false = sym (ap (λ (f : Facts). f.is_known) c.facts.ensures) ∙ c.if-facts.false in
+    notes_as v table (λ k. Evaluates v kinds e (at table k)) (λ k. EvaluatesWithin v kinds (unary c.args.operator e) (at table k)) c.args.work.now c.note.new.work (memo_numbers c.args.noted.now) (memo_numbers c.note.new.noted)
+    (λ k w. where_out _ _ w) (λ k w. where_in _ _ (ap not unknown) w) c.note.ensures
+
+pub note_two-returns-then-not-is_divided : goal.note_two-returns-then-not-is_divided
+note_two-returns-then-not-is_divided t c =
+    let v = valuation_of_known c.args.known.now in
+    let table = c.args.table.now in
+    let whole : is_divided (table_kinds table) c.args.operator (at table c.args.left) (at table c.args.right) ≡ false = sym c.is_divided.ensures ∙ c.if-not-is_divided.true in
+    notes_none v table _ c.args.work.now (memo_numbers c.args.noted.now) c.requires.noted (λ k h e. absurd (where_none _ _ whole e))
+
+pub note_choice-returns-then-are_known : goal.note_choice-returns-then-are_known
+note_choice-returns-then-are_known t c =
+    let v = valuation_of_known c.args.known.now in
+    let table = c.args.table.now in
+    let known : is_known (table_kinds table) (choice (at table c.args.condition) (at table c.args.first) (at table c.args.second)) ≡ true = sym c.are_known.ensures ∙ c.if-are_known.true in
+    notes_none v table _ c.args.work.now (memo_numbers c.args.noted.now) c.requires.noted (λ k h e. absurd (where_none _ _ (ap not known) e))
+
+pub note_parts-returns-in-Unary : goal.note_parts-returns-in-Unary
+note_parts-returns-in-Unary t c =
+    let v = valuation_of_known c.args.known.now in
+    let table = c.args.table.now in
+    subst (λ (x : Expression). Notes v table (λ k. EvaluatesWithin v (table_kinds table) x (at table k)) c.args.work.now c.note_one.new.work (memo_numbers c.args.noted.now) (memo_numbers c.note_one.new.noted)) (sym c.in-Unary.ensures.spells) c.note_one.ensures
+
+pub note_parts-returns-in-Binary : goal.note_parts-returns-in-Binary
+note_parts-returns-in-Binary t c =
+    let v = valuation_of_known c.args.known.now in
+    let table = c.args.table.now in
+    subst (λ (x : Expression). Notes v table (λ k. EvaluatesWithin v (table_kinds table) x (at table k)) c.args.work.now c.note_two.new.work (memo_numbers c.args.noted.now) (memo_numbers c.note_two.new.noted)) (sym c.in-Binary.ensures.spells) c.note_two.ensures
+
+pub note_parts-returns-in-Choice : goal.note_parts-returns-in-Choice
+note_parts-returns-in-Choice t c =
+    let v = valuation_of_known c.args.known.now in
+    let table = c.args.table.now in
+    subst (λ (x : Expression). Notes v table (λ k. EvaluatesWithin v (table_kinds table) x (at table k)) c.args.work.now c.note_choice.new.work (memo_numbers c.args.noted.now) (memo_numbers c.note_choice.new.noted)) (sym c.in-Choice.ensures.spells) c.note_choice.ensures
