@@ -1,95 +1,183 @@
-//! Calls over what is in memory.
+//! The calls of rows, over what is in memory.
 
 use crate::keeping::{Finished, KeepingSpawner};
-use lt_call::{Status, lurette};
-use lt_io::{Calls, MemFiles, MemSink, MemSpawner};
+use crate::plant_link::PlantSpawner;
+use crate::reading::{
+    numbers_of, push_behind, push_unescaped, push_unquoted, told_of_program, value_of,
+};
+use lt_call::lurette;
+use lt_io::{Calls, MemFiles, MemSink, MemSpawner, ScriptLink, Spawner};
 use std::alloc::{AllocError, Global};
-use std::process::Abort;
+use std::str;
 use std::test::Fail;
 
-// The file `f` with a text, and the file `t` with an earlier trace, where there is one.
-pub fn files_of(
-    alloc: Global,
-    text: &[u8],
-    earlier: Option<&[u8]>,
-) -> Result<MemFiles, AllocError> {
-    let mut entries = Vec::new(alloc);
-    push_file(alloc, &mut entries, "f", text)?;
-    if let Some(earlier) = earlier {
-        push_file(alloc, &mut entries, "t", earlier)?;
+// What comes of the call of a row, as text: what `called` tells, what each program was sent, with a line `.` behind it,
+// and the commands that were asked for, a line each.
+pub fn found_of(alloc: Global, row: &str, room: usize) -> Result<String, Fail> {
+    if value_of(row, "beside plants", "").is_some() {
+        return found_beside_plants(alloc, row, room);
     }
+    let mut spawner = KeepingSpawner {
+        programs: programs_of(alloc, row)?,
+        finished: Finished::Nobody,
+        faults: 0,
+    };
+    let mut found = called(alloc, row, room, &mut spawner)?;
+    spawner.finished.write_sent(&mut found)?;
+    push_names(&mut found, &spawner.programs.asked)?;
+    Ok(found)
+}
+
+// The same of a call beside plants, which do not tell what they were sent.
+fn found_beside_plants(alloc: Global, row: &str, room: usize) -> Result<String, Fail> {
+    let mut plants = PlantSpawner {
+        asked: Vec::new(alloc),
+        faults: 0,
+    };
+    let mut found = called(alloc, row, room, &mut plants)?;
+    push_names(&mut found, &plants.asked)?;
+    Ok(found)
+}
+
+fn push_names(text: &mut String, names: &[String]) -> Result<(), AllocError> {
+    for name in names {
+        text.push_str(name)?;
+        text.push_str("\n")?;
+    }
+    Ok(())
+}
+
+// What comes of the call of a row over these programs, with so much room for its trace: the trace, the status, the line
+// that is said, and how many files were asked for.
+pub fn called<S: Spawner>(
+    alloc: Global,
+    row: &str,
+    room: usize,
+    programs: &mut S,
+) -> Result<String, Fail> {
+    let mut words = Vec::new(alloc);
+    push_words(alloc, &mut words, row)?;
+    let mut files = files_of(alloc, row)?;
+    let failing = numbers_of(alloc, value_of(row, "writes fail ", ""))?;
+    let mut trace = MemSink::make(alloc, room, failing)?;
+    call_over(alloc, &words, &mut files, programs, &mut trace)
+}
+
+fn call_over<S: Spawner>(
+    alloc: Global,
+    words: &[String],
+    files: &mut MemFiles,
+    programs: &mut S,
+    trace: &mut MemSink,
+) -> Result<String, Fail> {
+    let mut says = MemSink::make(alloc, 1_000, Vec::new(alloc))?;
+    let code = lurette(alloc, words, files, programs, trace, &mut says).code();
+    let trace = text_of(trace.written());
+    let said = text_of(says.written());
+    let asked = files.asked.len();
+    Ok(format!(in alloc; "{trace}{code} {said}files {asked}\n")?)
+}
+
+pub fn text_of(bytes: &[u8]) -> &str {
+    str::from_utf8(bytes).unwrap_or("what is not text")
+}
+
+// The words of a row, without their escapes.
+fn push_words(alloc: Global, words: &mut Vec<String>, row: &str) -> Result<(), Fail> {
+    for line in row.lines() {
+        for word in line.strip_prefix("$").unwrap_or("").split_whitespace() {
+            words.push(unescaped(alloc, word)?)?;
+        }
+    }
+    Ok(())
+}
+
+fn unescaped(alloc: Global, escaped: &str) -> Result<String, Fail> {
+    let mut text = String::new(alloc);
+    push_unescaped(&mut text, escaped)?;
+    Ok(text)
+}
+
+// The files `f` and, where a row has it, `t`.
+fn files_of(alloc: Global, row: &str) -> Result<MemFiles, Fail> {
+    let mut entries = Vec::new(alloc);
+    push_scenario(alloc, &mut entries, row)?;
+    if let Some(contents) = value_of(row, "t is ", "") {
+        push_earlier(alloc, &mut entries, row, contents)?;
+    }
+    let failing = numbers_of(alloc, value_of(row, "reads fail ", ""))?;
     Ok(MemFiles {
         entries,
         asked: Vec::new(alloc),
-        calls: Calls::new(Vec::new(alloc)),
+        calls: Calls::new(failing),
     })
+}
+
+fn push_scenario(
+    alloc: Global,
+    entries: &mut Vec<(String, Vec<u8>)>,
+    row: &str,
+) -> Result<(), Fail> {
+    let mut text = String::new(alloc);
+    push_behind(&mut text, row, "f is ")?;
+    let _line_feed = text.pop();
+    push_file(alloc, entries, "f", text)
+}
+
+fn push_earlier(
+    alloc: Global,
+    entries: &mut Vec<(String, Vec<u8>)>,
+    row: &str,
+    contents: &str,
+) -> Result<(), Fail> {
+    let mut trace = String::new(alloc);
+    if contents == "its trace" {
+        push_behind(&mut trace, row, "> ")?;
+    } else {
+        push_unquoted(&mut trace, contents)?;
+    }
+    push_file(alloc, entries, "t", trace)
 }
 
 fn push_file(
     alloc: Global,
     entries: &mut Vec<(String, Vec<u8>)>,
     name: &str,
-    contents: &[u8],
-) -> Result<(), AllocError> {
+    contents: String,
+) -> Result<(), Fail> {
     let name = String::from_str(alloc, name)?;
-    entries.push((name, Vec::from_slice(alloc, contents)?))?;
+    entries.push((name, contents.into_bytes()))?;
     Ok(())
 }
 
-// How a call ended: its status, what it wrote, how many files it asked for, the commands that it asked for, and what
-// each program was sent, with a line `.` behind it.
-#[derive(Drop)]
-pub struct Called {
-    pub status: Status,
-    pub trace: MemSink,
-    pub says: MemSink,
-    pub asked: usize,
-    pub commands: Vec<String>,
-    pub sent: Vec<u8>,
-}
-
-// The call with these words, over these files and programs. Its trace goes into this sink.
-pub fn call_over(
-    alloc: Global,
-    words: &[String],
-    mut files: MemFiles,
-    programs: MemSpawner,
-    mut trace: MemSink,
-) -> Result<Called, Fail> {
-    let mut says = MemSink::make(alloc, 1_000, Vec::new(alloc))?;
-    let mut spawner = KeepingSpawner {
-        programs,
-        finished: Finished::Nobody,
-        faults: 0,
-    };
-    let status = lurette(
-        alloc,
-        words,
-        &mut files,
-        &mut spawner,
-        &mut trace,
-        &mut says,
-    );
-    let KeepingSpawner {
-        programs,
-        finished,
-        ..
-    } = spawner;
-    let mut sent = Vec::new(alloc);
-    finished.write_sent(&mut sent)?;
-    Ok(Called {
-        status,
-        trace,
-        says,
-        asked: files.asked.len(),
-        commands: programs.asked,
-        sent,
+fn programs_of(alloc: Global, row: &str) -> Result<MemSpawner, Fail> {
+    let mut links = Vec::new(alloc);
+    push_links(alloc, &mut links, row)?;
+    let failing = numbers_of(alloc, value_of(row, "starts fail ", ""))?;
+    Ok(MemSpawner {
+        links,
+        asked: Vec::new(alloc),
+        calls: Calls::new(failing),
     })
 }
 
-// The status, the trace and the line of a call are these.
-pub fn check(rt: &impl Abort, call: &Called, code: u8, trace: &[u8], says: &str) {
-    assert_eq!(rt; call.status.code(), code);
-    assert_eq!(rt; call.trace.written(), trace);
-    assert_eq!(rt; call.says.written(), says.as_bytes());
+// A link for each program of a row.
+fn push_links(alloc: Global, links: &mut Vec<(String, ScriptLink)>, row: &str) -> Result<(), Fail> {
+    for line in row.lines() {
+        if let Some((program, replies)) = told_of_program(line, "says ") {
+            let link = link_of(alloc, row, program, replies)?;
+            links.push((unescaped(alloc, program)?, link))?;
+        }
+    }
+    Ok(())
+}
+
+fn link_of(alloc: Global, row: &str, program: &str, replies: &str) -> Result<ScriptLink, Fail> {
+    let room = value_of(row, program, " holds ").unwrap_or("100");
+    let room = room.parse::<usize>()?;
+    let cuts = numbers_of(alloc, value_of(row, program, " cuts "))?;
+    let failing = numbers_of(alloc, value_of(row, program, " fails "))?;
+    let mut says = String::new(alloc);
+    push_unquoted(&mut says, replies)?;
+    Ok(ScriptLink::make(alloc, says.into_bytes(), cuts, room, failing)?)
 }

@@ -7,11 +7,14 @@ use std::test::Fail;
 fn what_is_drawn_is_named_by_the_seed(rt: HostRuntime) -> Result<(), Fail> {
     // The same call twice writes the same.
     for _ in 0..2 {
-        check_rows(
-            &rt,
-            7,
-            "",
-            r#"
+        check_rows(&rt, "", 21, DRAWN)?;
+    }
+    Ok(())
+}
+
+const DRAWN: &str = r#"
+## what is drawn is named by the seed
+
 $ run f -l 3 --seed 0
 f is node n() returns (x: int [0;999]) = loop true
 > #seed 0\n#inputs "x":int\n#outputs
@@ -55,19 +58,9 @@ $ run f -l 0 --seed 18446744073709551615
 f is node n() returns (x: int [0;999]) = loop true
 > #seed 18446744073709551615\n#inputs "x":int\n#outputs
 > #end limit 0
-"#,
-        )?;
-    }
-    Ok(())
-}
 
-#[test]
-fn the_first_solution_is_the_first_from_the_drawn_point(rt: HostRuntime) -> Result<(), Fail> {
-    check_rows(
-        &rt,
-        4,
-        "",
-        r#"
+## the first solution is the first from the drawn point
+
 $ run f
 f is node n() returns (a, b: bool) = a or b
 > #seed 0\n#inputs "a":bool "b":bool\n#outputs
@@ -91,23 +84,47 @@ f is node n() returns (x, y: int [0;3]) = loop x + y = 3
 > #seed 0\n#inputs "x":int "y":int\n#outputs
 > #step 1\n0 3 #outs\n#step 2\n0 3 #outs\n#step 3\n1 2 #outs\n#step 4\n0 3 #outs
 > #end limit 4
-"#,
-    )
-}
 
-#[test]
-fn an_alternative_without_weight_is_never_taken(rt: HostRuntime) -> Result<(), Fail> {
-    for seed in 0..10 {
-        let row = format!(in rt.alloc();
-            r#"
-$ run f --seed {seed}
-f is node n() returns (x: int [0;3]) = {{ |0: x = 1 |3: x = 2 }}
-> #seed {seed}\n#inputs "x":int\n#outputs
-> #step 1\n2 #outs
-> #end normal 1
-"#
-        )?;
-        check_rows(&rt, 1, "", &row)?;
-    }
-    Ok(())
-}
+## an alternative without weight is never taken
+f is node n() returns (x: int [0;3]) = { |0: x = 1 |3: x = 2 }
+
+$ run f --seed 0
+> #seed 0\n#inputs "x":int\n#outputs
+> #step 1\n2 #outs\n#end normal 1
+
+$ run f --seed 1
+> #seed 1\n#inputs "x":int\n#outputs
+> #step 1\n2 #outs\n#end normal 1
+
+$ run f --seed 2
+> #seed 2\n#inputs "x":int\n#outputs
+> #step 1\n2 #outs\n#end normal 1
+
+$ run f --seed 3
+> #seed 3\n#inputs "x":int\n#outputs
+> #step 1\n2 #outs\n#end normal 1
+
+$ run f --seed 4
+> #seed 4\n#inputs "x":int\n#outputs
+> #step 1\n2 #outs\n#end normal 1
+
+$ run f --seed 5
+> #seed 5\n#inputs "x":int\n#outputs
+> #step 1\n2 #outs\n#end normal 1
+
+$ run f --seed 6
+> #seed 6\n#inputs "x":int\n#outputs
+> #step 1\n2 #outs\n#end normal 1
+
+$ run f --seed 7
+> #seed 7\n#inputs "x":int\n#outputs
+> #step 1\n2 #outs\n#end normal 1
+
+$ run f --seed 8
+> #seed 8\n#inputs "x":int\n#outputs
+> #step 1\n2 #outs\n#end normal 1
+
+$ run f --seed 9
+> #seed 9\n#inputs "x":int\n#outputs
+> #step 1\n2 #outs\n#end normal 1
+"#;

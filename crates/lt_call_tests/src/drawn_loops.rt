@@ -4,12 +4,14 @@ use crate::rows::check_rows;
 use std::test::Fail;
 
 #[test]
-fn drawn_values_go_to_controllers(rt: HostRuntime) -> Result<(), Fail> {
+fn drawn_values_go_to_programs_and_replies_come_back(rt: HostRuntime) -> Result<(), Fail> {
     check_rows(
         &rt,
-        1,
         "",
+        6,
         r##"
+## drawn values go to controllers
+
 $ run f -l 3 --seed 2616886233101442912 --sut c --oracle o
 f is node n(i: int) returns (x: int [-18;8]) = loop { x >= i }
 c says "# c\n1 0\n4\n+2\n"
@@ -21,17 +23,9 @@ o says "1\ntrue\nt\n"
 > #end limit 3
 c got "0\n1\n0\n"
 o got "0 1\n1 0\n0 4\n"
-"##,
-    )
-}
 
-#[test]
-fn a_late_reply_to_drawn_values_is_malformed(rt: HostRuntime) -> Result<(), Fail> {
-    check_rows(
-        &rt,
-        1,
-        "",
-        r#"
+## a late reply to drawn values is malformed
+
 $ run f -l 3 --seed 4 --locals --sut c
 f is node n(a, b: int; c, d: int = -3) returns (x: int [-3;12] = -3; y, z: int [-2;-2]) = loop { loop { 2 * y <> (-2) } }
 c says "+2\t1\t0\t1\r\n3 #outs -3 #outs -5 #outs -4\n4\t1\t-4\t-"
@@ -41,17 +35,9 @@ c says "+2\t1\t0\t1\r\n3 #outs -3 #outs -5 #outs -4\n4\t1\t-4\t-"
 > #end malformed controller NotAValue 3
 = 7 lurette: malformed controller NotAValue 3 at 46
 c got "10 -2 -2\n1 -2 -2\n10 -2 -2\n"
-"#,
-    )
-}
 
-#[test]
-fn a_reply_out_of_its_range_is_malformed(rt: HostRuntime) -> Result<(), Fail> {
-    check_rows(
-        &rt,
-        1,
-        "",
-        r#"
+## a reply out of its range is malformed
+
 $ run f -l 4 --precision 0 --seed 13 --sut c
 f is node n(y: real [-2.00;2.00]; z: int [0;5]) returns (x: bool) = loop true
 c says "\t-- #outs\n \n 1.005 000000000000000005\n.5  \r\n#outs# \n  0\r\n -- #outs\n0e999 -9 \n "
@@ -61,17 +47,9 @@ c says "\t-- #outs\n \n 1.005 000000000000000005\n.5  \r\n#outs# \n  0\r\n -- #o
 > #end malformed controller OutOfRange 3
 = 7 lurette: malformed controller OutOfRange 3 at 73
 c got "t\nf\nt\n"
-"#,
-    )
-}
 
-#[test]
-fn drawn_values_go_to_oracles(rt: HostRuntime) -> Result<(), Fail> {
-    check_rows(
-        &rt,
-        2,
-        "",
-        r#"
+## drawn values go to oracles
+
 $ run f -l 12 --seed 1 --oracle o
 f is node n() returns (b: bool; x: int [1;2]) = loop { loop [3,3 + 1] b }
 o says "1 1 t\n1\n1 f t t\nt true\nt\nt "
@@ -90,17 +68,9 @@ o says "T\r\nt\nt\r\nt\r\nt\n"
 > #end ended oracle 6
 = 8 lurette: ended oracle 6
 o got "0\n0\n0\n0\n0\n0\n"
-"#,
-    )
-}
 
-#[test]
-fn an_earlier_trace_is_set_freely(rt: HostRuntime) -> Result<(), Fail> {
-    check_rows(
-        &rt,
-        1,
-        "",
-        r#"
+## an earlier trace is set freely
+
 $ run f -l 3 --seed 99 --replay t
 f is node n(y: real; b: bool; z: real) returns (a: bool; x: int [-2;3]) = loop true
 t is "F\r\n\t000000000000000005 \n 000.500\rtrue\t1E+0\r\n\r--\nfalse\r5\n0 \n 0\n  -- c\n0\nt  007\t \n #step 1\n1e1  \n#outs# \n  F\n \n 0.005\n"
@@ -110,6 +80,6 @@ t is "F\r\n\t000000000000000005 \n 000.500\rtrue\t1E+0\r\n\r--\nfalse\r5\n0 \n 0
 > #step 3\nt 1 #outs 10.00 f 0.01
 > #end limit 3
 files 2
-"#,
+"##,
     )
 }

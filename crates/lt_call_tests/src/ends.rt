@@ -1,17 +1,19 @@
 //! How runs end.
 
 use crate::rows::check_rows;
-use crate::scenarios::TOGGLE;
-use std::process::Abort;
 use std::test::Fail;
 
 #[test]
-fn a_run_is_written_to_its_end_or_limit(rt: HostRuntime) -> Result<(), Fail> {
+fn runs_end_for_their_reasons(rt: HostRuntime) -> Result<(), Fail> {
     check_rows(
         &rt,
-        7,
-        TOGGLE,
+        "",
+        33,
         r#"
+## a run is written to its end or limit
+f is node n() returns (b: bool) = b fby not b
+> #seed 0\n#inputs "b":bool\n#outputs
+
 $ run f -l 10
 > #step 1\nt #outs\n#step 2\nf #outs\n#end normal 2
 
@@ -32,17 +34,10 @@ $ run f -l 1000000
 
 $ run f
 > #step 1\nt #outs\n#step 2\nf #outs\n#end normal 2
-"#,
-    )
-}
 
-#[test]
-fn a_loop_is_written_to_its_end_or_limit(rt: HostRuntime) -> Result<(), Fail> {
-    check_rows(
-        &rt,
-        2,
-        r#"> #seed 0\n#inputs "b":bool\n#outputs"#,
-        r#"
+## a loop is written to its end or limit
+> #seed 0\n#inputs "b":bool\n#outputs
+
 $ run f -l 3
 f is node n() returns (b: bool) = loop { loop b }
 > #step 1\nt #outs\n#step 2\nt #outs\n#step 3\nt #outs\n#end limit 3
@@ -51,20 +46,11 @@ f is node n() returns (b: bool) = loop { loop b }
 $ run f
 f is node n() returns (b: bool) = loop false fby { b } -- once
 > #step 1\nt #outs\n#end normal 1
-"#,
-    )
-}
 
-#[test]
-fn deadlocks_end_runs(rt: HostRuntime) -> Result<(), Fail> {
-    check_rows(
-        &rt,
-        4,
-        r#"
+## deadlocks end runs
 $ run f
 > #seed 0\n#inputs "x":int\n#outputs
-"#,
-        r#"
+
 f is node n() returns (x: int [0;3]) = x > 3
 > #end deadlock 1
 = 4 lurette: deadlock 1
@@ -82,37 +68,20 @@ f is node n() returns (x: int [0;3]) = { &> raise Deadlock &> x = 1 }
 f is node n() returns (x: int [0;3]) = { x = 1 fby x > 3 } fby x = 2
 > #step 1\n1 #outs\n#end deadlock 2
 = 4 lurette: deadlock 2
-"#,
-    )
-}
 
-#[test]
-fn a_loop_without_its_turns_deadlocks(rt: HostRuntime) -> Result<(), Fail> {
-    check_rows(
-        &rt,
-        1,
-        "",
-        r#"
+## a loop without its turns deadlocks
+
 -- One turn was asked for, and a turn that takes no instant is none.
 $ run f
 f is node n() returns (b: bool) = loop [1,1] { loop false }
 > #seed 0\n#inputs "b":bool\n#outputs
 > #end deadlock 1
 = 4 lurette: deadlock 1
-"#,
-    )
-}
 
-#[test]
-fn exceptions_that_nothing_catches_end_runs(rt: HostRuntime) -> Result<(), Fail> {
-    check_rows(
-        &rt,
-        4,
-        r#"
+## exceptions that nothing catches end runs
 $ run f
 > #seed 0\n#inputs "x":int\n#outputs
-"#,
-        r#"
+
 f is exception Alarm node n() returns (x: int [0;3]) = { &> loop x = 1 &> raise Alarm }
 > #end raise Alarm 1
 = 5 lurette: raise Alarm 1
@@ -130,20 +99,11 @@ f is exception A, B, C node n() returns (x: int [0;3]) = catch B in { x = 1 fby 
 f is exception A, B node n() returns (x: int [0;3]) = catch A in { x = 1 fby raise A } do { x = 2 fby raise B }
 > #step 1\n1 #outs\n#step 2\n2 #outs\n#end raise B 3
 = 5 lurette: raise B 3
-"#,
-    )
-}
 
-#[test]
-fn arithmetic_faults_end_runs(rt: HostRuntime) -> Result<(), Fail> {
-    check_rows(
-        &rt,
-        5,
-        r#"
+## arithmetic faults end runs
 $ run f
 > #seed 0\n#inputs "x":int\n#outputs
-"#,
-        r#"
+
 f is node n() returns (x: int [0;3]) = x = pre x
 > #end fault NoPrevious 1
 = 6 lurette: fault NoPrevious 1
@@ -164,72 +124,35 @@ f is node n() returns (x: int [0;3]) = { |0 - 1: x = 1 |1: x = 2 }
 f is node n() returns (x: int [0;3]) = x = 2 fby x = 1000000 * (1000000 * pre x)
 > #step 1\n2 #outs\n#end fault Overflow 2
 = 6 lurette: fault Overflow 2
-"#,
-    )
-}
 
-// Sixty choices of two, side by side, behind these declarations, are too much. The last one has this part.
-fn check_sixty_choices(
-    rt: &(impl Abort + AllocGlobal),
-    declared: &str,
-    last: &str,
-) -> Result<(), Fail> {
-    let choices = " &> { |1: b |1: b }".repeat(rt.alloc(), 59)?;
-    let row = format!(in rt.alloc();
-        r#"
+## an instant that offers too much ends a run
+-- Sixty choices of two, side by side, are too much.
 $ run f
-f is {declared}node n() returns (b: bool) = {{{choices} &> {{ |1: b |1: {last} }} }}
 > #seed 0\n#inputs "b":bool\n#outputs
 > #end toolarge 1
 = 14 lurette: toolarge 1
-"#
-    )?;
-    check_rows(rt, 1, "", &row)
-}
 
-#[test]
-fn an_instant_that_offers_too_much_ends_a_run(rt: HostRuntime) -> Result<(), Fail> {
-    check_sixty_choices(&rt, "", "b")?;
-    // What the last side may raise is counted once, however many sides stand before it.
-    check_sixty_choices(&rt, "exception stop ", "raise stop")
-}
+f is node n() returns (b: bool) = {<<59 times  &> { |1: b |1: b }>> &> { |1: b |1: b } }
 
-// A choice of two traces and of these alternatives. Each of the two has fourteen choices of two side by side: once such
-// a choice has 3 leaves and choices, and each further one doubles them and adds one, so fourteen have 32,767.
-fn check_two_halves(
-    rt: &(impl Abort + AllocGlobal),
-    others: &str,
-    outcome: &str,
-) -> Result<(), Fail> {
-    let half = " &> { |1: b |1: b }".repeat(rt.alloc(), 14)?;
-    let row = format!(in rt.alloc();
-        r#"
+-- What the last side may raise is counted once, however many sides stand before it.
+f is exception stop node n() returns (b: bool) = {<<59 times  &> { |1: b |1: b }>> &> { |1: b |1: raise stop } }
+
+## an instant may offer 65536 leaves and choices
+-- Each of two traces has fourteen choices of two side by side: once such a choice has 3 leaves and choices, and each
+-- further one doubles them and adds one, so fourteen have 32,767.
 $ run f
-f is node n() returns (b: bool) = {{ | {{{half} }} | {{{half} }}{others} }}
 > #seed 0\n#inputs "b":bool\n#outputs
-{outcome}
-"#
-    )?;
-    check_rows(rt, 1, "", &row)
-}
 
-#[test]
-fn an_instant_may_offer_65536_leaves_and_choices(rt: HostRuntime) -> Result<(), Fail> {
-    check_two_halves(&rt, " | b", r"> #step 1\nt #outs\n#end normal 1")?;
-    check_two_halves(
-        &rt,
-        " | b | b",
-        "> #end toolarge 1\n= 14 lurette: toolarge 1",
-    )
-}
+f is node n() returns (b: bool) = { | {<<14 times  &> { |1: b |1: b }>> } | {<<14 times  &> { |1: b |1: b }>> } | b }
+> #step 1\nt #outs\n#end normal 1
 
-#[test]
-fn a_search_over_the_budget_ends_a_run(rt: HostRuntime) -> Result<(), Fail> {
-    check_rows(
-        &rt,
-        6,
-        r#"> #seed 0\n#inputs "x":int "y":int "z":int\n#outputs"#,
-        r#"
+f is node n() returns (b: bool) = { | {<<14 times  &> { |1: b |1: b }>> } | {<<14 times  &> { |1: b |1: b }>> } | b | b }
+> #end toolarge 1
+= 14 lurette: toolarge 1
+
+## a search over the budget ends a run
+> #seed 0\n#inputs "x":int "y":int "z":int\n#outputs
+
 -- Three variables of six values each have 216 points, and twice as many are needed.
 $ run f
 f is node n() returns (x, y, z: int [0;5]) = 2 * x + 2 * y + 2 * z = 7

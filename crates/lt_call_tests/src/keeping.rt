@@ -7,7 +7,7 @@ ghost use Rattle.lt_io.specs.MemSpawner.{lefts_of};
 
 use lt_io::{Failed, Link, MemSpawner, ScriptLink, Spawner, StartRefusal};
 use std::alloc::{AllocError, Global};
-use std::mem;
+use std::{mem, str};
 
 // The links that were finished.
 #[derive(Drop)]
@@ -20,11 +20,11 @@ pub enum Finished {
 
 impl Finished {
     // Writes what each link was sent, in the order in which they were finished, with a line `.` behind it.
-    pub fn write_sent(&self, text: &mut Vec<u8>) -> Result<(), AllocError> {
+    pub fn write_sent(&self, text: &mut String) -> Result<(), AllocError> {
         if let Finished::Behind(others, last) = self {
             others.write_sent(text)?;
-            text.extend_from_slice(last.sent())?;
-            text.extend_from_slice(b".\n")?;
+            text.push_str(str::from_utf8(last.sent()).unwrap_or("what is not text"))?;
+            text.push_str(".\n")?;
         }
         Ok(())
     }

@@ -32,6 +32,8 @@ mod played;
 #[cfg(test)]
 mod printed;
 #[cfg(test)]
+mod reading;
+#[cfg(test)]
 mod refused;
 #[cfg(test)]
 mod replayed;
@@ -39,8 +41,6 @@ mod replayed;
 mod replies;
 #[cfg(test)]
 mod rows;
-#[cfg(test)]
-mod scenarios;
 #[cfg(test)]
 mod sides;
 #[cfg(test)]

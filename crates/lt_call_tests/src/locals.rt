@@ -7,9 +7,11 @@ use std::test::Fail;
 fn locals_are_written_where_they_are_in_scope(rt: HostRuntime) -> Result<(), Fail> {
     check_rows(
         &rt,
-        4,
         "",
+        4,
         r#"
+## locals are written where they are in scope
+
 $ run f --locals -l 3
 f is node n() returns (x: int [0;9]) = loop { exist v: int [0;9] = 0 in { x = v and v = pre v + 1 fby x = v and v = pre v + 1 } }
 > #seed 0\n#inputs "x":int\n#outputs\n#locals "v.1":int

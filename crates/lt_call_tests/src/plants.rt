@@ -1,153 +1,107 @@
 //! Runs against plants.
 
-use crate::calling::files_of;
-use crate::plant_link::PlantSpawner;
-use crate::rows::words_of;
-use lt_call::lurette;
-use lt_io::MemSink;
-use std::alloc::Global;
-use std::process::Abort;
+use crate::calling::found_of;
+use crate::rows::check_rows;
+use std::alloc::{AllocError, Global};
 use std::test::Fail;
 
+#[test]
+fn plants_are_tested(rt: HostRuntime) -> Result<(), Fail> {
+    check_rows(
+        &rt,
+        "beside plants",
+        3,
+        r#"
+## a gate is tested
+
+$ run f --sut gate
+f is node n(open: bool) returns (near: bool) = near fby near fby not near fby near
+> #seed 0\n#inputs "near":bool\n#outputs "open":bool
+> #step 1\nt #outs f\n#step 2\nt #outs t\n#step 3\nf #outs f\n#step 4\nt #outs f
+> #end normal 4
+asks gate
+
+## a plant that has no reply ends the run
+f is node n(y: bool) returns (x: int [0;3]) = loop x = 1
+
+$ run f --sut gate
+> #seed 0\n#inputs "x":int\n#outputs "y":bool\n#end device controller 1
+= 9 lurette: device controller 1
+asks gate
+
+$ run f --sut plant
+= 9 lurette: device controller 0
+asks plant
+"#,
+    )
+}
+
 // A room whose heater is under test: it warms up where it is heated, and cools down else.
-const ROOM: &str = "exception Jam
-let within (x, lo, hi: real): bool =
-  lo <= x and x <= hi
-let warm (t, g: real ref): bool =
-  within(t, pre t + g, pre t + g + 0.20)
-let cool (t, g: real ref): bool =
-  within(t, pre t + g - 0.30, pre t + g)
-node room (heat: bool)
-returns (temp: real [-50.0;80.0] = 18.0; door: bool) =
-  exist gust: real [-0.10;0.10] in
-  exist sun: real [0.00;0.05] = 0.00 in
-  assert within(sun, pre sun - 0.01, pre sun + 0.01) in
-  assert if heat then warm(temp, gust) else cool(temp, sun) in
-  {
-    &> loop {
-         |4: loop [3,10] not door
-         |1: loop [1,4] door
-       }
-    &> catch Jam in
-         loop { |99: true |1: raise Jam }
-       do loop temp <= 80.0
-  }";
+const ROOM: &str = r"
+beside plants
+f is exception Jam
+f is let within (x, lo, hi: real): bool =
+f is   lo <= x and x <= hi
+f is let warm (t, g: real ref): bool =
+f is   within(t, pre t + g, pre t + g + 0.20)
+f is let cool (t, g: real ref): bool =
+f is   within(t, pre t + g - 0.30, pre t + g)
+f is node room (heat: bool)
+f is returns (temp: real [-50.0;80.0] = 18.0; door: bool) =
+f is   exist gust: real [-0.10;0.10] in
+f is   exist sun: real [0.00;0.05] = 0.00 in
+f is   assert within(sun, pre sun - 0.01, pre sun + 0.01) in
+f is   assert if heat then warm(temp, gust) else cool(temp, sun) in
+f is   {
+f is     &> loop {
+f is          |4: loop [3,10] not door
+f is          |1: loop [1,4] door
+f is        }
+f is     &> catch Jam in
+f is          loop { |99: true |1: raise Jam }
+f is        do loop temp <= 80.0
+f is   }
+";
 
 const ROOM_HEADER: &str = "#seed 0\n#inputs \"temp\":real \"door\":bool\n#outputs \"heat\":bool\n";
 
-// What a run against plants says, and the trace that it writes.
-#[derive(Drop)]
-struct Ran {
-    code: u8,
-    trace: MemSink,
-    says: MemSink,
-    started: usize,
-}
-
-// The run with these words, of a text against plants, with perhaps an earlier trace.
-fn run_beside_plants(
-    alloc: Global,
-    words: &str,
-    text: &str,
-    earlier: Option<&[u8]>,
-) -> Result<Ran, Fail> {
-    let words = words_of(alloc, words)?;
-    let mut files = files_of(alloc, text.as_bytes(), earlier)?;
-    let mut plants = PlantSpawner {
-        asked: Vec::new(alloc),
-        faults: 0,
-    };
-    let mut trace = MemSink::make(alloc, 10_000, Vec::new(alloc))?;
-    let mut says = MemSink::make(alloc, 1_000, Vec::new(alloc))?;
-    let status = lurette(
-        alloc,
-        &words,
-        &mut files,
-        &mut plants,
-        &mut trace,
-        &mut says,
-    );
-    Ok(Ran {
-        code: status.code(),
-        trace,
-        says,
-        started: plants.asked.len(),
-    })
-}
-
-#[test]
-fn a_gate_is_tested(rt: HostRuntime) -> Result<(), Fail> {
-    let text = "node n(open: bool) returns (near: bool) = near fby near fby not near fby near";
-    let run = run_beside_plants(rt.alloc(), "run f --sut gate", text, None)?;
-    let trace = "#seed 0
-#inputs \"near\":bool
-#outputs \"open\":bool
-#step 1
-t #outs f
-#step 2
-t #outs t
-#step 3
-f #outs f
-#step 4
-t #outs f
-#end normal 4
-";
-    assert_eq!(rt; run.trace.written(), trace.as_bytes());
-    assert_eq!(rt; run.code, 0);
-    Ok(())
-}
-
-// How many lines a text has.
-fn lines_of(text: &[u8]) -> usize {
-    text.iter().filter(|byte| **byte == b'\n').count()
-}
-
-// The run of the room with these words, and perhaps an earlier trace, starts so many plants and writes this trace.
-fn check_room(
-    rt: &(impl Abort + AllocGlobal),
-    words: &str,
-    earlier: Option<&[u8]>,
-    started: usize,
-    trace: &[u8],
-) -> Result<(), Fail> {
-    let run = run_beside_plants(rt.alloc(), words, ROOM, earlier)?;
-    assert_eq!(rt; run.trace.written(), trace);
-    assert_eq!(rt; run.started, started);
-    Ok(())
+// The lines of a row that say the room, and that this trace comes of it.
+fn room_with(alloc: Global, trace: &str) -> Result<String, AllocError> {
+    let mut lines = String::from_str(alloc, ROOM)?;
+    for line in trace.lines() {
+        lines.push_str("> ")?;
+        lines.push_str(line)?;
+        lines.push_str("\n")?;
+    }
+    Ok(lines)
 }
 
 #[test]
 fn a_thermostat_is_tested_for_200_steps(rt: HostRuntime) -> Result<(), Fail> {
-    let run = run_beside_plants(rt.alloc(), "run f --sut thermostat -l 200", ROOM, None)?;
-    let trace = run.trace.written();
-    assert_eq!(rt; run.says.written(), b"".as_slice());
-    assert_eq!(rt; run.code, 0);
-    assert_eq!(rt; run.started, 1);
+    let alloc = rt.alloc();
+    let row = format!(in alloc; "{ROOM}$ run f --sut thermostat -l 200")?;
+    let found = found_of(alloc, &row, 100_000)?;
+    let trace = found.strip_suffix("0 files 1\nthermostat\n").unwrap_or("");
     // The header, two lines of each step, and the end.
-    assert!(rt; trace.starts_with(ROOM_HEADER.as_bytes()));
-    assert_eq!(rt; lines_of(trace), 404);
-    assert!(rt; trace.ends_with(b"\n#end limit 200\n"));
-    // Another program finds nothing wrong, and the trace is played again.
-    let judged = "run f --sut thermostat --oracle safe -l 200";
-    check_room(&rt, judged, None, 2, trace)?;
-    check_room(&rt, "run f --replay t -l 200", Some(trace), 0, trace)
-}
+    assert!(rt;
+        trace.starts_with(ROOM_HEADER) && trace.ends_with("\n#end limit 200\n"),
+        "{found}"
+    );
+    assert_eq!(rt; trace.lines().count(), 404);
+    let shared = room_with(alloc, trace)?;
+    check_rows(
+        &rt,
+        &shared,
+        2,
+        "
+-- Another program finds nothing wrong.
+$ run f --sut thermostat --oracle safe -l 200
+asks thermostat safe
 
-#[test]
-fn a_plant_that_has_no_reply_ends_the_run(rt: HostRuntime) -> Result<(), Fail> {
-    let text = "node n(y: bool) returns (x: int [0;3]) = loop x = 1";
-    for (words, trace, says) in [
-        (
-            "run f --sut gate",
-            "#seed 0\n#inputs \"x\":int\n#outputs \"y\":bool\n#end device controller 1\n",
-            "lurette: device controller 1\n",
-        ),
-        ("run f --sut plant", "", "lurette: device controller 0\n"),
-    ] {
-        let run = run_beside_plants(rt.alloc(), words, text, None)?;
-        assert_eq!(rt; run.trace.written(), trace.as_bytes());
-        assert_eq!(rt; run.says.written(), says.as_bytes());
-        assert_eq!(rt; run.code, 9);
-    }
-    Ok(())
+-- The trace is played again.
+$ run f --replay t -l 200
+t is its trace
+files 2
+",
+    )
 }

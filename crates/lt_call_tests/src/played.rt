@@ -4,12 +4,15 @@ use crate::rows::check_rows;
 use std::test::Fail;
 
 #[test]
-fn priorities_are_played(rt: HostRuntime) -> Result<(), Fail> {
+fn scenarios_are_played(rt: HostRuntime) -> Result<(), Fail> {
     check_rows(
         &rt,
-        3,
-        "$ run f",
+        "",
+        13,
         r#"
+## priorities are played
+$ run f
+
 -- A constraint beside the choice sends it to its second alternative.
 f is node n() returns (x: int [0;3]) = { &> { x = 1 |> x = 2 } &> x <> 1 }
 > #seed 0\n#inputs "x":int\n#outputs
@@ -25,20 +28,11 @@ f is node n() returns (b: bool) = { b |> not b }
 > #seed 0\n#inputs "b":bool\n#outputs
 > #step 1\nt #outs
 > #end normal 1
-"#,
-    )
-}
 
-#[test]
-fn loops_are_played(rt: HostRuntime) -> Result<(), Fail> {
-    check_rows(
-        &rt,
-        2,
-        r#"
+## loops are played
 $ run f
 > #seed 0\n#inputs "x":int\n#outputs
-"#,
-        r#"
+
 f is node n() returns (x: int [0;3]) = loop [2,2] x = 1
 > #step 1\n1 #outs\n#step 2\n1 #outs
 > #end normal 2
@@ -48,36 +42,20 @@ f is node n() returns (x: int [0;3]) = loop [2,2] { loop [2,2] x = 1 fby x = 2 }
 > #step 1\n1 #outs\n#step 2\n1 #outs\n#step 3\n2 #outs
 > #step 4\n1 #outs\n#step 5\n1 #outs\n#step 6\n2 #outs
 > #end normal 6
-"#,
-    )
-}
 
-#[test]
-fn catches_are_played(rt: HostRuntime) -> Result<(), Fail> {
-    check_rows(
-        &rt,
-        2,
-        r#"
+## catches are played
 $ run f
 > #seed 0\n#inputs "x":int\n#outputs
 > #step 1\n1 #outs\n#step 2\n2 #outs
 > #end normal 2
-"#,
-        r#"
+
 f is exception A node n() returns (x: int [0;3]) = catch A in { x = 1 fby raise A } do x = 2
 
 f is node n() returns (x: int [0;3]) = trap A in { x = 1 fby raise A } do x = 2
-"#,
-    )
-}
 
-#[test]
-fn asserts_and_macros_are_played(rt: HostRuntime) -> Result<(), Fail> {
-    check_rows(
-        &rt,
-        2,
-        "$ run f",
-        r#"
+## asserts and macros are played
+$ run f
+
 f is node n() returns (x: int [0;3]) = assert x > 1 in { x < 3 }
 > #seed 0\n#inputs "x":int\n#outputs
 > #step 1\n2 #outs
@@ -87,17 +65,9 @@ f is let both (c, d: trace): trace = { &> c &> d } node n() returns (b: bool) = 
 > #seed 0\n#inputs "b":bool\n#outputs
 > #step 1\nt #outs\n#step 2\nf #outs
 > #end normal 2
-"#,
-    )
-}
 
-#[test]
-fn numbers_and_locals_are_solved(rt: HostRuntime) -> Result<(), Fail> {
-    check_rows(
-        &rt,
-        4,
-        "",
-        r#"
+## numbers and locals are solved
+
 -- 72.9 units are rounded.
 $ run f -l 3
 f is node n() returns (x: real [0.0;10.0] = 1.0) = loop x = 0.9 * pre x

@@ -1,21 +1,9 @@
 //! Texts that are refused.
 
-use crate::rows::{call_of, check_rows, row_of};
-use std::process::Abort;
+use crate::rows::check_rows;
 use std::test::Fail;
 
-// Runs and prints of the texts of these rows are refused.
-fn check_unread(rt: &(impl Abort + AllocGlobal), count: usize, rows: &str) -> Result<(), Fail> {
-    check_rows(rt, count, "$ run f", rows)?;
-    check_rows(rt, count, "$ print f", rows)
-}
-
-#[test]
-fn texts_are_refused_with_their_places(rt: HostRuntime) -> Result<(), Fail> {
-    check_unread(
-        &rt,
-        6,
-        "
+const UNREAD: &str = "
 f is node n() (*
 = 3 lurette: refused lex.OpenComment at 9
 
@@ -33,41 +21,18 @@ f is node n()
 
 f is node n() returns (b: bool) = b fby
 = 3 lurette: refused parse.Unexpected at 34
-",
-    )?;
-    let deep = "(".repeat(rt.alloc(), 201)?;
-    let row = format!(in rt.alloc();
-        "
-f is node n() returns (b: bool) = {deep}
+
+f is node n() returns (b: bool) = <<201 times (>>
 = 3 lurette: refused parse.TooDeep at 229
-"
-    )?;
-    check_unread(&rt, 1, &row)
-}
-
-// The texts of these rows are printed by a call with these words, or with those of a row.
-fn check_printed(rt: &(impl Abort + AllocGlobal), words: &str, rows: &str) -> Result<(), Fail> {
-    for lines in rows.trim().split("\n\n") {
-        let row = row_of(rt.alloc(), words, lines)?;
-        let print = call_of(rt.alloc(), &row)?;
-        assert_eq!(rt; print.status.code(), 0, "in {row}");
-    }
-    Ok(())
-}
-
-// With and without decimals.
-fn check_types(rt: &(impl Abort + AllocGlobal), count: usize, rows: &str) -> Result<(), Fail> {
-    check_rows(rt, count, "$ run f --precision 6", rows)?;
-    check_rows(rt, count, "$ run f --precision 0", rows)?;
-    check_printed(rt, "$ print f", rows)
-}
+";
 
 #[test]
-fn programs_that_break_a_rule_of_types_are_refused(rt: HostRuntime) -> Result<(), Fail> {
-    check_types(
-        &rt,
-        8,
-        "
+fn texts_are_refused_with_their_places(rt: HostRuntime) -> Result<(), Fail> {
+    check_rows(&rt, "$ run f", 7, UNREAD)?;
+    check_rows(&rt, "$ print f", 7, UNREAD)
+}
+
+const ILL_TYPED: &str = "
 = 3 lurette: refused type.NoNode
 
 f is exception A
@@ -90,17 +55,70 @@ f is node n() returns (x: int [3;0]) = true
 
 f is let m(): int = 1 node n() returns (b: bool) = pre m
 = 3 lurette: refused type.PreOfExpression at 50
-",
-    )
+";
+
+// They are printed, which needs no types.
+#[test]
+fn programs_that_break_a_rule_of_types_are_refused(rt: HostRuntime) -> Result<(), Fail> {
+    check_rows(&rt, "$ run f --precision 6", 8, ILL_TYPED)?;
+    check_rows(&rt, "$ run f --precision 0", 8, ILL_TYPED)?;
+    check_rows(&rt, "$ print f\nis printed", 8, ILL_TYPED)
+}
+
+const WITHOUT_SCENARIO: &str = "
+## nodes without a scenario are refused
+
+$ f --node m
+f is node n() returns (b: bool) = b fby not b
+= 3 lurette: refused expand.UnknownNode
+
+$ f --node m
+f is let m: bool = true node n() returns (b: bool) = b
+= 3 lurette: refused expand.UnknownNode
+
+$ f --node n
+f is node n() returns (b: bool) = loop [2,1] b
+= 3 lurette: refused expand.BadStatic at 35
+
+$ f --node n
+f is node n() returns (x, y: int [0;3]) = x * y = 2
+= 3 lurette: refused expand.NonLinear at 37
+
+$ f --node n
+f is node n() returns (b: bool; x: int [0;3]) = (if b then x else 1) = 2
+= 3 lurette: refused expand.ControllableCondition at 44
+
+$ f --node n
+f is node n() returns (x: int [0;3]) = { |x: x = 1 |1: x = 2 }
+= 3 lurette: refused expand.ControllableWeight at 37
+
+## inputs that nobody gives are refused
+
+$ f --node n
+f is node n(y: bool) returns (b: bool) = b
+= 3 lurette: refused run.NeedsController
+
+$ f --node n
+f is node n(y: int) returns (x: int [0;3]) = loop x = 1
+= 3 lurette: refused run.NeedsController
+";
+
+#[test]
+fn nodes_without_a_scenario_are_refused(rt: HostRuntime) -> Result<(), Fail> {
+    check_rows(&rt, "$ run", 8, WITHOUT_SCENARIO)?;
+    check_rows(&rt, "$ print\nis printed", 8, WITHOUT_SCENARIO)
 }
 
 #[test]
-fn a_range_is_judged_by_its_decimals(rt: HostRuntime) -> Result<(), Fail> {
+fn ranges_are_judged_and_macros_put_in(rt: HostRuntime) -> Result<(), Fail> {
     check_rows(
         &rt,
-        2,
-        "f is node n() returns (x: real [0.3;0.2]) = true",
+        "",
+        5,
         r#"
+## a range is judged by its decimals
+f is node n() returns (x: real [0.3;0.2]) = true
+
 $ run f --precision 6
 = 3 lurette: refused type.EmptyRange at 27
 
@@ -109,80 +127,14 @@ $ run f --precision 0
 > #seed 0\n#inputs "x":real\n#outputs
 > #step 1\n0 #outs
 > #end normal 1
-"#,
-    )
-}
 
-// Runs by these rows are refused, and the texts are printed.
-fn check_refused(rt: &(impl Abort + AllocGlobal), count: usize, rows: &str) -> Result<(), Fail> {
-    check_rows(rt, count, "", rows)?;
-    let prints = rows.replace(rt.alloc(), "$ run ", "$ print ")?;
-    check_printed(rt, "", &prints)
-}
-
-#[test]
-fn nodes_without_a_scenario_are_refused(rt: HostRuntime) -> Result<(), Fail> {
-    check_refused(
-        &rt,
-        6,
-        "
-$ run f --node m
-f is node n() returns (b: bool) = b fby not b
-= 3 lurette: refused expand.UnknownNode
-
-$ run f --node m
-f is let m: bool = true node n() returns (b: bool) = b
-= 3 lurette: refused expand.UnknownNode
-
-$ run f --node n
-f is node n() returns (b: bool) = loop [2,1] b
-= 3 lurette: refused expand.BadStatic at 35
-
-$ run f --node n
-f is node n() returns (x, y: int [0;3]) = x * y = 2
-= 3 lurette: refused expand.NonLinear at 37
-
-$ run f --node n
-f is node n() returns (b: bool; x: int [0;3]) = (if b then x else 1) = 2
-= 3 lurette: refused expand.ControllableCondition at 44
-
-$ run f --node n
-f is node n() returns (x: int [0;3]) = { |x: x = 1 |1: x = 2 }
-= 3 lurette: refused expand.ControllableWeight at 37
-",
-    )
-}
-
-#[test]
-fn inputs_that_nobody_gives_are_refused(rt: HostRuntime) -> Result<(), Fail> {
-    check_refused(
-        &rt,
-        2,
-        "
-$ run f --node n
-f is node n(y: bool) returns (b: bool) = b
-= 3 lurette: refused run.NeedsController
-
-$ run f --node n
-f is node n(y: int) returns (x: int [0;3]) = loop x = 1
-= 3 lurette: refused run.NeedsController
-",
-    )
-}
-
-// A program of two nodes, macros and an exception that nobody raises.
-#[test]
-fn a_node_is_run_with_its_macros_away(rt: HostRuntime) -> Result<(), Fail> {
-    check_rows(
-        &rt,
-        3,
-        "
+## a node is run with its macros away
+-- A program of two nodes, macros and an exception that nobody raises.
 f is exception e
 f is let twice (c: bool): trace = { c fby c }
 f is node n() returns (b: bool = false) = twice(b)
 f is node m() returns (a: bool; b: bool) = let other: bool = not a in let a: bool = true in twice(other and a) fby b
-",
-        r#"
+
 $ run f
 > #seed 0\n#inputs "b":bool\n#outputs
 > #step 1\nt #outs\n#step 2\nt #outs

@@ -1,16 +1,19 @@
 //! Large runs.
 
-use crate::calling::check;
-use crate::rows::{call_of, check_rows};
+use crate::calling::found_of;
+use crate::rows::check_rows;
 use std::test::Fail;
 
 #[test]
-fn a_large_run_is_told_by_its_line(rt: HostRuntime) -> Result<(), Fail> {
+fn large_runs_are_told_by_their_lines(rt: HostRuntime) -> Result<(), Fail> {
     check_rows(
         &rt,
-        4,
-        "files 0",
+        "",
+        5,
         "
+## a large run is told by its line
+files 0
+
 $ stress 6
 > stress 6 vars 2 steps 106 sum 9489
 
@@ -22,23 +25,24 @@ $ stress 007
 
 $ stress 6 --sut p --replay r
 > stress 6 vars 2 steps 106 sum 9489
+
+## a line that cannot be written is blamed on the trace
+files 0
+
+$ stress 6
+trace holds 9
+> stress 6 vars 2 steps 106 sum 9489
+= 9 lurette: device trace 0
 ",
     )
 }
 
 #[test]
 fn a_large_run_whose_need_is_over_the_budget_writes_nothing(rt: HostRuntime) -> Result<(), Fail> {
-    let call = call_of(rt.alloc(), "$ stress 5")?;
-    assert_eq!(rt; call.status.code(), 10);
-    assert!(rt; call.trace.written().is_empty());
-    assert!(rt; call.says.written().starts_with(b"lurette: budget "));
-    assert_eq!(rt; call.asked, 0);
-    Ok(())
-}
-
-#[test]
-fn a_line_that_cannot_be_written_is_blamed_on_the_trace(rt: HostRuntime) -> Result<(), Fail> {
-    let call = call_of(rt.alloc(), "$ stress 6\ntrace holds 9")?;
-    check(&rt, &call, 9, b"stress 6 ", "lurette: device trace 0\n");
+    let found = found_of(rt.alloc(), "$ stress 5", 100_000)?;
+    assert!(rt;
+        found.starts_with("10 lurette: budget ") && found.ends_with("\nfiles 0\n"),
+        "{found}"
+    );
     Ok(())
 }
