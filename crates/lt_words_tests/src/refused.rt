@@ -3,7 +3,8 @@
 use crate::rows::check;
 use std::test::Fail;
 
-const INCOMPLETE: &str = "\
+const REFUSED: &str = "
+## a mode and a file are wanted
 ==> Usage(Words)
 walk ==> Usage(Words)
 print ==> Usage(Words)
@@ -13,14 +14,9 @@ run -- ==> Usage(Words)
 -- ==> Usage(Words)
 run f g ==> Usage(Words)
 run -- f -l 5 ==> Usage(Words)
-print f --locals yes ==> Usage(Words)";
+print f --locals yes ==> Usage(Words)
 
-#[test]
-fn a_mode_and_a_file_are_wanted(rt: HostRuntime) -> Result<(), Fail> {
-    check(&rt, INCOMPLETE, 10)
-}
-
-const HELP: &str = "\
+## help is refused wherever it is asked for
 --help ==> Usage(Words)
 -h ==> Usage(Words)
 run --help ==> Usage(Words)
@@ -32,14 +28,9 @@ run f --sut c --replay t -h ==> Usage(Words)
 run f -lh ==> Usage(Words)
 --version ==> Usage(Words)
 -V ==> Usage(Words)
-run f --version ==> Usage(Words)";
+run f --version ==> Usage(Words)
 
-#[test]
-fn help_is_refused_wherever_it_is_asked_for(rt: HostRuntime) -> Result<(), Fail> {
-    check(&rt, HELP, 12)
-}
-
-const UNKNOWN: &str = "\
+## unknown options are refused
 run f --draw 3 ==> Usage(Words)
 run f --zz=5 ==> Usage(Words)
 run f -x ==> Usage(Words)
@@ -47,14 +38,9 @@ run f --see 5 ==> Usage(Words)
 run f --seed5 ==> Usage(Words)
 run f --limit 5 ==> Usage(Words)
 run f -seed 5 ==> Usage(Words)
-run f --LOCALS ==> Usage(Words)";
+run f --LOCALS ==> Usage(Words)
 
-#[test]
-fn unknown_options_are_refused(rt: HostRuntime) -> Result<(), Fail> {
-    check(&rt, UNKNOWN, 8)
-}
-
-const REPEATED: &str = "\
+## an option is given once
 run f -l 5 -l 5 ==> Usage(Words)
 run f -l5 -l=5 ==> Usage(Words)
 -l 5 run f -l 5 ==> Usage(Words)
@@ -64,14 +50,9 @@ run f --budget 5 --budget 5 ==> Usage(Words)
 run f --node n --node m ==> Usage(Words)
 run f --sut c --sut c ==> Usage(Words)
 run f --oracle o --replay t --oracle o ==> Usage(Words)
-run f --locals --locals ==> Usage(Words)";
+run f --locals --locals ==> Usage(Words)
 
-#[test]
-fn an_option_is_given_once(rt: HostRuntime) -> Result<(), Fail> {
-    check(&rt, REPEATED, 10)
-}
-
-const WORDLESS: &str = "\
+## an option has its word and a flag has none
 run f -l ==> Usage(Words)
 run f --seed ==> Usage(Words)
 run f --node ==> Usage(Words)
@@ -81,14 +62,9 @@ run f --oracle --locals ==> Usage(Words)
 run f --node -x ==> Usage(Words)
 run f --sut -- c ==> Usage(Words)
 run f --locals=yes ==> Usage(Words)
-run f --locals= ==> Usage(Words)";
+run f --locals= ==> Usage(Words)
 
-#[test]
-fn an_option_has_its_word_and_a_flag_has_none(rt: HostRuntime) -> Result<(), Fail> {
-    check(&rt, WORDLESS, 10)
-}
-
-const NUMBERS: &str = "\
+## numbers lie within their bounds
 run f -l 1000001 ==> Usage(Words)
 run f -l= ==> Usage(Words)
 run f -l -1 ==> Usage(Words)
@@ -106,35 +82,20 @@ run f --precision 2.0 ==> Usage(Words)
 run f --precision= ==> Usage(Words)
 print f --budget 0 ==> Usage(Words)
 run f --budget=00 ==> Usage(Words)
-print f --budget 1000000000001 ==> Usage(Words)";
+print f --budget 1000000000001 ==> Usage(Words)
 
-#[test]
-fn numbers_lie_within_their_bounds(rt: HostRuntime) -> Result<(), Fail> {
-    check(&rt, NUMBERS, 18)
-}
+## an empty word is no number
+run f -l '' ==> Usage(Words)
 
-const EMPTY: &str = "\
-run f -l '' ==> Usage(Words)";
-
-#[test]
-fn an_empty_word_is_no_number(rt: HostRuntime) -> Result<(), Fail> {
-    check(&rt, EMPTY, 1)
-}
-
-const MODES: &str = "\
+## there is no other mode
 walk f ==> Usage(Mode)
 Run f ==> Usage(Mode)
 prints f ==> Usage(Mode)
 f run ==> Usage(Mode)
 -l 5 walk --node n f ==> Usage(Mode)
-walk f --sut c --replay t ==> Usage(Mode)";
+walk f --sut c --replay t ==> Usage(Mode)
 
-#[test]
-fn there_is_no_other_mode(rt: HostRuntime) -> Result<(), Fail> {
-    check(&rt, MODES, 6)
-}
-
-const LARGE: &str = "\
+## a large run has a number of digits alone
 stress x ==> Usage(Number)
 stress 1000000 ==> Usage(Number)
 stress +6 ==> Usage(Number)
@@ -144,19 +105,15 @@ stress 6.0 ==> Usage(Number)
 stress 99999999999999999999999 ==> Usage(Number)
 stress -- -6 ==> Usage(Number)
 stress +6 --sut c --replay t ==> Usage(Number)
-stress - ==> Usage(Number)";
+stress - ==> Usage(Number)
 
-#[test]
-fn a_large_run_has_a_number_of_digits_alone(rt: HostRuntime) -> Result<(), Fail> {
-    check(&rt, LARGE, 10)
-}
-
-const GIVERS: &str = "\
+## a run has one giver of replies
 run f --sut c --replay t ==> Usage(Both)
 --replay=t --sut=c run f ==> Usage(Both)
-run --replay t f --locals --sut c ==> Usage(Both)";
+run --replay t f --locals --sut c ==> Usage(Both)
+";
 
 #[test]
-fn a_run_has_one_giver_of_replies(rt: HostRuntime) -> Result<(), Fail> {
-    check(&rt, GIVERS, 3)
+fn wrong_words_are_refused_by_their_kind(rt: HostRuntime) -> Result<(), Fail> {
+    check(&rt, REFUSED, 88)
 }

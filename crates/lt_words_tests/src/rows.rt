@@ -2,7 +2,7 @@
 //!
 //! A table is a text, which is cheaper to prove than values. Each of its lines is a row: the words of a call, the sign
 //! `==>`, and the request in a line, or the refusal. Words are split at blanks; one that is empty or has blanks in it
-//! stands between two signs `'`.
+//! stands between two signs `'`. A line that begins with `## ` says what the rows behind it show.
 
 use lt_words::requested;
 use std::alloc::{AllocError, Global};
@@ -63,9 +63,11 @@ fn check_row(rt: &(impl Abort + AllocGlobal), row: &str) -> Result<(), Fail> {
 /// The same of each row of a table, which has so many.
 pub fn check(rt: &(impl Abort + AllocGlobal), table: &str, count: usize) -> Result<(), Fail> {
     let mut found = 0usize;
-    for row in table.trim().lines() {
-        check_row(rt, row)?;
-        found = found.saturating_add(1);
+    for row in table.lines() {
+        if !row.is_empty() && !row.starts_with("## ") {
+            check_row(rt, row)?;
+            found = found.saturating_add(1);
+        }
     }
     assert_eq!(rt; found, count, "rows");
     Ok(())
