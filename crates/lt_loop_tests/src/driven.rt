@@ -8,7 +8,7 @@ use crate::echo::Echo;
 use lt_drive::{Driven, drive};
 use lt_io::{MemSink, ScriptLink};
 use lt_loop::{Core, Machine, Setup, Talk, Wants};
-use std::alloc::{AllocError, Global};
+use std::alloc::Global;
 use std::process::Abort;
 use std::str::from_utf8;
 use std::test::Fail;
@@ -47,16 +47,6 @@ struct Script<'a> {
     oracle: Said<'a>,
     // how much of the trace there is room for
     room: usize,
-}
-
-// What came of a run.
-#[derive(Clone, Copy)]
-struct Seen<'a> {
-    driven: Driven,
-    steps: u64,
-    controller: &'a ScriptLink,
-    oracle: &'a ScriptLink,
-    trace: &'a MemSink,
 }
 
 impl Said<'_> {
@@ -112,8 +102,8 @@ fn drive_echo(alloc: Global, script: Script<'_>, header: &str) -> Result<String,
         },
         oracle: script.has_oracle,
     };
-    let core = Core::make(alloc, Echo::make(alloc)?, setup)?;
-    drive_over(alloc, core, script, header)
+    let mut core = Core::make(alloc, Echo::make(alloc)?, setup)?;
+    drive_over(alloc, &mut core, script, header)
 }
 
 // Drives a run that has no sides, of at most four steps, over links that fail at each call. There is memory for so many
@@ -127,54 +117,52 @@ fn drive_alone(alloc: Global, room: u64) -> Result<String, Fail> {
         oracle: false,
     };
     let dead = Said::apart("7 ", EACH.as_slice());
-    let core = Core::make(alloc, Alone::make(alloc, room)?, setup)?;
-    drive_over(alloc, core, three_steps(dead, dead), LONE_HEADER)
+    let mut core = Core::make(alloc, Alone::make(alloc, room)?, setup)?;
+    drive_over(alloc, &mut core, three_steps(dead, dead), LONE_HEADER)
 }
 
 // Drives a run over the links and the sink of a script, and tells what came of it, with its trace behind this header.
-fn drive_over<M: Machine + Drop>(
+fn drive_over<M: Machine>(
     alloc: Global,
-    mut core: Core<M>,
+    core: &mut Core<M>,
     script: Script<'_>,
     header: &str,
 ) -> Result<String, Fail>
-    requires { WantsTell (standing core) Wants.Turn }
+    requires { WantsTell (standing core.old) Wants.Turn }
 {
     let mut controller = script.controller.link(alloc)?;
     let mut oracle = script.oracle.link(alloc)?;
     let mut trace = MemSink::make(alloc, script.room, Vec::new(alloc))?;
-    let driven = drive(&mut core, &mut controller, &mut oracle, &mut trace);
-    let seen = Seen {
-        driven,
-        steps: core.steps(),
-        controller: &controller,
-        oracle: &oracle,
-        trace: &trace,
-    };
-    Ok(seen.shown(alloc, header)?)
+    let driven = drive(core, &mut controller, &mut oracle, &mut trace);
+    let steps = core.steps();
+    shown(alloc, header, driven, steps, &controller, &oracle, &trace)
 }
 
-impl Seen<'_> {
-    // What came of a run, as text: the trace behind its header, what the controller was sent and the oracle was shown,
-    // and how the driving ended, after how many steps, with how many faults of the controller, of the oracle and of the
-    // trace.
-    fn shown(&self, alloc: Global, header: &str) -> Result<String, AllocError> {
-        let trace = self.trace.written();
-        let lines = trace
-            .strip_prefix(header.as_bytes())
-            .unwrap_or(b"no header");
-        let lines = from_utf8(lines).unwrap_or("no text");
-        let sent = from_utf8(self.controller.sent()).unwrap_or("no text");
-        let shown = from_utf8(self.oracle.sent()).unwrap_or("no text");
-        let driven = self.driven;
-        let steps = self.steps;
-        let controller = self.controller.faults();
-        let oracle = self.oracle.faults();
-        let faults = self.trace.faults();
-        format!(in alloc;
-            "{lines}sent {sent:?}, shown {shown:?}\n{driven:?} after {steps}, faults {controller} {oracle} {faults}"
-        )
-    }
+// What came of a run, as text: the trace behind its header, what the controller was sent and the oracle was shown, and
+// how the driving ended, after how many steps, with how many faults of the controller, of the oracle and of the trace.
+fn shown(
+    alloc: Global,
+    header: &str,
+    driven: Driven,
+    steps: u64,
+    controller: &ScriptLink,
+    oracle: &ScriptLink,
+    trace: &MemSink,
+) -> Result<String, Fail> {
+    let lines = text_of(trace.written());
+    let lines = lines.strip_prefix(header).unwrap_or("no header");
+    let sent = text_of(controller.sent());
+    let shown = text_of(oracle.sent());
+    let controller = controller.faults();
+    let oracle = oracle.faults();
+    let trace = trace.faults();
+    Ok(format!(in alloc;
+        "{lines}sent {sent:?}, shown {shown:?}\n{driven:?} after {steps}, faults {controller} {oracle} {trace}"
+    )?)
+}
+
+fn text_of(bytes: &[u8]) -> &str {
+    from_utf8(bytes).unwrap_or("no text")
 }
 
 // This comes of a script for the machine that gives back what it is given.
@@ -212,8 +200,8 @@ fn replies_come_in_pieces_of_any_length(rt: HostRuntime) -> Result<(), Fail> {
     Ok(())
 }
 
-// What comes of a controller whose first call fails, or its second, its third or its fourth.
-const FAILING_CONTROLLERS: &str = r#"#end device controller 1
+// What comes of a controller whose first call fails, or its second, its third or its fourth, and then of such an oracle.
+const FAILING_SIDES: &str = r#"#end device controller 1
 sent "", shown ""
 Ended(Device(Controller)) after 0, faults 1 0 0
 
@@ -231,23 +219,9 @@ Ended(Device(Controller)) after 1, faults 1 0 0
 5 #outs 7
 #end device controller 2
 sent "5\n7\n", shown "5 7\n"
-Ended(Device(Controller)) after 1, faults 1 0 0"#;
+Ended(Device(Controller)) after 1, faults 1 0 0
 
-#[test]
-fn a_controller_that_fails_ends_the_run(rt: HostRuntime) -> Result<(), Fail> {
-    let mut dues = FAILING_CONTROLLERS.split("\n\n");
-    for call in 0..4u64 {
-        let failing = [call];
-        let controller = Said::apart(REPLIES, failing.as_slice());
-        let script = three_steps(controller, Said::apart(VERDICTS, &[]));
-        check(&rt, rt.alloc(), script, dues.next().unwrap_or(""))?;
-    }
-    assert_eq!(rt; dues.next(), None);
-    Ok(())
-}
-
-// What comes of such an oracle.
-const FAILING_ORACLES: &str = r#"#end device oracle 1
+#end device oracle 1
 sent "5\n", shown ""
 Ended(Device(Oracle)) after 0, faults 0 1 0
 
@@ -268,15 +242,19 @@ sent "5\n7\n", shown "5 7\n7 8\n"
 Ended(Device(Oracle)) after 1, faults 0 1 0"#;
 
 #[test]
-fn an_oracle_that_fails_ends_the_run(rt: HostRuntime) -> Result<(), Fail> {
-    let mut dues = FAILING_ORACLES.split("\n\n");
-    for call in 0..4u64 {
-        let failing = [call];
-        let oracle = Said::apart(VERDICTS, failing.as_slice());
-        let script = three_steps(Said::apart(REPLIES, &[]), oracle);
+fn a_side_that_fails_ends_the_run(rt: HostRuntime) -> Result<(), Fail> {
+    let mut dues = FAILING_SIDES.split("\n\n");
+    for call in 0..8u64 {
+        let failing = [call % 4];
+        let controller = if call < 4 { failing.as_slice() } else { &[] };
+        let oracle = if call < 4 { &[] } else { failing.as_slice() };
+        let script = three_steps(
+            Said::apart(REPLIES, controller),
+            Said::apart(VERDICTS, oracle),
+        );
         check(&rt, rt.alloc(), script, dues.next().unwrap_or(""))?;
     }
-    assert_eq!(rt; dues.next(), None);
+    assert!(rt; dues.next().is_none());
     Ok(())
 }
 
@@ -309,9 +287,12 @@ fn a_trace_without_room_ends_the_driving(rt: HostRuntime) -> Result<(), Fail> {
         let found = drive_echo(rt.alloc(), script, "")?;
         let traced = text.get(..room).unwrap_or("no such place");
         let behind = found.strip_prefix(traced).unwrap_or("another trace");
-        assert!(rt; behind.starts_with("sent "), "{found}");
-        assert!(rt; behind.contains(untraced), "{found}");
-        assert!(rt; behind.ends_with(" faults 0 0 1"), "{found}");
+        assert!(rt;
+            behind.starts_with("sent ")
+                && behind.contains(untraced)
+                && behind.ends_with(" faults 0 0 1"),
+            "{found}"
+        );
     }
     Ok(())
 }

@@ -8,7 +8,7 @@ use crate::echo::Echo;
 use lt_io::{Calls, MemSink, MemSpawner, ScriptLink};
 use lt_loop::{Core, Machine, Setup, Talk, Wants};
 use lt_session::{Played, Sides, Source, play};
-use std::alloc::{AllocError, Global};
+use std::alloc::Global;
 use std::process::Abort;
 use std::str::from_utf8;
 use std::test::Fail;
@@ -43,24 +43,24 @@ fn play_echo(alloc: Global, sides: Sides<'_>, programs: &[Program<'_>]) -> Resul
         },
         oracle: sides.oracle.is_some(),
     };
-    let core = Core::make(alloc, Echo::make(alloc)?, setup)?;
-    play_over(alloc, core, sides, programs)
+    let mut core = Core::make(alloc, Echo::make(alloc)?, setup)?;
+    play_over(alloc, &mut core, sides, programs)
 }
 
 // Plays a run, with these programs and a sink in memory, and tells what came of it: the trace, how the run ended, the
 // commands that were asked for, and how many faults were counted.
-fn play_over<M: Machine + Drop>(
+fn play_over<M: Machine>(
     alloc: Global,
-    mut core: Core<M>,
+    core: &mut Core<M>,
     sides: Sides<'_>,
     programs: &[Program<'_>],
 ) -> Result<String, Fail>
-    requires { WantsTell (standing core) Wants.Turn }
+    requires { WantsTell (standing core.old) Wants.Turn }
 {
     let mut spawner = spawner_of(alloc, programs)?;
     let mut trace = MemSink::make(alloc, 1000, Vec::new(alloc))?;
-    let played = play(alloc, &mut core, sides, &mut spawner, &mut trace);
-    Ok(shown(alloc, played, &spawner, &trace)?)
+    let played = play(alloc, core, sides, &mut spawner, &mut trace);
+    shown(alloc, played, &spawner, &trace)
 }
 
 // What came of a run, as text.
@@ -69,11 +69,11 @@ fn shown(
     played: Played,
     spawner: &MemSpawner,
     trace: &MemSink,
-) -> Result<String, AllocError> {
+) -> Result<String, Fail> {
     let trace = from_utf8(trace.written()).unwrap_or("no text");
     let asked = &spawner.asked;
     let faults = spawner.calls.faults;
-    format!(in alloc; "{trace}{played:?}, asked for {asked:?}, {faults} faults")
+    Ok(format!(in alloc; "{trace}{played:?}, asked for {asked:?}, {faults} faults")?)
 }
 
 // This comes of a run of the machine that gives back what it is given.
@@ -146,12 +146,12 @@ fn a_run_without_a_controller_starts_nothing(rt: HostRuntime) -> Result<(), Fail
         controller: Talk::Nobody,
         oracle: false,
     };
-    let core = Core::make(rt.alloc(), Alone::make(rt.alloc(), 9)?, setup)?;
+    let mut core = Core::make(rt.alloc(), Alone::make(rt.alloc(), 9)?, setup)?;
     let sides = Sides {
         controller: Source::Nobody,
         oracle: None,
     };
-    let found = play_over(rt.alloc(), core, sides, &[("car", "7\n", &[])])?;
+    let found = play_over(rt.alloc(), &mut core, sides, &[("car", "7\n", &[])])?;
     let due = r#"#seed 0
 #inputs "x":int
 #outputs

@@ -131,18 +131,19 @@ fn a_fault_ends_the_run_and_nothing_comes_after(rt: HostRuntime) -> Result<(), F
         oracle: false,
     };
     let mut core = Core::make(alloc, Echo::make(alloc)?, setup)?;
-    assert!(rt; core.event(Event::Turn).piece == Some(PieceKind::Header));
-    assert!(rt; core.event(Event::Turn).piece == Some(PieceKind::Outputs));
-    let emits = core.event(Event::OracleBytes(b"t"));
-    assert!(rt; emits.taken == 0 && emits.piece == None && emits.wants == Wants::Controller);
-    let emits = core.event(Event::ControllerBytes(b"5\n6\n"));
-    assert!(rt; emits.taken == 4 && emits.piece == Some(PieceKind::Step));
-    let emits = core.event(Event::ControllerFault);
-    let end = End::Device(Who::Controller);
-    assert!(rt; emits.piece == Some(PieceKind::EndLine) && emits.wants == Wants::Nothing(end));
-    assert_eq!(rt; core.text(), b"#end device controller 2\n".as_slice());
-    let emits = core.event(Event::ControllerBytes(b"7\n"));
-    assert!(rt; emits.taken == 0 && emits.piece == None && emits.wants == Wants::Nothing(end));
+    let header = core.event(Event::Turn).piece;
+    let outputs = core.event(Event::Turn).piece;
+    let unheard = core.event(Event::OracleBytes(b"t"));
+    let step = core.event(Event::ControllerBytes(b"5\n6\n"));
+    let fault = core.event(Event::ControllerFault);
+    let is_end_line = core.text() == b"#end device controller 2\n".as_slice();
+    let after = core.event(Event::ControllerBytes(b"7\n"));
+    let end = Wants::Nothing(End::Device(Who::Controller));
+    assert!(rt; header == Some(PieceKind::Header) && outputs == Some(PieceKind::Outputs));
+    assert!(rt; unheard.taken == 0 && unheard.piece == None && unheard.wants == Wants::Controller);
+    assert!(rt; step.taken == 4 && step.piece == Some(PieceKind::Step));
+    assert!(rt; fault.piece == Some(PieceKind::EndLine) && fault.wants == end && is_end_line);
+    assert!(rt; after.taken == 0 && after.piece == None && after.wants == end);
     assert!(rt; core.steps() == 1);
     Ok(())
 }
