@@ -4,7 +4,7 @@ use lt_prepare::Refusal;
 use lt_rif::End;
 
 /// How a large run ends.
-#[derive(Clone, Copy, Debug, PartialEq, Eq)]
+#[derive(Clone, Copy)]
 pub enum Stressed {
     /// The run ended by its limit, and its line was written.
     Done,
