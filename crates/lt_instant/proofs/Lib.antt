@@ -18,3 +18,4 @@ pub mod Solves
 pub mod Ranges
 pub mod Domains
 pub mod LeafLooks
+pub mod Listed

@@ -1,5 +1,5 @@
 -- Ranges of a scenario's variables, and their targets.
-use Rattle.std.proofs.Common.{◌≡◌, ℕ, zero, suc, ◌+◌, ◌<◌, List, [], ◌∷◌, ◌++◌, length, map, drop, get_or, ℤ, refl, ap, sym, ◌∙◌, subst, arith, append_assoc, drop-cons}
+use Rattle.std.proofs.Common.{◌≡◌, ℕ, zero, suc, ◌+◌, ◌<◌, List, [], ◌∷◌, ◌++◌, length, map, drop, get_or, ℤ, ◌≤ℤ◌, refl, ap, sym, ◌∙◌, subst, arith, append_assoc, drop-cons}
 use Rattle.lt_num.specs.declared.range.Range.{Range}
 use Rattle.lt_draw.specs.Target.{target_of}
 use Rattle.lt_term.specs.SceneView.{scene, variable}
@@ -42,6 +42,10 @@ targets_more word n rs d ts us t all l h e g =
     ∙ ap (λ x. ts ++ x ∷ more) e
     ∙ ap (λ qs. ts ++ targets_from word n qs) (sym (drop-cons rs n d l))
     ∙ h
+
+-- the next range has numbers
+pub some_here : (rs : List Range) (n : ℕ) (d : Range) → n < length rs → AreSome (drop n rs) → (get_or rs n d).low ≤ℤ (get_or rs n d).high
+some_here rs n d l h = let P : List Range → Type 0 = AreSome in (subst P (drop-cons rs n d l) h).0
 
 -- the ranges behind the next one have numbers
 some_behind : (rs : List Range) (n : ℕ) → n < length rs → AreSome (drop n rs) → AreSome (drop (suc n) rs)

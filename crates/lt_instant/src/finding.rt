@@ -3,7 +3,7 @@
 use lt_num::Arith;
 
 /// What is found at a leaf of a tree.
-#[derive(Clone, Copy, Debug, PartialEq, Eq)]
+#[derive(Clone, Copy)]
 pub enum Finding {
     /// Nothing can be done.
     Passed,

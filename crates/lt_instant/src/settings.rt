@@ -1,7 +1,7 @@
 //! What a run draws by.
 
 /// What a run draws by.
-#[derive(Clone, Copy, Debug)]
+#[derive(Clone, Copy)]
 pub struct Settings {
     /// The seed of its words.
     pub seed: u64,

@@ -48,8 +48,16 @@ impl Solver {
     pub fn make(alloc: Global, scenario: &Scenario) -> Result<Solver, Memory>
         ensures { IfOk result (IsSolverOf scenario.now) }
     {
+        Solver::with_room(alloc, scenario, FIRST_ROOM)
+    }
+
+    // A solver of a scenario, with room for so many constraints.
+    fn with_room(alloc: Global, scenario: &Scenario, room: usize) -> Result<Solver, Memory>
+        ensures room { IfOk result (λ solver. room ≤ space_most solver.space) }
+        ensures solver { IfOk result (IsSolverOf scenario.now) }
+    {
         let ranges = drawn_ranges(alloc, scenario)?;
-        let Ok(space) = Space::make(alloc, &scenario.table, FIRST_ROOM) else {
+        let Ok(space) = Space::make(alloc, &scenario.table, room) else {
             return Err(Memory);
         };
         let Ok(workspace) = Workspace::make(alloc, &ranges, space.gates()) else {
@@ -58,7 +66,7 @@ impl Solver {
         Ok(Solver {
             space,
             workspace,
-            room: FIRST_ROOM,
+            room,
             ranges,
         })
     }
@@ -79,7 +87,6 @@ impl Solver {
     }
 
     /// What is found at an instant with these constraints, in which these locals are in scope.
-    #[tactic(auto, using(crate::proofs::Solves::fault_found))]
     pub fn solve(
         &mut self,
         alloc: Global,
@@ -108,15 +115,7 @@ impl Solver {
         ensures solver { IsSolverOf scenario.now self.new }
     {
         if self.room < count {
-            let Ok(space) = Space::make(alloc, &scenario.table, count) else {
-                return Err(Memory);
-            };
-            let Ok(workspace) = Workspace::make(alloc, &self.ranges, space.gates()) else {
-                return Err(Memory);
-            };
-            self.space = space;
-            self.workspace = workspace;
-            self.room = count;
+            *self = Solver::with_room(alloc, scenario, count)?;
         }
         Ok(())
     }

@@ -2,15 +2,18 @@
 
 ghost use Rattle.std.specs.List.{list_all};
 ghost use Rattle.std.specs.Prelude.{◌≡◌, ◌<◌, ◌≤◌, All, ℕ, suc, pos, ◌++◌, ◌+◌, IsTrue, IfOk, ℤ, List, length, map, slice_index_or};
+ghost use Rattle.lt_formula.specs.Expression.{Expression};
+ghost use Rattle.lt_term.specs.Advanced.{advanced};
 ghost use Rattle.lt_term.specs.Counted.{IsCounted, IsDoneTo};
 ghost use Rattle.lt_term.specs.Mapped.{node_passes};
+ghost use Rattle.lt_term.specs.Process.{with_constraints};
 ghost use Rattle.lt_term.specs.SceneView.{numbers_of, scene, variable};
 ghost use Rattle.lt_term.specs.TreeView.{tree_nodes};
 ghost use Rattle.lt_term.specs.Turns.{NextIsDoneTo};
 ghost use Rattle.lt_term.specs.View.{process};
-ghost use Rattle.lt_term.specs.Within.{passes};
+ghost use Rattle.lt_term.specs.Within.{Tests, passes};
 ghost use Rattle.lt_instant.specs.Instant.{instant_of, taken_in, taken_instant};
-ghost use Rattle.lt_instant.specs.Solved.{values_from};
+ghost use Rattle.lt_instant.specs.Solved.{locals_by, outputs_by, values_from, values_of};
 ghost use Rattle.lt_instant.specs.SolverView.{solver_values, IsSolverOf};
 ghost use Rattle.lt_instant.specs.StandingView.{configuration};
 ghost use Rattle.lt_instant.specs.TakenView.{instant_by, NextOf};
@@ -179,19 +182,47 @@ fn going(
 ) -> Result<Taken, Memory>
     ensures { IfOk result (IsGoing moment.now lasts.now next.now raws.now) }
 {
-    let scenario = moment.scenario;
-    let outputs = values_from(alloc, 0, &scenario.outputs, raws)?;
-    let drawn_locals = values_from(alloc, scenario.outputs.len(), &scenario.locals, raws)?;
-    let values = values_of(alloc, lasts, &drawn_locals)?;
+    let drawn_locals = locals_from(alloc, moment.scenario, raws)?;
+    let next = next_of(alloc, lasts, next, &drawn_locals)?;
     let locals = scoped(alloc, lasts, &drawn_locals)?;
-    let next = advance(alloc, next, &values)?;
-    let inputs = Vec::from_slice(alloc, moment.inputs)?;
-    let reaction = Reaction { inputs, outputs };
+    let reaction = reaction_of(alloc, moment, raws)?;
     Ok(Taken::Go {
         reaction,
         locals,
         next,
     })
+}
+
+// The values of the locals among these raw numbers.
+fn locals_from(alloc: Global, scenario: &Scenario, raws: &[i64]) -> Result<Vec<Value>, AllocError>
+    ensures { IfOk result (λ vs. vs.items ≡ locals_by (scene scenario.now) raws.now) }
+{
+    values_from(alloc, scenario.outputs.len(), &scenario.locals, raws)
+}
+
+// What is left of a term to be done, where the locals have these values.
+fn next_of(
+    alloc: Global,
+    lasts: &[(u32, Last)],
+    term: &Term,
+    locals: &[Value],
+) -> Result<Term, Memory>
+    ensures expressions { IfOk result (λ t. (meaning : ℕ → Expression) → with_constraints meaning (process t) ≡ advanced (values_of lasts.now locals.now) (with_constraints meaning (process term.now))) }
+    ensures passes { IfOk result (λ t. (tests : Tests ℕ) → passes tests (process t) ≡ passes tests (process term.now)) }
+    ensures done { IfOk result (λ t. (k : ℕ) → IsDoneTo k (process term.now) → IsDoneTo k (process t)) }
+{
+    let values = values_of(alloc, lasts, locals)?;
+    advance(alloc, term, &values)
+}
+
+// The values of the inputs, and those of the outputs among these raw numbers.
+fn reaction_of(alloc: Global, moment: &Moment<'_>, raws: &[i64]) -> Result<Reaction, AllocError>
+    ensures inputs { IfOk result (λ r. r.inputs.items ≡ moment.now.inputs.now) }
+    ensures outputs { IfOk result (λ r. r.outputs.items ≡ outputs_by (scene_of moment.now) raws.now) }
+{
+    let inputs = Vec::from_slice(alloc, moment.inputs)?;
+    let outputs = values_from(alloc, 0, &moment.scenario.outputs, raws)?;
+    Ok(Reaction { inputs, outputs })
 }
 
 // The values of variables, the first of which has this number, by the raw numbers of all that is drawn.

@@ -21,7 +21,7 @@ use lt_term::{Memory, TreeNode};
 use std::alloc::{AllocError, Global};
 
 /// The leaf at which a draw stops.
-#[derive(Clone, Copy, Debug)]
+#[derive(Clone, Copy)]
 pub struct Drawn {
     /// Its position among the nodes.
     pub position: u32,

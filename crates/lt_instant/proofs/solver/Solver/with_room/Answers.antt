@@ -2,7 +2,7 @@ use Rattle.std.proofs.Common.{IsTrue, subst, sym, ◌∙◌, List}
 use Rattle.lt_num.specs.declared.range.Range.{Range}
 use Rattle.lt_solver.specs.Domains.{are_domains}
 use Rattle.lt_instant.proofs.Domains.{drawn_domains}
-use Rattle.lt_instant.proofs.solver.Solver.make.Goals as goal
+use Rattle.lt_instant.proofs.solver.Solver.with_room.Goals as goal
 
 pub make-requires-2-clause-domains : goal.make-requires-2-clause-domains
 make-requires-2-clause-domains c =
