@@ -4,11 +4,10 @@ ghost use Rattle.std.specs.Prelude.{◌≢◌, ◌<◌, ◌≤◌, length, IfOk}
 ghost use Rattle.lt_ast.specs.inner.Rows.{weighed};
 ghost use Rattle.lt_ast.specs.Syntax as syntax;
 ghost use Rattle.lt_ast.specs.View.{braced, trace};
-ghost use Rattle.lt_ast.specs.View as view;
 ghost use Rattle.lt_parser.specs.Nesting.{most_levels};
 ghost use Rattle.lt_parser.specs.inner.Parsing.{BeginsItem, ReadsAs, ReadsTo};
 ghost use Rattle.lt_parser.specs.inner.Tokens.{lexemes};
-ghost use Rattle.lt_parser.specs.inner.Onto.{alternatives_after, traces_after, traces_onto};
+ghost use Rattle.lt_parser.specs.inner.Onto.{choice_after, parallel_after, plain_after, priority_after, traces_after, traces_onto};
 ghost use Rattle.lt_parser.specs.inner.Reading.{after_first, an_alternative, some_braced};
 
 use crate::atoms::{Parsed, after, expect};
@@ -19,29 +18,24 @@ use crate::traces::{sequence, trace};
 use lt_ast::{Braced, Part, Parts, Sign, Span, TraceExpr, Traces};
 use std::alloc::Global;
 
-/// What stands in braces, and the place of the brace that ends it.
+/// What stands in braces, the place of the brace that ends it, and the tokens after that.
+pub(crate) type InBraces<'a> = Result<(Braced, Span, &'a [Token<'a>]), Refusal>;
+
+/// What stands in braces.
 #[cycle(parser)]
-#[tactic(auto, using(crate::proofs::Steps::a_trace_first))]
-pub(crate) fn braced<'a>(
-    alloc: Global,
-    depth: u32,
-    tokens: &'a [Token<'a>],
-) -> Result<(Braced, Span, &'a [Token<'a>]), Refusal>
+pub(crate) fn braced<'a>(alloc: Global, depth: u32, tokens: &'a [Token<'a>]) -> InBraces<'a>
     requires { depth ≤ most_levels }
     ensures reads { ReadsTo (λ x k. k (braced x.0) x.1) (λ x. lexemes x.2.now) (some_braced depth) (lexemes tokens.now) result }
     ensures shorter { IfOk result (λ x. length x.2.now < length tokens.now) }
 {
     if let Some((_, rest)) = after(tokens, Sign::Bar) {
-        let (parts, end, rest) = alternatives(alloc, depth, Vec::new(alloc), rest)?;
-        return Ok((Braced::Choice { lead: true, parts }, end, rest));
+        return choice(alloc, depth, true, Vec::new(alloc), rest);
     }
     if let Some((_, rest)) = after(tokens, Sign::Priority) {
-        let (parts, end, rest) = traces(alloc, depth, Sign::Priority, Vec::new(alloc), rest)?;
-        return Ok((Braced::Priority { lead: true, parts }, end, rest));
+        return priority(alloc, depth, true, Vec::new(alloc), rest);
     }
     if let Some((_, rest)) = after(tokens, Sign::Parallel) {
-        let (parts, end, rest) = traces(alloc, depth, Sign::Parallel, Vec::new(alloc), rest)?;
-        return Ok((Braced::Parallel { lead: true, parts }, end, rest));
+        return parallel(alloc, depth, true, Vec::new(alloc), rest);
     }
     let (first, rest) = trace(alloc, depth, tokens)?;
     unled(alloc, depth, first, rest)
@@ -49,13 +43,7 @@ pub(crate) fn braced<'a>(
 
 // What follows a first trace that no sign leads.
 #[cycle(parser)]
-#[tactic(auto, using(crate::proofs::Steps::a_plain_end))]
-fn unled<'a>(
-    alloc: Global,
-    depth: u32,
-    first: TraceExpr,
-    tokens: &'a [Token<'a>],
-) -> Result<(Braced, Span, &'a [Token<'a>]), Refusal>
+fn unled<'a>(alloc: Global, depth: u32, first: TraceExpr, tokens: &'a [Token<'a>]) -> InBraces<'a>
     requires { depth ≤ most_levels }
     ensures reads { ReadsTo (λ x k. k (braced x.0) x.1) (λ x. lexemes x.2.now) (after_first depth (trace first)) (lexemes tokens.now) result }
     ensures shorter { IfOk result (λ x. length x.2.now < length tokens.now) }
@@ -65,44 +53,37 @@ fn unled<'a>(
             weight: None,
             body: first,
         };
-        let (parts, end, rest) = alternatives(alloc, depth, vec![in alloc; first]?, rest)?;
-        return Ok((Braced::Choice { lead: false, parts }, end, rest));
+        return choice(alloc, depth, false, vec![in alloc; first]?, rest);
     }
     if let Some((_, rest)) = after(tokens, Sign::Priority) {
-        let (parts, end, rest) = traces(
-            alloc,
-            depth,
-            Sign::Priority,
-            vec![in alloc; first]?,
-            rest,
-        )?;
-        return Ok((Braced::Priority { lead: false, parts }, end, rest));
+        return priority(alloc, depth, false, vec![in alloc; first]?, rest);
     }
     if let Some((_, rest)) = after(tokens, Sign::Parallel) {
-        let (parts, end, rest) = traces(
-            alloc,
-            depth,
-            Sign::Parallel,
-            vec![in alloc; first]?,
-            rest,
-        )?;
-        return Ok((Braced::Parallel { lead: false, parts }, end, rest));
+        return parallel(alloc, depth, false, vec![in alloc; first]?, rest);
     }
-    let (end, rest) = expect(tokens, Sign::CloseBrace)?;
-    Ok((Braced::Plain(Box::new(alloc, first)?), end, rest))
+    plain(alloc, first, tokens)
 }
 
-// The alternatives that come after others, and the place of the brace that ends them.
+// A trace alone, which is read, and the brace that ends it.
+fn plain<'a>(alloc: Global, inside: TraceExpr, tokens: &'a [Token<'a>]) -> InBraces<'a>
+    ensures reads { ReadsTo (λ x k. k (braced x.0) x.1) (λ x. lexemes x.2.now) (plain_after (trace inside)) (lexemes tokens.now) result }
+    ensures shorter { IfOk result (λ x. length x.2.now < length tokens.now) }
+{
+    let (end, rest) = expect(tokens, Sign::CloseBrace)?;
+    Ok((Braced::Plain(Box::new(alloc, inside)?), end, rest))
+}
+
+// The alternatives of a choice that come after others.
 #[cycle(parser)]
-#[tactic(auto, using(crate::proofs::Steps::alternatives_end))]
-fn alternatives<'a>(
+fn choice<'a>(
     alloc: Global,
     depth: u32,
+    lead: bool,
     before: Vec<Part>,
     tokens: &'a [Token<'a>],
-) -> Result<(Parts, Span, &'a [Token<'a>]), Refusal>
+) -> InBraces<'a>
     requires { depth ≤ most_levels }
-    ensures reads { ReadsTo (λ x k. k (view.alternatives x.0) x.1) (λ x. lexemes x.2.now) (alternatives_after depth before.items) (lexemes tokens.now) result }
+    ensures reads { ReadsTo (λ x k. k (braced x.0) x.1) (λ x. lexemes x.2.now) (choice_after depth lead before.items) (lexemes tokens.now) result }
     ensures shorter { IfOk result (λ x. length x.2.now < length tokens.now) }
 {
     let (first, mut rest) = alternative(alloc, depth, tokens)?;
@@ -114,12 +95,46 @@ fn alternatives<'a>(
         rest = remaining;
     }
     let (end, rest) = expect(rest, Sign::CloseBrace)?;
-    Ok((Parts { items }, end, rest))
+    let parts = Parts { items };
+    Ok((Braced::Choice { lead, parts }, end, rest))
+}
+
+// The traces of a priority that come after others.
+#[cycle(parser)]
+fn priority<'a>(
+    alloc: Global,
+    depth: u32,
+    lead: bool,
+    before: Vec<TraceExpr>,
+    tokens: &'a [Token<'a>],
+) -> InBraces<'a>
+    requires { depth ≤ most_levels }
+    ensures reads { ReadsTo (λ x k. k (braced x.0) x.1) (λ x. lexemes x.2.now) (priority_after depth lead before.items) (lexemes tokens.now) result }
+    ensures shorter { IfOk result (λ x. length x.2.now < length tokens.now) }
+{
+    let (parts, end, rest) = traces(alloc, depth, Sign::Priority, before, tokens)?;
+    Ok((Braced::Priority { lead, parts }, end, rest))
+}
+
+// The traces of a parallel composition that come after others.
+#[cycle(parser)]
+fn parallel<'a>(
+    alloc: Global,
+    depth: u32,
+    lead: bool,
+    before: Vec<TraceExpr>,
+    tokens: &'a [Token<'a>],
+) -> InBraces<'a>
+    requires { depth ≤ most_levels }
+    ensures reads { ReadsTo (λ x k. k (braced x.0) x.1) (λ x. lexemes x.2.now) (parallel_after depth lead before.items) (lexemes tokens.now) result }
+    ensures shorter { IfOk result (λ x. length x.2.now < length tokens.now) }
+{
+    let (parts, end, rest) = traces(alloc, depth, Sign::Parallel, before, tokens)?;
+    Ok((Braced::Parallel { lead, parts }, end, rest))
 }
 
 // The traces that come after others, with this sign between two, and the place of the brace that ends them.
 #[cycle(parser)]
-#[tactic(auto, using(crate::proofs::Steps::traces_end))]
 fn traces<'a>(
     alloc: Global,
     depth: u32,
@@ -146,7 +161,6 @@ fn traces<'a>(
 
 // An alternative: an expression followed by a colon is its weight.
 #[cycle(parser)]
-#[tactic(auto, using(crate::proofs::Begins::no_weight))]
 fn alternative<'a>(alloc: Global, depth: u32, tokens: &'a [Token<'a>]) -> Parsed<'a, Part>
     requires { depth ≤ most_levels }
     ensures reads { ReadsAs (λ x. weighed x.0.weight x.0.body) (λ x. lexemes x.1.now) (an_alternative depth) (lexemes tokens.now) result }

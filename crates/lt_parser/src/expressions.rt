@@ -42,6 +42,22 @@ pub(crate) fn expr<'a>(
     Ok((left, rest))
 }
 
+// The same in a box.
+#[cycle(parser)]
+fn boxed_expr<'a>(
+    alloc: Global,
+    depth: u32,
+    low: u32,
+    tokens: &'a [Token<'a>],
+) -> Parsed<'a, Box<Expr>>
+    requires { depth ≤ most_levels }
+    ensures reads { ReadsAs (λ x. exp x.0.value) (λ x. lexemes x.1.now) (an_exp depth low) (lexemes tokens.now) result }
+    ensures shorter { IfOk result (λ x. length x.1.now < length tokens.now) }
+{
+    let (inner, rest) = expr(alloc, depth, low, tokens)?;
+    Ok((Box::new(alloc, inner)?, rest))
+}
+
 // An operator that binds at least so tightly, and the tokens after it.
 fn operation<'a>(tokens: &'a [Token<'a>], low: u32) -> Option<(BinOp, &'a [Token<'a>])>
     ensures found { MatchOption result (IsNotExtended low (lexemes tokens.now)) (λ r. IsExtended low r.0 (lexemes tokens.now) (lexemes r.1.now)) }
@@ -87,7 +103,6 @@ fn operand<'a>(
 
 // The right side of a comparison: it begins with `not`, or is a sum.
 #[cycle(parser)]
-#[tactic(auto, using(crate::proofs::Steps::a_sum, crate::proofs::Steps::a_negation))]
 fn side<'a>(alloc: Global, depth: u32, tokens: &'a [Token<'a>]) -> Parsed<'a, Expr>
     requires { depth ≤ most_levels }
     ensures reads { ReadsAs (λ x. exp x.0) (λ x. lexemes x.1.now) (a_right_side depth) (lexemes tokens.now) result }
@@ -172,9 +187,9 @@ fn unary<'a>(
         UnOp::Neg => 8,
         UnOp::Not => 4,
     };
-    let (inner, rest) = expr(alloc, inside, least, tokens)?;
+    let (inner, rest) = boxed_expr(alloc, inside, least, tokens)?;
     let span = start.to(inner.span());
-    Ok((Expr::Unary(operator, Box::new(alloc, inner)?, span), rest))
+    Ok((Expr::Unary(operator, inner, span), rest))
 }
 
 /// What follows an opening parenthesis: an expression, and the closing one.
@@ -189,9 +204,9 @@ pub(crate) fn paren<'a>(
     ensures reads { ReadsAs (λ x. exp x.0) (λ x. lexemes x.1.now) (paren_goal inside start) (lexemes tokens.now) result }
     ensures shorter { IfOk result (λ x. length x.1.now < length tokens.now) }
 {
-    let (inner, rest) = expr(alloc, inside, 0, tokens)?;
+    let (inner, rest) = boxed_expr(alloc, inside, 0, tokens)?;
     let (end, rest) = expect(rest, Sign::Close)?;
-    Ok((Expr::Paren(Box::new(alloc, inner)?, start.to(end)), rest))
+    Ok((Expr::Paren(inner, start.to(end)), rest))
 }
 
 // What follows an `if`.
@@ -206,26 +221,17 @@ fn conditional<'a>(
     ensures reads { ReadsAs (λ x. exp x.0) (λ x. lexemes x.1.now) (if_goal inside start) (lexemes tokens.now) result }
     ensures shorter { IfOk result (λ x. length x.1.now < length tokens.now) }
 {
-    let (condition, rest) = expr(alloc, inside, 0, tokens)?;
+    let (condition, rest) = boxed_expr(alloc, inside, 0, tokens)?;
     let (_, rest) = expect(rest, Sign::Then)?;
-    let (holds, rest) = expr(alloc, inside, 0, rest)?;
+    let (holds, rest) = boxed_expr(alloc, inside, 0, rest)?;
     let (_, rest) = expect(rest, Sign::Else)?;
-    let (otherwise, rest) = expr(alloc, inside, 0, rest)?;
+    let (otherwise, rest) = boxed_expr(alloc, inside, 0, rest)?;
     let span = start.to(otherwise.span());
-    Ok((
-        Expr::If(
-            Box::new(alloc, condition)?,
-            Box::new(alloc, holds)?,
-            Box::new(alloc, otherwise)?,
-            span,
-        ),
-        rest,
-    ))
+    Ok((Expr::If(condition, holds, otherwise, span), rest))
 }
 
 // What follows a name in an expression.
 #[cycle(parser)]
-#[tactic(auto, using(crate::proofs::Skips::no_call, crate::proofs::Steps::exp_called))]
 fn named<'a>(alloc: Global, depth: u32, name: Name, tokens: &'a [Token<'a>]) -> Parsed<'a, Expr>
     requires { depth ≤ most_levels }
     ensures reads { ReadsAs (λ x. exp x.0) (λ x. lexemes x.1.now) (after_name depth (word name)) (lexemes tokens.now) result }
@@ -243,7 +249,6 @@ fn named<'a>(alloc: Global, depth: u32, name: Name, tokens: &'a [Token<'a>]) -> 
 
 // Arguments, if any, and the parenthesis that ends them.
 #[cycle(parser)]
-#[tactic(auto, using(crate::proofs::Steps::an_argument_first, crate::proofs::Steps::arguments_end))]
 fn args<'a>(alloc: Global, depth: u32, tokens: &'a [Token<'a>]) -> Parsed<'a, Args>
     requires { depth ≤ most_levels }
     ensures reads { ReadsAs (λ x. arguments_onto x.0.items.items syntax.no_arguments) (λ x. lexemes x.1.now) (some_arguments depth) (lexemes tokens.now) result }
@@ -270,7 +275,6 @@ fn args<'a>(alloc: Global, depth: u32, tokens: &'a [Token<'a>]) -> Parsed<'a, Ar
 
 // An argument: an expression, or a trace in braces.
 #[cycle(parser)]
-#[tactic(auto, using(crate::proofs::Steps::an_argument_value))]
 fn arg<'a>(alloc: Global, depth: u32, tokens: &'a [Token<'a>]) -> Parsed<'a, Arg>
     requires { depth ≤ most_levels }
     ensures reads { ReadsAs (λ x. argument x.0) (λ x. lexemes x.1.now) (an_argument depth) (lexemes tokens.now) result }

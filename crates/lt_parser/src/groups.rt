@@ -19,7 +19,6 @@ use std::alloc::Global;
 
 // A first value, where it is there.
 #[cycle(parser)]
-#[tactic(auto, using(crate::proofs::Skips::no_first))]
 fn first_value<'a>(alloc: Global, depth: u32, tokens: &'a [Token<'a>]) -> Parsed<'a, Option<Expr>>
     requires { depth ≤ most_levels }
     ensures reads { ReadsAs (λ x. maybe_exp x.0) (λ x. lexemes x.1.now) (a_first depth) (lexemes tokens.now) result }
@@ -61,7 +60,6 @@ fn group<'a>(alloc: Global, depth: u32, tokens: &'a [Token<'a>]) -> Parsed<'a, G
 
 /// One group or more, and the sign that ends them.
 #[cycle(parser)]
-#[tactic(auto, using(crate::proofs::Steps::groups_end))]
 pub(crate) fn groups<'a>(
     alloc: Global,
     depth: u32,
@@ -85,7 +83,6 @@ pub(crate) fn groups<'a>(
 
 /// Groups, if any, and the parenthesis that ends them.
 #[cycle(parser)]
-#[tactic(auto, using(crate::proofs::Steps::a_group_first))]
 pub(crate) fn listed<'a>(alloc: Global, inside: u32, tokens: &'a [Token<'a>]) -> Parsed<'a, Groups>
     requires { inside ≤ most_levels }
     ensures reads { ReadsAs (λ x. groupings x.0) (λ x. lexemes x.1.now) (some_groups inside) (lexemes tokens.now) result }
@@ -104,7 +101,6 @@ pub(crate) fn listed<'a>(alloc: Global, inside: u32, tokens: &'a [Token<'a>]) ->
 
 // The parameters of a macro, where they are there.
 #[cycle(parser)]
-#[tactic(auto, using(crate::proofs::Skips::no_parameters))]
 fn params<'a>(alloc: Global, depth: u32, tokens: &'a [Token<'a>]) -> Parsed<'a, Option<Groups>>
     requires { depth ≤ most_levels }
     ensures reads { ReadsAs (λ x. parameters_of x.0) (λ x. lexemes x.1.now) (some_parameters depth) (lexemes tokens.now) result }

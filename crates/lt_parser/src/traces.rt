@@ -31,9 +31,19 @@ pub(crate) fn trace<'a>(alloc: Global, depth: u32, tokens: &'a [Token<'a>]) -> P
     sequence(alloc, depth, first, rest)
 }
 
+// The same in a box.
+#[cycle(parser)]
+fn boxed_trace<'a>(alloc: Global, depth: u32, tokens: &'a [Token<'a>]) -> Parsed<'a, Box<TraceExpr>>
+    requires { depth ≤ most_levels }
+    ensures reads { ReadsAs (λ x. trace x.0.value) (λ x. lexemes x.1.now) (a_trace depth) (lexemes tokens.now) result }
+    ensures shorter { IfOk result (λ x. length x.1.now < length tokens.now) }
+{
+    let (body, rest) = trace(alloc, depth, tokens)?;
+    Ok((Box::new(alloc, body)?, rest))
+}
+
 /// A trace whose first item is read.
 #[cycle(parser)]
-#[tactic(auto, using(crate::proofs::Skips::no_item))]
 pub(crate) fn sequence<'a>(
     alloc: Global,
     depth: u32,
@@ -52,7 +62,6 @@ pub(crate) fn sequence<'a>(
 
 // The items of a sequence that come after others.
 #[cycle(parser)]
-#[tactic(auto, using(crate::proofs::Skips::no_item))]
 fn more_items<'a>(
     alloc: Global,
     depth: u32,
@@ -155,8 +164,7 @@ fn in_trace<'a>(alloc: Global, inside: u32, tokens: &'a [Token<'a>]) -> Parsed<'
     ensures shorter { IfOk result (λ x. length x.1.now < length tokens.now) }
 {
     let (_, rest) = expect(tokens, Sign::In)?;
-    let (body, rest) = trace(alloc, inside, rest)?;
-    Ok((Box::new(alloc, body)?, rest))
+    boxed_trace(alloc, inside, rest)
 }
 
 // What follows `assert`.
@@ -179,8 +187,8 @@ fn locals<'a>(alloc: Global, inside: u32, tokens: &'a [Token<'a>]) -> Parsed<'a,
     ensures shorter { IfOk result (λ x. length x.1.now < length tokens.now) }
 {
     let (groups, rest) = groups(alloc, inside, Sign::In, tokens)?;
-    let (body, rest) = trace(alloc, inside, rest)?;
-    Ok((TraceExpr::Exist(groups, Box::new(alloc, body)?), rest))
+    let (body, rest) = boxed_trace(alloc, inside, rest)?;
+    Ok((TraceExpr::Exist(groups, body), rest))
 }
 
 // What follows a `let` that has an `in`.
@@ -191,8 +199,9 @@ fn defined<'a>(alloc: Global, inside: u32, tokens: &'a [Token<'a>]) -> Parsed<'a
     ensures shorter { IfOk result (λ x. length x.1.now < length tokens.now) }
 {
     let (declared, rest) = macro_decl(alloc, inside, tokens)?;
+    let declared = Box::new(alloc, declared)?;
     let (body, rest) = in_trace(alloc, inside, rest)?;
-    Ok((TraceExpr::Let(Box::new(alloc, declared)?, body), rest))
+    Ok((TraceExpr::Let(declared, body), rest))
 }
 
 // What follows an `exception` that has an `in`.
@@ -245,14 +254,13 @@ fn tried<'a>(alloc: Global, inside: u32, tokens: &'a [Token<'a>]) -> Parsed<'a, 
     ensures reads { ReadsAs (λ x. trace x.0) (λ x. lexemes x.1.now) (try_goal inside) (lexemes tokens.now) result }
     ensures shorter { IfOk result (λ x. length x.1.now < length tokens.now) }
 {
-    let (body, rest) = trace(alloc, inside, tokens)?;
+    let (body, rest) = boxed_trace(alloc, inside, tokens)?;
     let (otherwise, rest) = handler(alloc, inside, rest)?;
-    Ok((TraceExpr::Try(Box::new(alloc, body)?, otherwise), rest))
+    Ok((TraceExpr::Try(body, otherwise), rest))
 }
 
 // What follows a `do`, where it is there: the nearest form that may have it takes it.
 #[cycle(parser)]
-#[tactic(auto, using(crate::proofs::Skips::no_handler))]
 fn handler<'a>(
     alloc: Global,
     inside: u32,
@@ -265,15 +273,14 @@ fn handler<'a>(
     match after(tokens, Sign::Do) {
         None => Ok((None, tokens)),
         Some((_, rest)) => {
-            let (body, rest) = trace(alloc, inside, rest)?;
-            Ok((Some(Box::new(alloc, body)?), rest))
+            let (body, rest) = boxed_trace(alloc, inside, rest)?;
+            Ok((Some(body), rest))
         }
     }
 }
 
 // The bounds of a loop, where they are there.
 #[cycle(parser)]
-#[tactic(auto, using(crate::proofs::Skips::no_limits))]
 fn bounds<'a>(alloc: Global, inside: u32, tokens: &'a [Token<'a>]) -> Parsed<'a, Bounds>
     requires { inside ≤ most_levels }
     ensures reads { ReadsAs (λ x. limits x.0) (λ x. lexemes x.1.now) (some_limits inside) (lexemes tokens.now) result }

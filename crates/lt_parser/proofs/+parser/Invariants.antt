@@ -18,14 +18,17 @@ decreases-expressions::named l = 16 * length l.tokens.now + 1
 abbrev pub decreases-expressions::expr : goal.decreases-expressions::expr
 decreases-expressions::expr l = 16 * length l.tokens.now + 2
 
+abbrev pub decreases-expressions::boxed_expr : goal.decreases-expressions::boxed_expr
+decreases-expressions::boxed_expr l = 16 * length l.tokens.now + 3
+
 abbrev pub decreases-expressions::unary : goal.decreases-expressions::unary
-decreases-expressions::unary l = 16 * length l.tokens.now + 3
+decreases-expressions::unary l = 16 * length l.tokens.now + 4
 
 abbrev pub decreases-expressions::paren : goal.decreases-expressions::paren
-decreases-expressions::paren l = 16 * length l.tokens.now + 3
+decreases-expressions::paren l = 16 * length l.tokens.now + 4
 
 abbrev pub decreases-expressions::conditional : goal.decreases-expressions::conditional
-decreases-expressions::conditional l = 16 * length l.tokens.now + 3
+decreases-expressions::conditional l = 16 * length l.tokens.now + 4
 
 abbrev pub decreases-expressions::side : goal.decreases-expressions::side
 decreases-expressions::side l = 16 * length l.tokens.now + 3
@@ -42,8 +45,14 @@ decreases-expressions::args l = 16 * length l.tokens.now + 5
 abbrev pub decreases-braces::alternative : goal.decreases-braces::alternative
 decreases-braces::alternative l = 16 * length l.tokens.now + 10
 
-abbrev pub decreases-braces::alternatives : goal.decreases-braces::alternatives
-decreases-braces::alternatives l = 16 * length l.tokens.now + 11
+abbrev pub decreases-braces::choice : goal.decreases-braces::choice
+decreases-braces::choice l = 16 * length l.tokens.now + 11
+
+abbrev pub decreases-braces::priority : goal.decreases-braces::priority
+decreases-braces::priority l = 16 * length l.tokens.now + 11
+
+abbrev pub decreases-braces::parallel : goal.decreases-braces::parallel
+decreases-braces::parallel l = 16 * length l.tokens.now + 11
 
 abbrev pub decreases-braces::unled : goal.decreases-braces::unled
 decreases-braces::unled l = 16 * length l.tokens.now + 11
@@ -65,6 +74,9 @@ decreases-traces::item l = 16 * length l.tokens.now + 7
 
 abbrev pub decreases-traces::trace : goal.decreases-traces::trace
 decreases-traces::trace l = 16 * length l.tokens.now + 9
+
+abbrev pub decreases-traces::boxed_trace : goal.decreases-traces::boxed_trace
+decreases-traces::boxed_trace l = 16 * length l.tokens.now + 10
 
 abbrev pub decreases-traces::value : goal.decreases-traces::value
 decreases-traces::value l = 16 * length l.tokens.now + 3
@@ -149,15 +161,15 @@ abbrev pub decreases-expressions::args-loop-next : goal.decreases-expressions::a
 decreases-expressions::args-loop-next l = length l.rest
 
 -- the alternatives so far
-abbrev pub invariant-braces::alternatives-loop-next : goal.invariant-braces::alternatives-loop-next
-invariant-braces::alternatives-loop-next l =
+abbrev pub invariant-braces::choice-loop-next : goal.invariant-braces::choice-loop-next
+invariant-braces::choice-loop-next l =
     record {
       reads : (k : Alternatives → Span → Goal) → outcome most_levels (alternatives_after l.depth l.fn.before.items k) (lexemes l.fn.tokens) ≡ outcome most_levels (more_alternatives l.depth (λ more. k (alternatives_onto l.items.items more))) (lexemes l.rest);
       shorter : length l.rest < length l.fn.tokens;
     }
 
-abbrev pub decreases-braces::alternatives-loop-next : goal.decreases-braces::alternatives-loop-next
-decreases-braces::alternatives-loop-next l = length l.rest
+abbrev pub decreases-braces::choice-loop-next : goal.decreases-braces::choice-loop-next
+decreases-braces::choice-loop-next l = length l.rest
 
 -- the traces so far
 abbrev pub invariant-braces::traces-loop-next : goal.invariant-braces::traces-loop-next

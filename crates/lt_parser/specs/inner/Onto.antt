@@ -1,12 +1,13 @@
 -- Lists that the code has, in front of the lists of a tree.
-use Rattle.std.specs.Prelude.{ℕ, List, [], ◌∷◌}
+use Rattle.std.specs.Prelude.{ℕ, Bool, List, [], ◌∷◌}
 use Rattle.lt_ast.specs.inner.Rows.{weighed, group_of}
 use Rattle.lt_ast.specs.Syntax as s
-use Rattle.lt_ast.specs.Syntax.{Word, Arguments, Alternatives, Trace, Traces, Groupings, Declaration}
+use Rattle.lt_ast.specs.Syntax.{Word, Arguments, Braces, Alternatives, Trace, Traces, Groupings, Declaration}
 use Rattle.lt_ast.specs.View.{word, argument, trace, declaration}
 use Rattle.lt_ast.specs.declared.sign.Sign.{Sign}
+use Rattle.lt_ast.specs.declared.sign.Sign.TheVariants as t
 use Rattle.lt_ast.specs.declared.span.Span.{Span}
-use Rattle.lt_parser.specs.inner.Reading.{Goal, an_alternative, more_alternatives, a_trace, more_traces, an_item, more_items, declarations, done}
+use Rattle.lt_parser.specs.inner.Reading.{Goal, a_sign, an_alternative, more_alternatives, a_trace, more_traces, an_item, more_items, declarations, done}
 use Rattle.lt_ast.specs.declared.name.Name.{Name}
 use Rattle.lt_ast.specs.declared.expr.Arg.{Arg}
 use Rattle.lt_ast.specs.declared.trace.Part.{Part}
@@ -50,6 +51,20 @@ alternatives_after d before k = an_alternative d (λ p. more_alternatives d (λ 
 -- .. a trace and more of them after a sign ..
 abbrev pub traces_after : ℕ → Sign → List TraceExpr → (Traces → Span → Goal) → Goal
 traces_after d sign before k = a_trace d (λ x. more_traces d sign (λ more. k (traces_onto before (s.one_trace x more))))
+
+-- .. the same where they make what stands in braces ..
+abbrev pub choice_after : ℕ → Bool → List Part → (Braces → Span → Goal) → Goal
+choice_after d lead before k = alternatives_after d before (λ xs q. k (s.choice lead xs) q)
+
+abbrev pub priority_after : ℕ → Bool → List TraceExpr → (Braces → Span → Goal) → Goal
+priority_after d lead before k = traces_after d t.Priority before (λ xs q. k (s.priority lead xs) q)
+
+abbrev pub parallel_after : ℕ → Bool → List TraceExpr → (Braces → Span → Goal) → Goal
+parallel_after d lead before k = traces_after d t.Parallel before (λ xs q. k (s.parallel lead xs) q)
+
+-- .. a brace that ends a trace alone ..
+abbrev pub plain_after : Trace → (Braces → Span → Goal) → Goal
+plain_after x k = a_sign t.CloseBrace (λ q. k (s.plain x) q)
 
 -- .. an item and more of them of a sequence ..
 abbrev pub items_after : ℕ → List TraceExpr → (Trace → Goal) → Goal
