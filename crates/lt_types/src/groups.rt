@@ -216,7 +216,6 @@ fn params_of(alloc: Global, params: &Option<Groups>) -> Result<Vec<Param>, TypeR
 }
 
 // One parameter for each name of the groups.
-#[tactic(auto, using(crate::proofs::Leading::leads, crate::proofs::Scopes::groups_parameters_list))]
 fn add_params(all: &mut Vec<Param>, groups: &Groups) -> Result<(), TypeRefusal>
     ensures ok { OnOk result (map param_view all.new.items ≡ map param_view all.old.items ++ groups_parameters (groupings groups.now)) }
     ensures memory { Checks result [] }
@@ -228,7 +227,6 @@ fn add_params(all: &mut Vec<Param>, groups: &Groups) -> Result<(), TypeRefusal>
 }
 
 // One parameter for each name of a group.
-#[tactic(auto, using(crate::proofs::Leading::leads, crate::proofs::Scopes::groups_steps))]
 fn add_group_params(all: &mut Vec<Param>, group: &Group) -> Result<(), TypeRefusal>
     ensures ok { OnOk result (map param_view all.new.items ≡ map param_view all.old.items ++ group_parameters (group_of group.now)) }
     ensures memory { Checks result [] }

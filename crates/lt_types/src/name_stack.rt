@@ -80,7 +80,6 @@ impl NameStack {
     }
 
     // Adds a name.
-    #[tactic(auto, using(crate::proofs::Leading::leads, crate::proofs::Indexed::names_push))]
     pub(crate) fn push(&mut self, name: &str) -> Result<(), TypeRefusal>
         ensures ok { OnOk result (self.new ≡ name.now ∷ self.old) }
         ensures kept { OnErr result (self.new ≡ self.old) }

@@ -93,7 +93,6 @@ fn check_text(alloc: Global, scope: &mut Scope, decls: &[Decl]) -> Result<(), Ty
 }
 
 // The declarations of a text. Their names stay in the scope.
-#[tactic(auto, using(crate::proofs::Leading::leads, crate::proofs::Stacks::drop_next))]
 fn check_decls(alloc: Global, scope: &mut Scope, decls: &[Decl]) -> Result<(), TypeRefusal>
     ensures { Checks result (declarations_refusals scope.old (map declaration decls.now)) }
 {
@@ -104,7 +103,6 @@ fn check_decls(alloc: Global, scope: &mut Scope, decls: &[Decl]) -> Result<(), T
 }
 
 // A declaration of a text. Its names stay in the scope.
-#[tactic(auto, using(crate::proofs::Leading::leads))]
 fn check_decl(alloc: Global, scope: &mut Scope, decl: &Decl) -> Result<(), TypeRefusal>
     ensures answered { Checks result (declaration_refusals scope.old (declaration decl.now)) }
     ensures declared { OnOk result (scope.new ≡ with_declaration scope.old (declaration decl.now)) }

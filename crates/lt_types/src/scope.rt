@@ -105,7 +105,6 @@ impl Scope {
     }
 
     // A name, and what it stands for.
-    #[tactic(auto, using(crate::proofs::Leading::leads, crate::proofs::Stacks::scope_steps))]
     pub(crate) fn declare(&mut self, name: &str, entry: Entry) -> Result<(), TypeRefusal>
         ensures ok { OnOk result (self.new ≡ record self.old { names = record { name = name.now; entry = entry_view entry } ∷ self.old.names }) }
         ensures memory { Checks result [] }

@@ -125,7 +125,6 @@ fn check_entry_applied(
 }
 
 // Arguments for parameters, as far as both go, with the types of the arguments.
-#[tactic(auto, using(crate::proofs::Leading::leads, crate::proofs::Naming::arguments_misfit_none))]
 fn check_arguments_fit(
     scope: &Scope,
     args: &[Arg],
