@@ -139,10 +139,9 @@ fn with_constant(span: Span, constant: i64, decimals: u32) -> Span
     ensures greatest { result.greatest ≡ span.greatest +ℤ constant *ℤ pos (10 ^ decimals) }
 {
     let more = scaled(constant, decimals);
-    Span {
-        least: span.least + more,
-        greatest: span.greatest + more,
-    }
+    let least = span.least + more;
+    let greatest = span.greatest + more;
+    Span { least, greatest }
 }
 
 /// A constant on the scale of reals.

@@ -18,7 +18,7 @@ use lt_num::Range;
 use lt_space::Space;
 
 /// What is seen at a box.
-#[derive(Clone, Copy, Debug, PartialEq, Eq)]
+#[derive(Clone, Copy)]
 pub(crate) enum Sight {
     /// It has no solution.
     Nothing,

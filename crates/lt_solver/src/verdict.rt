@@ -6,7 +6,7 @@ ghost use Rattle.lt_solver.specs.Verdict.{known, negated, conjoined, disjoined, 
 use lt_space::Relation;
 
 /// What is known of a truth at all points of a box.
-#[derive(Clone, Copy, Debug, PartialEq, Eq)]
+#[derive(Clone, Copy)]
 pub(crate) enum Verdict {
     /// It is false at each of them.
     False,
