@@ -9,9 +9,10 @@ use Rattle.std.specs.declared.result.Result.{Result}
 use Rattle.lt_term.specs.declared.last.Last.{Last}
 use Rattle.lt_num.specs.declared.kind.Kind.{Kind}
 use Rattle.lt_num.specs.declared.kind.Kind.TheVariants as kind
+use Rattle.lt_num.specs.declared.value.Value.{Value}
 use Rattle.lt_term.specs.Counted.{IsCounted, AreCounted}
-use Rattle.lt_term.specs.Process.{Process, loop, count, any, try}
-use Rattle.lt_term.specs.Offers.{TermLeaf, TermTree, in_turn, in_par, in_try, joined, offers_of, offers_of_each}
+use Rattle.lt_term.specs.Process.{Process, loop, count, any, exist, try}
+use Rattle.lt_term.specs.Offers.{TermLeaf, TermTree, in_turn, in_par, in_exist, in_try, joined, offers_of, offers_of_each, start_of}
 use Rattle.lt_term.specs.Replaced.{replaced, node_with_local}
 use Rattle.lt_term.specs.Tree.{Lasts, Leaf, vanish, go, Weight, expression, more, stop, Tree, leaf, ordered, weighted, Branches, no_branch, branch, with_leaves, branches_with_leaves, with_local, branches_with_local, Node, leaf_node, ordered_node, weighted_node, weights_of, flattened, flattened_each}
 use Rattle.lt_term.specs.TreeView.{tree_node, tree_nodes}
@@ -86,13 +87,31 @@ counted_parts (p ∷ parts) h = All-cons (λ p. IsCounted (process p.1)) p parts
 pub any_counted : (v : Vec (ℕ × Term) Global) → IsCounted (process (Any v)) → All (λ p. IsCounted (process p.1)) v.items
 any_counted v h = let P : Process ℕ → Type 0 = IsCounted in counted_parts v.items (subst P (process_any v) h)
 
-pub ruleset nodes = (flattened-with_leaves, flattened-with_local, any_nodes)
-
 -- What is put out of a term, arm by arm: what was put out for its parts is what was put out for it.
 
 on_ok : {T E A B : Type 0} (r : Result T E) → (A → B) → OnOk r A → OnOk r B
 on_ok (Ok x) f h = f h
 on_ok (Err e) f h = tt
+
+-- a part whose leaves are replaced
+pub replaced_put : {T E : Type 0} (kinds : List Kind) (r : Result T E) (f : TermLeaf ℕ → TermTree ℕ) (whole a : Process ℕ) (old new ns : List (Node ℕ (Process ℕ))) → offers_of kinds whole ≡ with_leaves f (offers_of kinds a) → ns ≡ flattened (offers_of kinds a)
+    → OnOk r (new ≡ old ++ flat_map (replaced f) ns) → OnOk r (new ≡ old ++ flattened (offers_of kinds whole))
+replaced_put kinds r f whole a old new ns w n = on_ok r (λ l. leaves_put f (offers_of kinds a) old new ns n l ∙ ap (λ t. old ++ flattened t) (sym w))
+
+-- a part with a local, whose leaves are then replaced
+pub exist_put : {T E : Type 0} (kinds : List Kind) (r : Result T E) (start : Value) (x : ℕ) (v : Last) (whole a : Process ℕ) (old new ns : List (Node ℕ (Process ℕ))) → whole ≡ exist x v a → start ≡ start_of kinds x → ns ≡ flattened (offers_of kinds a)
+    → OnOk r (new ≡ old ++ flat_map (λ n. replaced (in_exist start x v) (node_with_local (x, v) n)) ns) → OnOk r (new ≡ old ++ flattened (offers_of kinds whole))
+exist_put kinds r start x v whole a old new ns w s n = on_ok r (λ e.
+    e
+    ∙ ap (λ u. old ++ flat_map (λ n. replaced (in_exist u x v) (node_with_local (x, v) n)) ns) s
+    ∙ ap (λ ms. old ++ flat_map (λ n. replaced (in_exist (start_of kinds x) x v) (node_with_local (x, v) n)) ms) n
+    ∙ ap (λ ms. old ++ ms) (sym (flattened-with_local (in_exist (start_of kinds x) x v) (x, v) (offers_of kinds a)))
+    ∙ ap (λ u. old ++ flattened (offers_of kinds u)) (sym w))
+
+-- a weighted choice, by its root and its parts
+pub any_put : {T E : Type 0} (kinds : List Kind) (r : Result T E) (v : Vec (ℕ × Term) Global) (whole : Process ℕ) (old before new : List (Node ℕ (Process ℕ))) → whole ≡ process (Any v) → before ≡ old ++ weighted_node [] (map (λ p. expression p.0) v.items) ∷ []
+    → OnOk r (new ≡ before ++ flat_map (λ p. flattened (offers_of kinds (process p.1))) v.items) → OnOk r (new ≡ old ++ flattened (offers_of kinds whole))
+any_put kinds r v whole old before new w b = on_ok r (λ e. any_nodes kinds old before new (map (λ p. expression p.0) v.items) v refl b e ∙ ap (λ u. old ++ flattened (offers_of kinds u)) (sym w))
 
 pub loop_put : {T E : Type 0} (kinds : List Kind) (r : Result T E) (whole t : Process ℕ) (old new ns : List (Node ℕ (Process ℕ))) → whole ≡ loop t → ns ≡ flattened (offers_of kinds t)
     → OnOk r (new ≡ old ++ ordered_node ∷ (flat_map (replaced (in_turn (loop t))) ns ++ leaf_node vanish ∷ [])) → OnOk r (new ≡ old ++ flattened (offers_of kinds whole))

@@ -53,7 +53,6 @@ fn nodes_of(alloc: Global, locals: &[Var], term: &Term) -> Result<Vec<TreeNode>,
 
 // Puts the nodes of a term at the end of a list.
 #[cycle(emit)]
-#[tactic(auto, using(crate::proofs::Trees::nodes))]
 fn emit(
     alloc: Global,
     locals: &[Var],
