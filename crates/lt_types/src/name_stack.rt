@@ -21,12 +21,21 @@ struct Item {
 }
 
 // Names, the newest last. A name may stand in it more than once.
-#[derive(Drop)]
 pub(crate) struct NameStack {
     items: Vec<Item>,
 
     // The place of the newest of each name.
     places: IndexMap<String, usize>,
+}
+
+// A scope has three stacks, and drops each by this one function.
+impl Drop for NameStack {
+    fn drop(self) {
+        let Self {
+            items: _,
+            places: _,
+        } = self;
+    }
 }
 
 impl Model for NameStack {
