@@ -33,7 +33,6 @@ pub(crate) fn check_range(
 }
 
 // A range of numbers of a type, with so many decimals.
-#[tactic(auto, using(crate::proofs::Leading::leads_in_ranges))]
 fn check_ends(
     alloc: Global,
     decimals: u32,

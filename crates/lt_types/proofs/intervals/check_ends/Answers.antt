@@ -1,4 +1,5 @@
 use Rattle.std.proofs.Common.{arith}
+use Rattle.std.proofs.lemmas.Grind.{common_steps}
 use Rattle.lt_types.proofs.Leading.{leads_in_ranges}
 use Rattle.lt_types.proofs.intervals.check_ends.Goals as goal
 
@@ -13,3 +14,6 @@ returns-in_err-low c = grind (arith, leads_in_ranges)
 
 pub returns-in_err-high : goal.returns-in_err-high
 returns-in_err-high c = grind (arith, leads_in_ranges)
+
+pub returns-then-high-low : goal.returns-then-high-low
+returns-then-high-low c = grind (arith, common_steps, leads_in_ranges)
