@@ -5,10 +5,16 @@ use crate::name::{Name, Names};
 use crate::trace::{MacroDecl, TraceExpr};
 
 /// The declarations of a text, in order.
-#[derive(Drop)]
 pub struct Program {
     /// The declarations.
     pub decls: Vec<Decl>,
+}
+
+// What a program owns is dropped by this one function, wherever a program is.
+impl Drop for Program {
+    fn drop(self) {
+        let Self { decls: _ } = self;
+    }
 }
 
 /// A declaration.
