@@ -52,7 +52,6 @@ fn renewed(alloc: Global, term: &Term, values: &[(u32, Value)]) -> Result<Term, 
 
 // The term with the values, and nothing where no scope of it is entered.
 #[cycle(advance)]
-#[tactic(auto, using(crate::proofs::Views::process_any))]
 fn go_on(alloc: Global, term: &Term, values: &[(u32, Value)]) -> Result<Option<Term>, AllocError>
     ensures { IfOk result (λ t. process (term_of term.now t) ≡ advanced values.now (process term.now)) }
 {
@@ -208,7 +207,6 @@ fn new_or_old(new: Option<Rc<Term>>, old: &Rc<Term>) -> Result<Rc<Term>, AllocEr
 
 // Whether a scope of a term is entered.
 #[cycle(entered)]
-#[tactic(auto, using(crate::proofs::Views::process_any))]
 fn is_entered(term: &Term) -> bool
     ensures { result ≡ is_entered (process term.now) }
 {
