@@ -1,7 +1,7 @@
 //! Which names are visible where, and what they are used as.
 
 use crate::row::Row::{Accepted, Arity, Mismatch, PreOfExpression, Twice, Unknown};
-use crate::row::{NODE, Row, judge_all};
+use crate::row::{NODE, Row, judge};
 use std::test::Fail;
 
 // Names of the text, inputs and outputs.
@@ -39,8 +39,8 @@ const VISIBLE_IN_TRACES: &[Row] = &[
 
 #[test]
 fn names_are_visible_behind_their_declarations(rt: HostRuntime) -> Result<(), Fail> {
-    judge_all(&rt, rt.alloc(), "", VISIBLE_IN_TEXTS)?;
-    judge_all(&rt, rt.alloc(), NODE, VISIBLE_IN_TRACES)
+    judge(&rt, rt.alloc(), "", 2, VISIBLE_IN_TEXTS)?;
+    judge(&rt, rt.alloc(), NODE, 2, VISIBLE_IN_TRACES)
 }
 
 // One name for a variable or a macro, a node and an exception.
@@ -55,7 +55,7 @@ const SPACES: &[Row] = &[
 
 #[test]
 fn names_live_in_three_spaces(rt: HostRuntime) -> Result<(), Fail> {
-    judge_all(&rt, rt.alloc(), "", SPACES)
+    judge(&rt, rt.alloc(), "", 2, SPACES)
 }
 
 // Declarations of a text, and inputs and outputs.
@@ -81,8 +81,8 @@ const DECLARED_IN_TRACES: &[Row] = &[
 
 #[test]
 fn names_are_declared_once_in_a_list(rt: HostRuntime) -> Result<(), Fail> {
-    judge_all(&rt, rt.alloc(), "", DECLARED_IN_TEXTS)?;
-    judge_all(&rt, rt.alloc(), NODE, DECLARED_IN_TRACES)
+    judge(&rt, rt.alloc(), "", 2, DECLARED_IN_TEXTS)?;
+    judge(&rt, rt.alloc(), NODE, 2, DECLARED_IN_TRACES)
 }
 
 // An input hides a macro of the text.
@@ -112,8 +112,8 @@ const HIDDEN_IN_TRACES: &[Row] = &[
 
 #[test]
 fn inner_names_hide_outer_ones(rt: HostRuntime) -> Result<(), Fail> {
-    judge_all(&rt, rt.alloc(), "", HIDDEN_IN_TEXTS)?;
-    judge_all(&rt, rt.alloc(), NODE, HIDDEN_IN_TRACES)
+    judge(&rt, rt.alloc(), "", 2, HIDDEN_IN_TEXTS)?;
+    judge(&rt, rt.alloc(), NODE, 2, HIDDEN_IN_TRACES)
 }
 
 // Lists of arguments, and names behind `pre`.
@@ -135,5 +135,5 @@ const USED: &[Row] = &[
 
 #[test]
 fn names_are_used_as_what_they_stand_for(rt: HostRuntime) -> Result<(), Fail> {
-    judge_all(&rt, rt.alloc(), NODE, USED)
+    judge(&rt, rt.alloc(), NODE, 2, USED)
 }

@@ -1,7 +1,7 @@
 //! Which of the broken rules is told: the first in the order of the text.
 
 use crate::row::Row::{Arity, EmptyRange, Mismatch, RangeTooLarge, Twice, Unknown};
-use crate::row::{NODE, Row, judge_all};
+use crate::row::{NODE, Row, judge};
 use std::test::Fail;
 
 // Texts that break two rules or more.
@@ -54,6 +54,6 @@ const FIRST_IN_TRACES: &[Row] = &[
 
 #[test]
 fn the_first_broken_rule_is_told(rt: HostRuntime) -> Result<(), Fail> {
-    judge_all(&rt, rt.alloc(), "", FIRST_IN_TEXTS)?;
-    judge_all(&rt, rt.alloc(), NODE, FIRST_IN_TRACES)
+    judge(&rt, rt.alloc(), "", 2, FIRST_IN_TEXTS)?;
+    judge(&rt, rt.alloc(), NODE, 2, FIRST_IN_TRACES)
 }

@@ -1,225 +1,108 @@
 //! Texts whose refusals follow from the lexical rules and the grammar.
 
-use lt_lexer::{LexRefusal, lex};
+use crate::programs::check_programs;
+use crate::row::{NODE, halves};
+use crate::tokens::check_tokens;
+use lt_lexer::LexRefusal;
 use lt_parser::{ParseRefusal, parse};
+use std::alloc::Global;
 use std::test::Fail;
 
-#[test]
-fn texts_with_no_tokens(rt: HostRuntime) {
-    let cases: [(&[u8], LexRefusal); 17] = [
-        (b"1..5", LexRefusal::BadByte(2)),
-        (b".5", LexRefusal::BadByte(0)),
-        (b"_a", LexRefusal::BadByte(0)),
-        (b"&", LexRefusal::BadByte(0)),
-        (b"a & (*", LexRefusal::BadByte(2)),
-        (b"\0", LexRefusal::BadByte(0)),
-        (b"a\xc3\xa9", LexRefusal::BadByte(1)),
-        (b"\x0c", LexRefusal::BadByte(0)),
-        (b"(*)", LexRefusal::OpenComment(0)),
-        (b"(* *", LexRefusal::OpenComment(0)),
-        (b"(*\n--*", LexRefusal::OpenComment(0)),
-        (b"node n() (*", LexRefusal::OpenComment(9)),
-        (b"1234567890123456789", LexRefusal::NumberTooLong(0)),
-        (b"1.234567890123456789", LexRefusal::NumberTooLong(0)),
-        (b"1234567890123456789.", LexRefusal::NumberTooLong(0)),
-        (b"a 1234567890123456789 &", LexRefusal::NumberTooLong(2)),
-        (
-            b"node n() returns (b: bool) = b & b",
-            LexRefusal::BadByte(31),
-        ),
-    ];
-    for (text, refusal) in cases {
-        assert_eq!(rt; lex(rt.alloc(), text).err(), Some(refusal), "{text:?}");
-    }
-}
+const NO_TOKENS: &str = "\
+1..5 ==> BadByte(2)
+.5 ==> BadByte(0)
+_a ==> BadByte(0)
+& ==> BadByte(0)
+a & (* ==> BadByte(2)
+␀ ==> BadByte(0)
+aé ==> BadByte(1)
+␌ ==> BadByte(0)
+(*) ==> OpenComment(0)
+(* * ==> OpenComment(0)
+(*␊--* ==> OpenComment(0)
+node n() (* ==> OpenComment(9)
+1234567890123456789 ==> NumberTooLong(0)
+1.234567890123456789 ==> NumberTooLong(0)
+1234567890123456789. ==> NumberTooLong(0)
+a 1234567890123456789 & ==> NumberTooLong(2)
+node n() returns (b: bool) = b & b ==> BadByte(31)";
 
-// A refusal, and what it tells.
-#[derive(Clone, Copy)]
-struct Told {
-    refusal: LexRefusal,
-    code: &'static str,
-    place: Option<usize>,
+#[test]
+fn texts_with_no_tokens(rt: HostRuntime) -> Result<(), Fail> {
+    check_tokens(&rt, rt.alloc(), NO_TOKENS)
 }
 
 #[test]
 fn codes_and_places(rt: HostRuntime) {
-    let cases = [
-        Told {
-            refusal: LexRefusal::BadByte(7),
-            code: "lex.BadByte",
-            place: Some(7),
-        },
-        Told {
-            refusal: LexRefusal::OpenComment(8),
-            code: "lex.OpenComment",
-            place: Some(8),
-        },
-        Told {
-            refusal: LexRefusal::NumberTooLong(9),
-            code: "lex.NumberTooLong",
-            place: Some(9),
-        },
-        Told {
-            refusal: LexRefusal::Memory,
-            code: "lex.Memory",
-            place: None,
-        },
-    ];
-    for case in cases {
-        assert_eq!(rt; case.refusal.code(), case.code);
-        assert_eq!(rt; case.refusal.place(), case.place);
-    }
+    let refusal = LexRefusal::BadByte(7);
+    assert_eq!(rt; (refusal.code(), refusal.place()), ("lex.BadByte", Some(7)));
+    let refusal = LexRefusal::OpenComment(8);
+    assert_eq!(rt;
+        (refusal.code(), refusal.place()),
+        ("lex.OpenComment", Some(8))
+    );
+    let refusal = LexRefusal::NumberTooLong(9);
+    assert_eq!(rt;
+        (refusal.code(), refusal.place()),
+        ("lex.NumberTooLong", Some(9))
+    );
+    let refusal = LexRefusal::Memory;
+    assert_eq!(rt; (refusal.code(), refusal.place()), ("lex.Memory", None));
 }
 
-// A text, and why it is no program.
-#[derive(Clone, Copy)]
-struct Refused {
-    text: &'static str,
-    refusal: ParseRefusal,
-}
+const NO_PROGRAM: &str = "\
+node n() (* ==> Lex(OpenComment(9))
+node n() returns (b: bool) = b & b ==> Lex(BadByte(31))
+node n() returns (b: bool) = run ==> Unexpected(29)
+node n() returns (b: bool) = b and  ==> Unexpected(35)
+node n() returns (b: bool) = { b : b } ==> Unexpected(33)
+node n() returns (b: bool) = a < b < c ==> Unexpected(35)
+node n() returns (b: bool) = loop ~3 b ==> Unexpected(37)
+let m: bool = a fby b ==> Unexpected(16)
+try a do b do c ==> Unexpected(0)
+node n() returns (b: bool) = try a do b do c ==> Unexpected(40)";
 
 #[test]
-fn texts_with_no_program(rt: HostRuntime) {
-    let cases = [
-        Refused {
-            text: "node n() (*",
-            refusal: ParseRefusal::Lex(LexRefusal::OpenComment(9)),
-        },
-        Refused {
-            text: "node n() returns (b: bool) = b & b",
-            refusal: ParseRefusal::Lex(LexRefusal::BadByte(31)),
-        },
-        Refused {
-            text: "node n() returns (b: bool) = run",
-            refusal: ParseRefusal::Unexpected(29),
-        },
-        Refused {
-            text: "node n() returns (b: bool) = b and ",
-            refusal: ParseRefusal::Unexpected(35),
-        },
-        Refused {
-            text: "node n() returns (b: bool) = { b : b }",
-            refusal: ParseRefusal::Unexpected(33),
-        },
-        Refused {
-            text: "node n() returns (b: bool) = a < b < c",
-            refusal: ParseRefusal::Unexpected(35),
-        },
-        Refused {
-            text: "node n() returns (b: bool) = loop ~3 b",
-            refusal: ParseRefusal::Unexpected(37),
-        },
-        Refused {
-            text: "let m: bool = a fby b",
-            refusal: ParseRefusal::Unexpected(16),
-        },
-        Refused {
-            text: "try a do b do c",
-            refusal: ParseRefusal::Unexpected(0),
-        },
-        Refused {
-            text: "node n() returns (b: bool) = try a do b do c",
-            refusal: ParseRefusal::Unexpected(40),
-        },
-    ];
-    for case in cases {
-        let answer = parse(rt.alloc(), case.text.as_bytes());
-        assert_eq!(rt; answer.err(), Some(case.refusal), "{}", case.text);
-    }
+fn texts_with_no_program(rt: HostRuntime) -> Result<(), Fail> {
+    check_programs(&rt, rt.alloc(), NO_PROGRAM)
 }
 
-// A text that opens one level of nesting, and where in it the token stands that does.
-#[derive(Clone, Copy)]
-struct Opener {
-    text: &'static str,
-    place: usize,
+// Texts that open one level of nesting, and where in them the token stands that does.
+const OPENERS: &str = "\
+{ ==> 0
+( ==> 0
+f( ==> 1
+loop  ==> 0
+not  ==> 0
+-  ==> 0
+if  ==> 0
+a =>  ==> 2
+assert a in  ==> 0
+exist u: bool in  ==> 0
+let m: bool = a in  ==> 0
+exception e in  ==> 0
+catch e in  ==> 0
+trap e in  ==> 0
+try  ==> 0";
+
+// Why a node is refused in which a text opens so many levels.
+fn refusal_of(alloc: Global, opener: &str, levels: usize) -> Result<Option<ParseRefusal>, Fail> {
+    let mut text = String::from_str(alloc, NODE)?;
+    for _ in 0..levels {
+        text.push_str(opener)?;
+    }
+    Ok(parse(alloc, text.as_bytes()).err())
 }
 
 #[test]
 fn texts_nested_too_deep(rt: HostRuntime) -> Result<(), Fail> {
-    let head = "node n() returns (b: bool) = ";
-    let openers = [
-        Opener {
-            text: "{",
-            place: 0,
-        },
-        Opener {
-            text: "(",
-            place: 0,
-        },
-        Opener {
-            text: "f(",
-            place: 1,
-        },
-        Opener {
-            text: "loop ",
-            place: 0,
-        },
-        Opener {
-            text: "not ",
-            place: 0,
-        },
-        Opener {
-            text: "- ",
-            place: 0,
-        },
-        Opener {
-            text: "if ",
-            place: 0,
-        },
-        Opener {
-            text: "a => ",
-            place: 2,
-        },
-        Opener {
-            text: "assert a in ",
-            place: 0,
-        },
-        Opener {
-            text: "exist u: bool in ",
-            place: 0,
-        },
-        Opener {
-            text: "let m: bool = a in ",
-            place: 0,
-        },
-        Opener {
-            text: "exception e in ",
-            place: 0,
-        },
-        Opener {
-            text: "catch e in ",
-            place: 0,
-        },
-        Opener {
-            text: "trap e in ",
-            place: 0,
-        },
-        Opener {
-            text: "try ",
-            place: 0,
-        },
-    ];
-    for opener in openers {
-        let mut text = String::from_str(rt.alloc(), head)?;
-        for _ in 0..200 {
-            text.push_str(opener.text)?;
-        }
-        let ends = ParseRefusal::Unexpected(text.len());
-        assert_eq!(rt;
-            parse(rt.alloc(), text.as_bytes()).err(),
-            Some(ends),
-            "{}",
-            opener.text
-        );
-        let deep = ParseRefusal::TooDeep(text.len() + opener.place);
-        text.push_str(opener.text)?;
-        assert_eq!(rt;
-            parse(rt.alloc(), text.as_bytes()).err(),
-            Some(deep),
-            "{}",
-            opener.text
-        );
+    for row in OPENERS.lines() {
+        let (opener, place) = halves(row, " ==> ");
+        let end = NODE.len().saturating_add(opener.len().saturating_mul(200));
+        let ends = ParseRefusal::Unexpected(end);
+        assert_eq!(rt; refusal_of(rt.alloc(), opener, 200)?, Some(ends), "{row}");
+        let deep = ParseRefusal::TooDeep(end.saturating_add(place.parse()?));
+        assert_eq!(rt; refusal_of(rt.alloc(), opener, 201)?, Some(deep), "{row}");
     }
     Ok(())
 }

@@ -8,7 +8,7 @@ use Row::{
 use lt_ast::Span;
 use lt_parser::parse;
 use lt_types::{TypeRefusal, check};
-use std::alloc::Global;
+use std::alloc::{AllocError, Global};
 use std::process::Abort;
 use std::test::Fail;
 
@@ -65,35 +65,47 @@ fn refusal_of(alloc: Global, text: &str, decimals: u32) -> Result<Option<TypeRef
     Ok(check(alloc, program, decimals).err())
 }
 
-/// That the text of a row, with this head before it, has the answer of the row.
+/// That the text of each row, with this head before it, has the answer of the row.
 pub fn judge(
     rt: &impl Abort,
     alloc: Global,
     head: &str,
-    row: Row,
     decimals: u32,
+    rows: &[Row],
 ) -> Result<(), Fail>
     requires { decimals ≤ 6 }
 {
-    let [before, at, behind] = row.parts();
-    let mut text = String::from_str(alloc, head)?;
-    text.push_str(before)?;
-    let start = text.len();
-    text.push_str(at)?;
-    let end = text.len();
-    text.push_str(behind)?;
-    let refusal = refusal_of(alloc, text.as_str(), decimals)?;
-    assert_eq!(rt; refusal, row.refusal(Span { start, end }), "{text}");
-    Ok(())
-}
-
-/// The same for each row, with two decimals.
-pub fn judge_all(rt: &impl Abort, alloc: Global, head: &str, rows: &[Row]) -> Result<(), Fail> {
     for row in rows {
-        judge(rt, alloc, head, *row, 2)?;
+        let [before, at, behind] = row.parts();
+        let start = head.len().saturating_add(before.len());
+        let end = start.saturating_add(at.len());
+        let refusal = row.refusal(Span { start, end });
+        let text = format!(in alloc; "{head}{before}{at}{behind}")?;
+        assert_eq!(rt; refusal_of(alloc, &text, decimals)?, refusal, "{text}");
     }
     Ok(())
 }
 
 /// The head of a node, behind which its trace stands.
 pub const NODE: &str = "node n() returns (b: bool) = ";
+
+/// The two parts of a line that this sign stands between; the second is empty where it doesn't stand there.
+pub fn halves<'a>(line: &'a str, sign: &'static str) -> (&'a str, &'a str) {
+    line.split_once(sign).unwrap_or((line, ""))
+}
+
+/// A text of a line, with each character in place of its picture: `␊` is a line feed.
+pub fn written(alloc: Global, line: &str) -> Result<String, AllocError> {
+    let mut text = String::new(alloc);
+    for sign in line.chars() {
+        text.push(match sign {
+            '␀' => '\0',
+            '␉' => '\t',
+            '␊' => '\n',
+            '␌' => '\x0c',
+            '␍' => '\r',
+            other => other,
+        })?;
+    }
+    Ok(text)
+}

@@ -1,103 +1,105 @@
 //! Texts whose tokens follow from the rules.
 
-use lt_ast::{Sign, Span};
-use lt_lexer::{Token, TokenKind, lex};
+use crate::row::{halves, written};
+use lt_lexer::{LexRefusal, Token, lex};
+use std::alloc::{AllocError, Global};
+use std::process::Abort;
 use std::test::Fail;
 
-const fn word(start: usize, end: usize) -> Token {
-    Token {
-        kind: TokenKind::Word,
-        span: Span { start, end },
-    }
-}
-
-const fn number(start: usize, end: usize) -> Token {
-    Token {
-        kind: TokenKind::Number,
-        span: Span { start, end },
-    }
-}
-
-const fn symbol(start: usize, end: usize) -> Token {
-    Token {
-        kind: TokenKind::Symbol,
-        span: Span { start, end },
-    }
-}
-
-#[test]
-fn tokens(rt: HostRuntime) -> Result<(), Fail> {
-    let cases: [(&[u8], &[Token]); 26] = [
-        (b"", &[]),
-        (b" \t\r\n", &[]),
-        (b"\ta\r\n", &[word(1, 2)]),
-        (b"x_1", &[word(0, 3)]),
-        (b"1.", &[number(0, 2)]),
-        (b"1.5", &[number(0, 3)]),
-        (b"12ab", &[number(0, 2), word(2, 4)]),
-        (b"123456789012345678", &[number(0, 18)]),
-        (b"1234567890.12345678", &[number(0, 19)]),
-        (b"123456789012345678.", &[number(0, 19)]),
-        (b"--", &[]),
-        (b"--a\rb", &[]),
-        (b"a--b", &[word(0, 1)]),
-        (b"--(*\na", &[word(5, 6)]),
-        (b"- -", &[symbol(0, 1), symbol(2, 3)]),
-        (b"(**)", &[]),
-        (b"(***)", &[]),
-        (b"(* ( * *)x", &[word(9, 10)]),
-        (b"(* (* *)x", &[word(8, 9)]),
-        (b"(*\0\xff--*)z", &[word(8, 9)]),
-        (b"*)", &[symbol(0, 1), symbol(1, 2)]),
-        (b"<>", &[symbol(0, 2)]),
-        (b"< >", &[symbol(0, 1), symbol(2, 3)]),
-        (b"<=>", &[symbol(0, 2), symbol(2, 3)]),
-        (b"|>&>=>", &[symbol(0, 2), symbol(2, 4), symbol(4, 6)]),
-        (b"=|~", &[symbol(0, 1), symbol(1, 2), symbol(2, 3)]),
-    ];
-    for (text, expected) in cases {
-        let tokens = lex(rt.alloc(), text)?;
-        assert_eq!(rt; tokens.as_slice(), expected, "{text:?}");
+/// That each text has the tokens of its row, or the refusal.
+pub fn check_tokens(rt: &impl Abort, alloc: Global, rows: &str) -> Result<(), Fail> {
+    for row in rows.lines() {
+        let (text, answer) = halves(row, " ==>");
+        let text = written(alloc, text)?;
+        let told = told_of(alloc, text.as_bytes())?;
+        assert_eq!(rt; told.as_str(), answer, "{row}");
     }
     Ok(())
 }
 
-// A token, and what it answers.
-#[derive(Clone, Copy)]
-struct Asked {
-    token: Token,
-    sign: Sign,
-    letters: &'static str,
+// What is told of the tokens of a text.
+fn told_of(alloc: Global, text: &[u8]) -> Result<String, AllocError> {
+    told(alloc, &lex(alloc, text))
 }
 
-// One of them.
-const fn case(token: Token, sign: Sign, letters: &'static str) -> Asked {
-    Asked {
-        token,
-        sign,
-        letters,
+// Each token behind a blank, with its kind and its place, or the refusal.
+fn told(alloc: Global, answer: &Result<Vec<Token>, LexRefusal>) -> Result<String, AllocError> {
+    let mut out = String::new(alloc);
+    match answer {
+        Ok(tokens) => {
+            for token in tokens {
+                let span = token.span;
+                write!(out, " {:?} {}-{}", token.kind, span.start, span.end)?;
+            }
+        }
+        Err(refusal) => write!(out, " {refusal:?}")?,
     }
+    Ok(out)
 }
+
+const TOKENS: &str = "\
+x_1 ==> Word 0-3
+ ==>
+ ␉␍␊ ==>
+␉a␍␊ ==> Word 1-2
+1. ==> Number 0-2
+1.5 ==> Number 0-3
+12ab ==> Number 0-2 Word 2-4
+123456789012345678 ==> Number 0-18
+1234567890.12345678 ==> Number 0-19
+123456789012345678. ==> Number 0-19
+-- ==>
+--a␍b ==>
+a--b ==> Word 0-1
+--(*␊a ==> Word 5-6
+- - ==> Symbol 0-1 Symbol 2-3
+(**) ==>
+(***) ==>
+(* ( * *)x ==> Word 9-10
+(* (* *)x ==> Word 8-9
+*) ==> Symbol 0-1 Symbol 1-2
+<> ==> Symbol 0-2
+< > ==> Symbol 0-1 Symbol 2-3
+<=> ==> Symbol 0-2 Symbol 2-3
+|>&>=> ==> Symbol 0-2 Symbol 2-4 Symbol 4-6
+=|~ ==> Symbol 0-1 Symbol 1-2 Symbol 2-3";
+
+// A comment may hold what is no text.
+const BYTES: &[u8] = b"(*\0\xff--*)z";
+
+#[test]
+fn tokens(rt: HostRuntime) -> Result<(), Fail> {
+    check_tokens(&rt, rt.alloc(), TOKENS)?;
+    assert_eq!(rt; told_of(rt.alloc(), BYTES)?.as_str(), " Word 8-9");
+    Ok(())
+}
+
+// Tokens, each with its sign and its letters.
+const ANSWERS: &str = "\
+Word 0-4 Loop loop
+Word 5-10 Name loops
+Number 11-14 Number 2.0
+Number 15-16 Number 3
+Symbol 17-19 Implies =>
+Symbol 20-21 Less <
+";
 
 #[test]
 fn questions(rt: HostRuntime) -> Result<(), Fail> {
     let text = b"loop loops 2.0 3 => <";
-    let expected = [
-        case(word(0, 4), Sign::Loop, "loop"),
-        case(word(5, 10), Sign::Name, "loops"),
-        case(number(11, 14), Sign::Number, "2.0"),
-        case(number(15, 16), Sign::Number, "3"),
-        case(symbol(17, 19), Sign::Implies, "=>"),
-        case(symbol(20, 21), Sign::Less, "<"),
-    ];
     let tokens = lex(rt.alloc(), text)?;
-    assert_eq!(rt; tokens.len(), expected.len());
-    for (token, asked) in tokens.iter().zip(expected) {
-        assert_eq!(rt; *token, asked.token);
-        assert_eq!(rt; token.sign(text), asked.sign);
-        assert_eq!(rt; token.bytes(text), asked.letters.as_bytes());
-        assert_eq!(rt; token.letters(text), asked.letters);
+    let mut told = String::new(rt.alloc());
+    for token in &tokens {
+        let (kind, span) = (token.kind, token.span);
+        let (sign, letters) = (token.sign(text), token.letters(text));
+        assert_eq!(rt; token.bytes(text), letters.as_bytes());
+        write!(
+            told,
+            "{kind:?} {}-{} {sign:?} {letters}\n",
+            span.start, span.end
+        )?;
     }
+    assert_eq!(rt; told.as_str(), ANSWERS);
     Ok(())
 }
 

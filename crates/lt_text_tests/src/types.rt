@@ -3,7 +3,7 @@
 use crate::row::Row::{
     Accepted, Arity, EmptyRange, Mismatch, NoNode, PreOfExpression, RangeTooLarge, Twice, Unknown,
 };
-use crate::row::{NODE, Row, judge_all};
+use crate::row::{NODE, Row, judge};
 use lt_ast::print;
 use lt_parser::parse;
 use lt_types::check;
@@ -133,12 +133,12 @@ const GROUPS: &[Row] = &[
 
 #[test]
 fn each_rule_accepts_and_refuses(rt: HostRuntime) -> Result<(), Fail> {
-    judge_all(&rt, rt.alloc(), NODE, REFUSALS)?;
-    judge_all(&rt, rt.alloc(), NODE, OPERATORS)?;
-    judge_all(&rt, rt.alloc(), NODE, TRACES)?;
-    judge_all(&rt, rt.alloc(), NODE, ARGUMENTS)?;
-    judge_all(&rt, rt.alloc(), NODE_WITH_REF, REFERENCES)?;
-    judge_all(&rt, rt.alloc(), NODE, GROUPS)
+    judge(&rt, rt.alloc(), NODE, 2, REFUSALS)?;
+    judge(&rt, rt.alloc(), NODE, 2, OPERATORS)?;
+    judge(&rt, rt.alloc(), NODE, 2, TRACES)?;
+    judge(&rt, rt.alloc(), NODE, 2, ARGUMENTS)?;
+    judge(&rt, rt.alloc(), NODE_WITH_REF, 2, REFERENCES)?;
+    judge(&rt, rt.alloc(), NODE, 2, GROUPS)
 }
 
 // Texts with and without a node.
@@ -151,7 +151,7 @@ const NODES: &[Row] = &[
 
 #[test]
 fn a_text_has_a_node(rt: HostRuntime) -> Result<(), Fail> {
-    judge_all(&rt, rt.alloc(), "", NODES)
+    judge(&rt, rt.alloc(), "", 2, NODES)
 }
 
 #[test]
