@@ -76,13 +76,3 @@ joined_trace env f t [] n h = absurd (omega (arith, h))
 joined_trace env f t (u ∷ rest) n h = refl
 
 pub ruleset adding = (adds_none, adds_one, adds_both, adds_length, linked_variable)
-
-pub ruleset expressions = (same_back, enough, adds_length, seen_expression)
-
-pub ruleset expression_heads = (joined_expression)
-
-pub ruleset traces = (same_back, enough, adds_length, seen_trace)
-
-pub ruleset trace_heads = (joined_trace)
-
-pub ruleset nodes = (same_back, enough, adds_both, adds_length)

@@ -19,13 +19,14 @@ use Rattle.lt_formula.specs.declared.memory.Memory.{Memory}
 use Rattle.lt_macros.specs.Environment.{Environment, found_exception}
 use Rattle.lt_macros.specs.Expanded as x
 use Rattle.lt_macros.specs.Senses.{Sense, Numbers, Numbered, NumberedParts, alone, alternative_sense, around_one, around_two, as_trace, as_expression, before_parts, behind_term, bounds_of, caught_as, exp_sense, handler_sense, parts_of, raised_as, repeated, trace_sense, weight_of}
-use Rattle.lt_macros.specs.inner.Built.{AreBuilt, behind_turns, in_two, items_onto, looped, numbered, parts_onto}
+use Rattle.lt_macros.specs.inner.Built.{AreBuilt, behind_turns, boxed, in_two, items_onto, looped, numbered, parts_onto}
 use Rattle.lt_macros.specs.inner.Heads.{head_reads}
 use Rattle.lt_macros.specs.inner.Phrase.{Phrase, phrase_sense}
 use Rattle.lt_macros.specs.inner.Reading.{environment, meant, raised_by}
 use Rattle.lt_macros.specs.inner.Numbers.{numbers_view}
 use Rattle.lt_macros.specs.Tree.{expanded, part_row, parts, placed}
 use Rattle.lt_macros.specs.inner.Work.{alternative_work, alternatives_work, trace_work}
+use Rattle.lt_macros.specs.declared.build.Boxed.{Boxed}
 use Rattle.lt_macros.specs.declared.build.Numbered as code
 use Rattle.lt_macros.specs.declared.build.Two.{Two}
 use Rattle.lt_macros.specs.declared.heads.Head.{Head}
@@ -42,20 +43,24 @@ use Rattle.lt_macros.specs.declared.tree.Placed.{Placed as Expression}
 pub built_where : (d : ℕ) (old now : List Entry) (k : ℕ) (q : Phrase) (n m : Numbers) (b : Numbered) → now ≡ old → m ≡ n → b ≡ as_trace (phrase_sense (environment (meant d) now k) q) m → b ≡ as_trace (phrase_sense (environment (meant d) old k) q) n
 built_where d old now k q n m b same is h = h ∙ (λ i. as_trace (phrase_sense (environment (meant d) (same i) k) q) (is i))
 
+-- a trace in a box
+pub box_built : (b : Boxed) (inner : code.Numbered) (made : Numbered) → b.trace.value ≡ inner.expanded → b.after ≡ inner.after → numbered inner ≡ made → boxed b ≡ made
+box_built b inner made v a h = (λ i. record { expanded = expanded (v i); after = numbers_view (a i) }) ∙ h
+
 -- two traces
-pub two_built : (d : ℕ) (old now : List Entry) (k : ℕ) (p q : Phrase) (n m : Numbers) (before behind : code.Numbered) (t : Two) → now ≡ old → m ≡ behind_term n
-    → t.first.value ≡ before.expanded → t.second.value ≡ behind.expanded → t.after ≡ behind.after
-    → numbered before ≡ as_trace (phrase_sense (environment (meant d) old k) p) m
-    → numbered behind ≡ as_trace (phrase_sense (environment (meant d) now k) q) (numbers_view before.after)
+pub two_built : (d : ℕ) (old now : List Entry) (k : ℕ) (p q : Phrase) (n m : Numbers) (before behind : Boxed) (t : Two) → now ≡ old → m ≡ behind_term n
+    → t.first ≡ before.trace → t.second ≡ behind.trace → t.after ≡ behind.after
+    → boxed before ≡ as_trace (phrase_sense (environment (meant d) old k) p) m
+    → boxed behind ≡ as_trace (phrase_sense (environment (meant d) now k) q) (numbers_view before.after)
     → AreBuilt t (as_trace (phrase_sense (environment (meant d) old k) p) (behind_term n)) (as_trace (phrase_sense (environment (meant d) old k) q))
 two_built d old now k p q n m before behind t same is v w a h g =
     let env = environment (meant d) old k in
-    let first : numbered before ≡ as_trace (phrase_sense env p) (behind_term n) = h ∙ ap (as_trace (phrase_sense env p)) is in
-    let second : numbered behind ≡ as_trace (phrase_sense env q) (as_trace (phrase_sense env p) (behind_term n)).after =
-    built_where d old now k q (numbers_view before.after) (numbers_view before.after) (numbered behind) same refl g ∙ (λ i. as_trace (phrase_sense env q) (first i).after) in
+    let first : boxed before ≡ as_trace (phrase_sense env p) (behind_term n) = h ∙ ap (as_trace (phrase_sense env p)) is in
+    let second : boxed behind ≡ as_trace (phrase_sense env q) (as_trace (phrase_sense env p) (behind_term n)).after =
+    built_where d old now k q (numbers_view before.after) (numbers_view before.after) (boxed behind) same refl g ∙ (λ i. as_trace (phrase_sense env q) (first i).after) in
     record {
-      first_is = ap expanded v ∙ (λ i. (first i).expanded);
-      second_is = ap expanded w ∙ (λ i. (second i).expanded);
+      first_is = ap (λ (b : Box Tree Global). expanded b.value) v ∙ (λ i. (first i).expanded);
+      second_is = ap (λ (b : Box Tree Global). expanded b.value) w ∙ (λ i. (second i).expanded);
       after_is = ap numbers_view a ∙ (λ i. (second i).after);
     }
 
@@ -91,14 +96,14 @@ catch_built d old now h name t handler k n found text two r is text_is same foun
     IfOk-weaker r (λ b. (decimals : ℕ) → numbered b ≡ in_two (caught_as (raised_by (meant decimals) found)) two) (λ b. numbered b ≡ as_trace (head_reads (meant d) old h) n) (λ b same. same d ∙ read) done
 
 -- a trace with a constraint that holds
-pub assert_built : (d : ℕ) (old now : List Entry) (k : ℕ) (e : Exp) (t : Trace) (n m : Numbers) (constraint : Expression) (box : Box Tree Global) (inner : code.Numbered) → now ≡ old → m ≡ behind_term n
-    → placed constraint ≡ as_expression (exp_sense (environment (meant d) now k) e) → box.value ≡ inner.expanded → numbered inner ≡ as_trace (trace_sense (environment (meant d) old k) t) m
-    → record { expanded = x.assert (placed constraint) (expanded box.value); after = numbers_view inner.after } ≡ as_trace (trace_sense (environment (meant d) old k) (s.assert e t)) n
-assert_built d old now k e t n m constraint box inner same is made v h =
+pub assert_built : (d : ℕ) (old now : List Entry) (k : ℕ) (e : Exp) (t : Trace) (n m : Numbers) (constraint : Expression) (inner : Boxed) → now ≡ old → m ≡ behind_term n
+    → placed constraint ≡ as_expression (exp_sense (environment (meant d) now k) e) → boxed inner ≡ as_trace (trace_sense (environment (meant d) old k) t) m
+    → record { expanded = x.assert (placed constraint) (expanded inner.trace.value); after = numbers_view inner.after } ≡ as_trace (trace_sense (environment (meant d) old k) (s.assert e t)) n
+assert_built d old now k e t n m constraint inner same is made h =
     let env = environment (meant d) old k in
     let holds : placed constraint ≡ as_expression (exp_sense env e) = made ∙ ap (λ rows. as_expression (exp_sense (environment (meant d) rows k) e)) same in
-    let inside : numbered inner ≡ as_trace (trace_sense env t) (behind_term n) = h ∙ ap (as_trace (trace_sense env t)) is in
-    (λ i. record { expanded = x.assert (holds i) (expanded (v i)); after = numbers_view inner.after }) ∙ ap (around_one (x.assert (as_expression (exp_sense env e)))) inside
+    let inside : boxed inner ≡ as_trace (trace_sense env t) (behind_term n) = h ∙ ap (as_trace (trace_sense env t)) is in
+    (λ i. record { expanded = x.assert (holds i) (expanded inner.trace.value); after = numbers_view inner.after }) ∙ ap (around_one (x.assert (as_expression (exp_sense env e)))) inside
 
 -- a loop, whose counter has this number where it has one
 loops : (env : Environment Sense) (l : Limits) (body : Numbers → Numbered) (n : Numbers) → around_one (looped (bounds_of env l) n.counter) (body (behind_turns l n)) ≡ repeated (bounds_of env l) body n
@@ -106,15 +111,15 @@ loops env s.forever body n = refl
 loops env (s.between d e) body n = refl
 loops env (s.around d e) body n = refl
 
-pub loop_built : (d : ℕ) (old now : List Entry) (k : ℕ) (l : Limits) (t : Trace) (n m : Numbers) (turns : Option x.Bounds) (box : Box Tree Global) (turn : code.Numbered) → now ≡ old → m ≡ behind_turns l n
-    → turns ≡ bounds_of (environment (meant d) now k) l → box.value ≡ turn.expanded → numbered turn ≡ as_trace (trace_sense (environment (meant d) old k) t) m
-    → record { expanded = looped turns n.counter (expanded box.value); after = numbers_view turn.after } ≡ as_trace (trace_sense (environment (meant d) old k) (s.loop l t)) n
-loop_built d old now k l t n m turns box turn same is bounds v h =
+pub loop_built : (d : ℕ) (old now : List Entry) (k : ℕ) (l : Limits) (t : Trace) (n m : Numbers) (turns : Option x.Bounds) (turn : Boxed) → now ≡ old → m ≡ behind_turns l n
+    → turns ≡ bounds_of (environment (meant d) now k) l → boxed turn ≡ as_trace (trace_sense (environment (meant d) old k) t) m
+    → record { expanded = looped turns n.counter (expanded turn.trace.value); after = numbers_view turn.after } ≡ as_trace (trace_sense (environment (meant d) old k) (s.loop l t)) n
+loop_built d old now k l t n m turns turn same is bounds h =
     let env = environment (meant d) old k in
     let body : Numbers → Numbered = as_trace (trace_sense env t) in
     let bounds' : turns ≡ bounds_of env l = bounds ∙ ap (λ rows. bounds_of (environment (meant d) rows k) l) same in
-    let inside : numbered turn ≡ body (behind_turns l n) = h ∙ ap body is in
-    (λ i. record { expanded = looped (bounds' i) n.counter (expanded (v i)); after = numbers_view turn.after }) ∙ ap (around_one (looped (bounds_of env l) n.counter)) inside ∙ loops env l body n
+    let inside : boxed turn ≡ body (behind_turns l n) = h ∙ ap body is in
+    (λ i. record { expanded = looped (bounds' i) n.counter (expanded turn.trace.value); after = numbers_view turn.after }) ∙ ap (around_one (looped (bounds_of env l) n.counter)) inside ∙ loops env l body n
 
 -- alternatives behind others
 items_onto-append : (items more : List Part) (rest : x.Parts) → items_onto (items ++ more) rest ≡ items_onto items (items_onto more rest)

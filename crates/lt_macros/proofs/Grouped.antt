@@ -1,6 +1,6 @@
 -- Groups of variables in turn.
-use Rattle.std.proofs.Common.{◌≡◌, ℕ, suc, ◌+◌, ◌≤◌, ◌<◌, List, [], ◌∷◌, ◌++◌, length, map, drop, get_or, refl, ap, sym, ◌∙◌, arith, drop-cons, append_assoc, length-append}
-use Rattle.std.proofs.lemmas.List.{append-nil, drop_all, length-map}
+use Rattle.std.proofs.Common.{◌≡◌, ℕ, suc, ◌+◌, ◌≤◌, ◌<◌, List, [], ◌∷◌, ◌++◌, length, map, take, drop, get_or, refl, ap, sym, ◌∙◌, arith, drop-cons, append_assoc, length-append}
+use Rattle.std.proofs.lemmas.List.{append-nil, drop_all, length-map, map-append, take_all, take_more}
 use Rattle.lt_ast.specs.Syntax as s
 use Rattle.lt_ast.specs.Syntax.{Word, Grouping, Groupings}
 use Rattle.lt_ast.specs.View.{word}
@@ -8,7 +8,6 @@ use Rattle.lt_ast.specs.inner.Lists.{groups_of}
 use Rattle.lt_ast.specs.inner.Rows.{group_of}
 use Rattle.lt_ast.specs.declared.name.Name.{Name}
 use Rattle.lt_ast.specs.declared.group.Group.{Group}
-use Rattle.lt_ast.proofs.Public.{groups_list}
 use Rattle.lt_formula.specs.declared.role.Role.{Role}
 use Rattle.lt_macros.specs.Environment.{Environment, parameter, variable, with_name, with_variables}
 use Rattle.lt_macros.specs.Expanded.{Declared}
@@ -31,11 +30,30 @@ groups_from groups place group h is =
     let next : suc place ≡ place + 1 = omega arith in
     ap (λ gs. groups_of (map group_of gs)) (drop-cons groups place group h ∙ (λ i. sym is i ∷ drop (next i) groups))
 
-pub ruleset variables = (groups_list)
-
 names_length : (names : List Name) → length (map (λ w. w.text) (map word names)) ≡ length names
 names_length [] = refl
 names_length (n ∷ names) = ap suc (names_length names)
+
+-- one more name of a group is declared
+pub name_declared : (f : Word → Declared) (names : List Name) (place : ℕ) (name : Name) (old new : List Tree) (one : Tree) (before : List Declared) → place < length names → name ≡ get_or names place name
+    → new ≡ old ++ one ∷ [] → declared one ≡ f (word name)
+    → map declared old ≡ before ++ map f (map word (take place names))
+    → map declared new ≡ before ++ map f (map word (take (place + 1) names))
+name_declared f names place name old new one before h is pushed made so_far =
+    let passed : List Declared = map f (map word (take place names)) in
+    let more : take (place + 1) names ≡ take place names ++ name ∷ [] = take_more names place name h ∙ (λ i. take place names ++ sym is i ∷ []) in
+    let all : map f (map word (take (place + 1) names)) ≡ passed ++ f (word name) ∷ [] =
+    ap (λ ns. map f (map word ns)) more ∙ ap (map f) (map-append word (take place names) (name ∷ [])) ∙ map-append f (map word (take place names)) (word name ∷ []) in
+    ap (map declared) pushed
+    ∙ map-append declared old (one ∷ [])
+    ∙ (λ i. so_far i ++ made i ∷ [])
+    ∙ append_assoc before passed (f (word name) ∷ [])
+    ∙ sym (ap (λ ds. before ++ ds) all)
+
+-- at the end all of them are
+pub names_declared : (f : Word → Declared) (names written : List Name) (place : ℕ) (before all : List Declared) → length names ≤ place → names ≡ written
+    → all ≡ before ++ map f (map word (take place names)) → all ≡ before ++ map f (map word written)
+names_declared f names written place before all h whole so_far = so_far ∙ ap (λ ns. before ++ map f (map word ns)) (take_all place names h ∙ whole)
 
 -- so many variables are behind a group
 pub next_place : (n next : ℕ) (g : Group) → next ≡ n + length g.names.items.items → next ≡ n + length (group_names (group_of g))

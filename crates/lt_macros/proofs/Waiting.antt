@@ -39,7 +39,7 @@ use Rattle.lt_macros.specs.declared.counting.Locals.{Locals}
 use Rattle.lt_macros.specs.declared.counting.Left.{Left}
 use Rattle.lt_macros.specs.declared.counting.Left.TheVariants.{Trace as TraceLeft, Expression, Alternatives, Groups, Names}
 use Rattle.lt_macros.specs.declared.counting.Pending.{Pending}
-use Rattle.lt_macros.proofs.Adding.{adds_length, adds_none, environment_kept}
+use Rattle.lt_macros.proofs.Adding.{adds_length, environment_kept}
 
 -- the newest part comes first
 pub turned : {A : Type 0} (ps : List A) (p : A) → reverse (ps ++ p ∷ []) ≡ p ∷ reverse ps
@@ -224,5 +224,3 @@ tallied_limit t figure inputs outputs h = by (nat_le t.nodes most_nodes) refl
         let past : nat_le (figure nodes) most_nodes ≡ false = lt-leb (figure nodes) most_nodes (h.1 (leb-false t.nodes most_nodes is)) in
         let rest = λ (g : Figure → ℕ). if nat_eq (g deep_terms) 0 && nat_eq (g deep_expressions) 0 then (if nat_eq (g wide_choices) 0 then (if nat_le inputs most_variables && nat_le (outputs + g locals) most_variables then None else Some Variables) else Some Children) else Some Depth in
         ap (λ b. if b then rest (counted t) else Some Nodes) is ∙ sym (ap (λ b. if b then rest figure else Some Nodes) past)
-
-pub ruleset takes = (adds_none, within_more, left_more)

@@ -10,11 +10,11 @@ ghost use Rattle.lt_num.specs.Bounds.{most_decimals};
 ghost use Rattle.lt_macros.specs.Expanded as x;
 ghost use Rattle.lt_macros.specs.Expansion.{node_of};
 ghost use Rattle.lt_macros.specs.Senses.{alone, around_two, as_expression, as_trace, behind_term, bounds_of as limits_bounds, caught_as, chosen, parts_of, raised_as as raised_tree, weight_of};
-ghost use Rattle.lt_macros.specs.inner.Built.{AreBuilt, behind_turns, in_all, in_two, looped, numbered, numbered_parts};
+ghost use Rattle.lt_macros.specs.inner.Built.{AreBuilt, behind_turns, boxed, in_all, in_two, looped, numbered, numbered_parts};
 ghost use Rattle.lt_macros.specs.inner.Handing.{AreRight};
 ghost use Rattle.lt_macros.specs.inner.Heads.{IsWithin, head_reads};
 ghost use Rattle.lt_macros.specs.inner.Numbers.{numbers_view};
-ghost use Rattle.lt_macros.specs.inner.Phrase.{braces, joined, joined_by, trace};
+ghost use Rattle.lt_macros.specs.inner.Phrase.{braces, joined, joined_by, trace, value};
 ghost use Rattle.lt_macros.specs.inner.Reading.{environment as environment_of, meant, raised_by, source_view};
 ghost use Rattle.lt_macros.specs.inner.Rows.{rows};
 ghost use Rattle.lt_macros.specs.Tree.{bounds as bounds_view, declared as declared_view, exception as exception_view, expanded as expanded_view, node as node_view, placed};
@@ -44,11 +44,25 @@ pub(crate) struct Numbered {
     pub(crate) after: Numbers,
 }
 
+/// A trace in a box, and what stands before the place behind it.
+#[derive(Drop)]
+struct Boxed {
+    trace: Box<Expanded>,
+    after: Numbers,
+}
+
 /// Alternatives, and what stands before the place behind them.
 #[derive(Drop)]
 struct NumberedParts {
     parts: Parts,
     after: Numbers,
+}
+
+/// Two expressions.
+#[derive(Drop)]
+struct Pair {
+    first: Placed,
+    second: Placed,
 }
 
 /// Two traces, the second of which is numbered behind the first, and what stands before the place behind them.
@@ -60,7 +74,6 @@ struct Two {
 }
 
 // A node, in the environment at its place.
-#[tactic(auto, using(crate::proofs::Building::nodes))]
 pub(crate) fn build_node<'a>(
     alloc: Global,
     scope: &mut Scope<'a>,
@@ -115,7 +128,6 @@ pub(crate) fn build_node<'a>(
 
 // What a phrase stands for as a trace, before which so much stands.
 #[cycle(build_trace)]
-#[tactic(auto, using(crate::proofs::Building::traces))]
 #[inline(never)]
 pub(crate) fn build_trace<'a>(
     alloc: Global,
@@ -140,7 +152,6 @@ pub(crate) fn build_trace<'a>(
 
 // What is met as a trace; an expression is a constraint.
 #[cycle(build_trace)]
-#[tactic(auto, using(crate::proofs::Building::trace_heads))]
 fn build_trace_head<'a>(
     alloc: Global,
     scope: &mut Scope<'a>,
@@ -342,17 +353,36 @@ fn build_two<'a>(
     ensures kept { OnOk result (rows scope.new ≡ rows scope.old) }
 {
     let inside = numbers.behind_term()?;
-    let before = build_trace(alloc, scope, decimals, inside, environment, first)?;
-    let middle = before.after;
-    let left = Box::new(alloc, before.expanded)?;
-    let behind = build_trace(alloc, scope, decimals, middle, environment, second)?;
-    let after = behind.after;
-    let right = Box::new(alloc, behind.expanded)?;
+    let before = build_boxed(alloc, scope, decimals, inside, environment, first)?;
+    let behind = build_boxed(alloc, scope, decimals, before.after, environment, second)?;
     Ok(Two {
-        first: left,
-        second: right,
-        after,
+        first: before.trace,
+        second: behind.trace,
+        after: behind.after,
     })
+}
+
+// A trace in a box.
+#[cycle(build_trace)]
+#[inline(never)]
+fn build_boxed<'a>(
+    alloc: Global,
+    scope: &mut Scope<'a>,
+    decimals: u32,
+    numbers: Numbers,
+    environment: usize,
+    source: Source<'a>,
+) -> Result<Boxed, Memory>
+    requires few { decimals ≤ most_decimals }
+    requires within { environment ≤ length (rows scope.old) }
+    requires right { AreRight (rows scope.old) }
+    ensures tree { IfOk result (λ b. boxed b ≡ as_trace ((meant decimals).phrase (environment_of (meant decimals) (rows scope.old) environment) (source_view source.entry)) (numbers_view numbers)) }
+    ensures kept { OnOk result (rows scope.new ≡ rows scope.old) }
+{
+    let built = build_trace(alloc, scope, decimals, numbers, environment, source)?;
+    let after = built.after;
+    let trace = Box::new(alloc, built.expanded)?;
+    Ok(Boxed { trace, after })
 }
 
 // A loop.
@@ -373,19 +403,10 @@ fn build_loop<'a>(
     ensures tree { IfOk result (λ b. numbered b ≡ as_trace ((meant decimals).phrase (environment_of (meant decimals) (rows scope.old) environment) (trace (s.loop (limits written.now) (trace_view body.now)))) (numbers_view numbers)) }
     ensures kept { OnOk result (rows scope.new ≡ rows scope.old) }
 {
-    let inside = behind_loop(numbers, written)?;
-    let turn = build_trace(
-        alloc,
-        scope,
-        decimals,
-        inside,
-        environment,
-        Source::Trace(body),
-    )?;
-    let after = turn.after;
-    let inner = Box::new(alloc, turn.expanded)?;
+    let (inside, source) = (behind_loop(numbers, written)?, Source::Trace(body));
+    let turn = build_boxed(alloc, scope, decimals, inside, environment, source)?;
     let bounds = build_bounds(alloc, scope, decimals, environment, written)?;
-    Ok(put_loop(numbers.counter, bounds, inner, after))
+    Ok(put_loop(numbers.counter, bounds, turn.trace, turn.after))
 }
 
 // Behind one more loop, which may have a counter.
@@ -428,17 +449,36 @@ fn build_bounds<'a>(
     match written {
         Limits::Forever => Ok(None),
         Limits::Between(low, high) => {
-            let low = build_expr(alloc, scope, decimals, environment, Source::Value(low))?;
-            let high = build_expr(alloc, scope, decimals, environment, Source::Value(high))?;
-            Ok(Some(Bounds::Between(low, high)))
+            let pair = build_pair(alloc, scope, decimals, environment, low, high)?;
+            Ok(Some(Bounds::Between(pair.first, pair.second)))
         }
         Limits::Around(average, deviation) => {
-            let (average, deviation) = (Source::Value(average), Source::Value(deviation));
-            let average = build_expr(alloc, scope, decimals, environment, average)?;
-            let deviation = build_expr(alloc, scope, decimals, environment, deviation)?;
-            Ok(Some(Bounds::Around(average, deviation)))
+            let pair = build_pair(alloc, scope, decimals, environment, average, deviation)?;
+            Ok(Some(Bounds::Around(pair.first, pair.second)))
         }
     }
+}
+
+// Two expressions.
+#[inline(never)]
+fn build_pair<'a>(
+    alloc: Global,
+    scope: &mut Scope<'a>,
+    decimals: u32,
+    environment: usize,
+    first: &'a Expr,
+    second: &'a Expr,
+) -> Result<Pair, Memory>
+    requires few { decimals ≤ most_decimals }
+    requires within { environment ≤ length (rows scope.old) }
+    requires right { AreRight (rows scope.old) }
+    ensures first { IfOk result (λ p. placed p.first ≡ as_expression ((meant decimals).phrase (environment_of (meant decimals) (rows scope.old) environment) (value (exp first.now)))) }
+    ensures second { IfOk result (λ p. placed p.second ≡ as_expression ((meant decimals).phrase (environment_of (meant decimals) (rows scope.old) environment) (value (exp second.now)))) }
+    ensures kept { OnOk result (rows scope.new ≡ rows scope.old) }
+{
+    let first = build_expr(alloc, scope, decimals, environment, Source::Value(first))?;
+    let second = build_expr(alloc, scope, decimals, environment, Source::Value(second))?;
+    Ok(Pair { first, second })
 }
 
 // The alternatives of a choice.
@@ -511,25 +551,16 @@ fn build_assert<'a>(
     ensures tree { IfOk result (λ b. numbered b ≡ as_trace ((meant decimals).phrase (environment_of (meant decimals) (rows scope.old) environment) (trace (s.assert (exp always.now) (trace_view body.now)))) (numbers_view numbers)) }
     ensures kept { OnOk result (rows scope.new ≡ rows scope.old) }
 {
-    let inside = numbers.behind_term()?;
-    let inner = build_trace(
-        alloc,
-        scope,
-        decimals,
-        inside,
-        environment,
-        Source::Trace(body),
-    )?;
-    let after = inner.after;
-    let boxed = Box::new(alloc, inner.expanded)?;
+    let (inside, source) = (numbers.behind_term()?, Source::Trace(body));
+    let inner = build_boxed(alloc, scope, decimals, inside, environment, source)?;
     let constraint = build_expr(alloc, scope, decimals, environment, Source::Value(always))?;
-    let expanded = Expanded::Assert(constraint, boxed);
+    let after = inner.after;
+    let expanded = Expanded::Assert(constraint, inner.trace);
     Ok(Numbered { expanded, after })
 }
 
 // A trace with locals, each of which sees the groups before its own.
 #[cycle(build_trace)]
-#[tactic(auto, using(crate::proofs::Building::traces))]
 #[inline(never)]
 fn build_exist<'a>(
     alloc: Global,
@@ -546,22 +577,20 @@ fn build_exist<'a>(
     ensures tree { IfOk result (λ b. numbered b ≡ as_trace ((meant decimals).phrase (environment_of (meant decimals) (rows scope.old) environment) (trace (s.exist (groupings groups.now) (trace_view body.now)))) (numbers_view numbers)) }
     ensures kept { OnOk result (rows scope.new ≡ rows scope.old) }
 {
-    let (before, first) = (scope.len(), numbers.local);
+    let before = scope.len();
     let locals = declare_groups(
         alloc,
         scope,
         decimals,
         Role::Local,
-        first,
+        numbers.local,
         environment,
         groups,
     )?;
     let (inside, source) = (numbers.behind_locals(locals.next)?, Source::Trace(body));
     let inner = build_trace(alloc, scope, decimals, inside, locals.environment, source)?;
     scope.truncate(before);
-    let after = inner.after;
-    let expanded = put_locals(alloc, locals.declared, locals.next, inner.expanded)?;
-    Ok(Numbered { expanded, after })
+    put_locals(alloc, locals.declared, locals.next, inner)
 }
 
 // A trace with locals of these declarations, behind the last of which the next one has this number.
@@ -570,19 +599,20 @@ fn put_locals(
     alloc: Global,
     declared: Vec<Declared>,
     next: u32,
-    body: Expanded,
-) -> Result<Expanded, Memory>
+    body: Numbered,
+) -> Result<Numbered, Memory>
     requires { length declared.items ≤ next }
-    ensures { IfOk result (λ t. expanded_view t ≡ in_all (next - length declared.items) (map declared_view declared.items) (expanded_view body)) }
+    ensures { IfOk result (λ b. numbered b ≡ record { expanded = in_all (next - length declared.items) (map declared_view declared.items) (expanded_view body.expanded); after = numbers_view body.after }) }
 {
+    let after = body.after;
     let mut left = declared;
     let mut number = next;
-    let mut inside = body;
+    let mut expanded = body.expanded;
     while let Some(local) = left.pop() {
         number -= 1;
-        inside = Expanded::Exist(number, local, Box::new(alloc, inside)?);
+        expanded = Expanded::Exist(number, local, Box::new(alloc, expanded)?);
     }
-    Ok(inside)
+    Ok(Numbered { expanded, after })
 }
 
 // A term without parts.

@@ -113,7 +113,6 @@ fn deeper(depth: u32) -> Result<u32, Memory>
 }
 
 // Puts a part before those that are left.
-#[tactic(auto, using(crate::proofs::Waiting::turned))]
 fn put<'a>(count: &mut Count<'a>, left: Left<'a>, at: Place) -> Result<(), Memory>
     ensures left { OnOk result (waiting count.new ≡ record { left = left.entry; at = at } ∷ waiting count.old) }
     ensures numbers { OnOk result (count.new.numbers ≡ count.old.numbers) }
@@ -290,7 +289,6 @@ fn put_assert<'a>(
 }
 
 // Counts a choice that stands so deep, and puts its alternatives before what is left.
-#[tactic(auto, using(crate::proofs::Waiting::counted_parts))]
 fn put_choice<'a>(
     count: &mut Count<'a>,
     depth: u32,
@@ -314,7 +312,6 @@ fn put_choice<'a>(
 }
 
 // Counts the first node of a trace that stands so deep, and puts what is in it before what is left.
-#[tactic(auto, using(crate::proofs::Waiting::reads))]
 fn put_trace<'a>(
     count: &mut Count<'a>,
     depth: u32,
@@ -603,7 +600,6 @@ fn take_local<'a>(
 }
 
 // Takes the first local of those that are left, or else what is behind them.
-#[tactic(auto, using(crate::proofs::Waiting::takes))]
 fn take_names<'a>(
     count: &mut Count<'a>,
     scope: &mut Scope<'a>,
@@ -630,7 +626,6 @@ fn take_names<'a>(
 }
 
 // Takes the first part of what is left.
-#[tactic(auto, using(crate::proofs::Waiting::takes))]
 fn take<'a>(
     count: &mut Count<'a>,
     scope: &mut Scope<'a>,
@@ -685,7 +680,6 @@ fn run<'a>(count: &mut Count<'a>, scope: &mut Scope<'a>) -> Result<(), Memory>
 }
 
 // Puts the first value of a group before what is left, for each of its names.
-#[tactic(auto, using(crate::proofs::Opened::firsts_all))]
 fn put_firsts<'a>(count: &mut Count<'a>, at: Place, group: &'a Group) -> Result<(), Memory>
     requires depth { at.depth ≡ 1 }
     requires within { at.environment ≤ at.len }
@@ -726,12 +720,10 @@ fn put_group<'a>(
     };
     put_firsts(count, at, group)?;
     let names = &group.names.items;
-    let shown = show_names(scope, role, visible.next, visible.environment, names)?;
-    Ok(shown)
+    show_names(scope, role, visible.next, visible.environment, names)
 }
 
 // Puts the first values of groups' variables before what is left, and makes these variables visible.
-#[tactic(auto, using(crate::proofs::Opened::as_many))]
 fn put_variables<'a>(
     count: &mut Count<'a>,
     scope: &mut Scope<'a>,

@@ -33,7 +33,6 @@ pub(crate) struct Led {
 }
 
 // The names of a macro's parameters.
-#[tactic(auto, using(crate::proofs::Parameters::names))]
 pub(crate) fn parameters_of<'a>(
     alloc: Global,
     params: &'a Option<Groups>,
@@ -48,7 +47,6 @@ pub(crate) fn parameters_of<'a>(
 }
 
 // The names of groups, behind those that are there.
-#[tactic(auto, using(crate::proofs::Parameters::names))]
 fn add_groups<'a>(all: &mut Vec<&'a Name>, groups: &'a Groups) -> Result<(), Memory>
     ensures { OnOk result (map name_text all.new.items ≡ map name_text all.old.items ++ groups_names (groupings groups.now)) }
 {
@@ -59,7 +57,6 @@ fn add_groups<'a>(all: &mut Vec<&'a Name>, groups: &'a Groups) -> Result<(), Mem
 }
 
 // The names of a group, behind those that are there.
-#[tactic(auto, using(crate::proofs::Parameters::names))]
 fn add_group<'a>(all: &mut Vec<&'a Name>, group: &'a Group) -> Result<(), Memory>
     ensures { OnOk result (map name_text all.new.items ≡ map name_text all.old.items ++ group_names (group_of group.now)) }
 {

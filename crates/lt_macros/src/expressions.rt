@@ -24,7 +24,6 @@ use std::alloc::Global;
 
 // What a phrase stands for as an expression.
 #[cycle(build_expr)]
-#[tactic(auto, using(crate::proofs::Building::expressions))]
 #[inline(never)]
 pub(crate) fn build_expr<'a>(
     alloc: Global,
@@ -48,7 +47,6 @@ pub(crate) fn build_expr<'a>(
 
 // What is met as an expression; a trace means nothing there.
 #[cycle(build_expr)]
-#[tactic(auto, using(crate::proofs::Building::expression_heads))]
 #[inline(never)]
 pub(crate) fn build_expr_head<'a>(
     alloc: Global,

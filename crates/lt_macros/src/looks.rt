@@ -81,7 +81,6 @@ pub(crate) fn look_at(source: Source<'_>) -> Look<'_>
 }
 
 // What an expression is.
-#[tactic(auto, using(crate::proofs::Covers::covers))]
 fn look_at_expr(expr: &Expr) -> Look<'_>
     ensures { LooksLike result (value (exp expr.now)) }
 {
@@ -111,7 +110,6 @@ fn given(args: &Option<Args>) -> &[Arg]
 }
 
 // What a trace is.
-#[tactic(auto, using(crate::proofs::Covers::covers))]
 fn look_at_trace(written: &TraceExpr) -> Look<'_>
     ensures { LooksLike result (trace_phrase (trace written.now)) }
 {
@@ -132,7 +130,6 @@ fn look_at_trace(written: &TraceExpr) -> Look<'_>
 }
 
 // What stands in braces.
-#[tactic(auto, using(crate::proofs::Covers::covers))]
 fn look_at_braces(inside: &Braced) -> Look<'_>
     ensures { LooksLike result (braces (braced inside.now)) }
 {
@@ -145,7 +142,6 @@ fn look_at_braces(inside: &Braced) -> Look<'_>
 }
 
 // What traces are that are joined so.
-#[tactic(auto, using(crate::proofs::Covers::lists))]
 fn look_at_joined(join: Join, traces: &[TraceExpr]) -> Look<'_>
     ensures { LooksLike result (joined join (traces_of (map trace traces.now))) }
 {
@@ -160,7 +156,6 @@ fn look_at_joined(join: Join, traces: &[TraceExpr]) -> Look<'_>
 }
 
 // What a `do` part is.
-#[tactic(auto, using(crate::proofs::Covers::lists))]
 fn look_at_handler(body: &Option<Box<TraceExpr>>) -> Look<'_>
     ensures { LooksLike result (handler (maybe_trace body.now)) }
 {

@@ -26,7 +26,6 @@ pub(crate) fn head_at(environment: usize, source: Source<'_>) -> Head<'_>
 }
 
 // .. an expression.
-#[tactic(auto, using(crate::proofs::Plain::expressions))]
 fn expr_at(environment: usize, expr: &Expr) -> Head<'_>
     ensures { IsTrue (is_head (value (exp expr.now))) → Shows environment result (value (exp expr.now)) }
 {
@@ -41,7 +40,6 @@ fn expr_at(environment: usize, expr: &Expr) -> Head<'_>
 }
 
 // .. a trace.
-#[tactic(auto, using(crate::proofs::Plain::traces))]
 fn trace_at(environment: usize, written: &TraceExpr) -> Head<'_>
     ensures { IsTrue (is_head (trace_phrase (trace written.now))) → Shows environment result (trace_phrase (trace written.now)) }
 {
@@ -62,7 +60,6 @@ fn trace_at(environment: usize, written: &TraceExpr) -> Head<'_>
 }
 
 // .. what stands in braces.
-#[tactic(auto, using(crate::proofs::Plain::traces))]
 fn braces_at(environment: usize, inside: &Braced) -> Head<'_>
     ensures { IsTrue (is_head (braces (braced inside.now))) → Shows environment result (braces (braced inside.now)) }
 {

@@ -46,7 +46,6 @@ pub(crate) struct Visible {
 }
 
 // The variables of groups, the first of which has this place. A first value sees the groups before.
-#[tactic(auto, using(crate::proofs::Grouped::variables))]
 #[inline(never)]
 pub(crate) fn declare_groups<'a>(
     alloc: Global,
@@ -93,7 +92,6 @@ pub(crate) fn declare_groups<'a>(
 }
 
 // The variables of a group, behind those that are there.
-#[tactic(auto, using(crate::proofs::Grouped::variables))]
 fn declare_names<'a>(
     alloc: Global,
     scope: &mut Scope<'a>,
@@ -168,7 +166,6 @@ fn build_first<'a>(
 }
 
 // Variables of a role by these names, the first of which has this place.
-#[tactic(auto, using(crate::proofs::Building::adding))]
 pub(crate) fn show_names<'a>(
     scope: &mut Scope<'a>,
     role: Role,
@@ -195,7 +192,6 @@ pub(crate) fn show_names<'a>(
 }
 
 // The variable of a role at a place, by this name.
-#[tactic(auto, using(crate::proofs::Building::adding))]
 pub(crate) fn show_name<'a>(
     scope: &mut Scope<'a>,
     role: Role,

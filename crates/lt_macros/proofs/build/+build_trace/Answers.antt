@@ -1,50 +1,68 @@
-use Rattle.std.proofs.Common.{◌≡◌, ◌<◌, ◌+◌, ◌*◌, length, map, option_map, refl, ap, sym, ◌∙◌, arith, rules}
+use Rattle.std.proofs.Common.{◌≡◌, ◌<◌, ◌+◌, ◌-◌, ◌*◌, length, map, option_map, refl, ap, sym, ◌∙◌, arith, rules}
+use Rattle.std.proofs.lemmas.Result.{IfOk-weaker}
 use Rattle.lt_ast.specs.Syntax as s
 use Rattle.lt_ast.specs.View.{alternatives, exp, groupings, limits, trace as trace_view}
 use Rattle.lt_ast.specs.inner.Rows.{part_of}
 use Rattle.lt_macros.specs.Senses.{as_trace, behind_term, chosen, parts_of, trace_sense, traces_sense, weight_of}
 use Rattle.lt_macros.specs.declared.heads.Head.TheVariants.{Catch}
-use Rattle.lt_macros.specs.inner.Built.{numbered}
+use Rattle.lt_macros.specs.inner.Built.{in_all, numbered}
 use Rattle.lt_macros.specs.inner.Numbers.{numbers_view}
 use Rattle.lt_macros.specs.inner.Phrase.{joined_by, trace}
 use Rattle.lt_macros.specs.inner.Reading.{environment, meant, worked, source_view}
 use Rattle.lt_macros.specs.inner.Rows.{rows}
-use Rattle.lt_macros.specs.Tree.{bounds, expanded}
+use Rattle.lt_macros.specs.Tree.{bounds, declared, expanded}
 use Rattle.lt_macros.specs.inner.Work.{alternatives_work, trace_work}
 use Rattle.lt_ast.specs.inner.Lists.{alternatives_of, traces_of}
 use Rattle.lt_ast.proofs.Public.{alternatives_list}
-use Rattle.lt_macros.proofs.Building.{joined_trace, seen_trace}
-use Rattle.lt_macros.proofs.Built.{assert_built, built_where, catch_built, joined_built, loop_built, part_built, part_worked, parts_whole, raise_built, two_built}
+use Rattle.lt_macros.proofs.Building.{enough, joined_trace, same_back, seen_trace}
+use Rattle.lt_macros.proofs.Built.{assert_built, box_built, built_where, catch_built, joined_built, loop_built, part_built, part_worked, parts_whole, raise_built, two_built}
 use Rattle.lt_macros.proofs.Exists.{exist_built, exist_less}
 use Rattle.lt_macros.proofs.build.+build_trace.Goals as goal
 
+pub build_boxed-returns-clause-tree : goal.build_boxed-returns-clause-tree
+build_boxed-returns-clause-tree t c =
+    box_built (record { trace = c.in_ok-trace.trace; after = c.in_ok-built.built.after }) c.in_ok-built.built _ (search rules) refl c.in_ok-built.ensures.tree
+
 pub build_two-returns-clause-trees : goal.build_two-returns-clause-trees
 build_two-returns-clause-trees t c =
-    two_built c.args.decimals (rows c.args.scope.now) (rows c.build_trace.new.scope) c.args.environment (source_view c.args.first) (source_view c.args.second) (numbers_view c.args.numbers) (numbers_view c.in_ok-inside.inside) c.in_ok-before.before c.in_ok-behind.behind
-    (record { first = c.in_ok-left.left; second = c.in_ok-right.right; after = c.in_ok-behind.behind.after }) c.in_ok-before.ensures.kept c.in_ok-inside.ensures (search rules) (search rules) refl c.in_ok-before.ensures.tree c.in_ok-behind.ensures.tree
+    two_built c.args.decimals (rows c.args.scope.now) (rows c.build_boxed.new.scope) c.args.environment (source_view c.args.first) (source_view c.args.second) (numbers_view c.args.numbers) (numbers_view c.in_ok-inside.inside) c.in_ok-before.before c.in_ok-behind.behind
+    (record { first = c.in_ok-before.before.trace; second = c.in_ok-behind.behind.trace; after = c.in_ok-behind.behind.after }) c.in_ok-before.ensures.kept c.in_ok-inside.ensures refl refl refl c.in_ok-before.ensures.tree c.in_ok-behind.ensures.tree
 
 pub build_loop-returns-clause-tree : goal.build_loop-returns-clause-tree
 build_loop-returns-clause-tree t c =
     c.put_loop.ensures
-    ∙ loop_built c.args.decimals (rows c.args.scope.now) (rows c.build_trace.new.scope) c.args.environment (limits c.args.written.now) (trace_view c.args.body.now) (numbers_view c.args.numbers) (numbers_view c.in_ok-inside.inside) (option_map bounds c.in_ok-bounds.bounds) c.in_ok-inner.inner c.in_ok-turn.turn
-    c.in_ok-turn.ensures.kept c.in_ok-inside.ensures c.in_ok-bounds.ensures.bounds (search rules) c.in_ok-turn.ensures.tree
+    ∙ loop_built c.args.decimals (rows c.args.scope.now) (rows c.build_boxed.new.scope) c.args.environment (limits c.args.written.now) (trace_view c.args.body.now) (numbers_view c.args.numbers) (numbers_view c.in_ok-inside.inside) (option_map bounds c.in_ok-bounds.bounds) c.in_ok-turn.turn
+    c.in_ok-turn.ensures.kept c.in_ok-inside.ensures c.in_ok-bounds.ensures.bounds c.in_ok-turn.ensures.tree
 
 pub build_assert-returns-clause-tree : goal.build_assert-returns-clause-tree
 build_assert-returns-clause-tree t c =
-    assert_built c.args.decimals (rows c.args.scope.now) (rows c.build_trace.new.scope) c.args.environment (exp c.args.always.now) (trace_view c.args.body.now) (numbers_view c.args.numbers) (numbers_view c.in_ok-inside.inside) c.in_ok-constraint.constraint c.in_ok-boxed.boxed c.in_ok-inner.inner
-    c.in_ok-inner.ensures.kept c.in_ok-inside.ensures c.in_ok-constraint.ensures.tree (search rules) c.in_ok-inner.ensures.tree
+    assert_built c.args.decimals (rows c.args.scope.now) (rows c.build_boxed.new.scope) c.args.environment (exp c.args.always.now) (trace_view c.args.body.now) (numbers_view c.args.numbers) (numbers_view c.in_ok-inside.inside) c.in_ok-constraint.constraint c.in_ok-inner.inner
+    c.in_ok-inner.ensures.kept c.in_ok-inside.ensures c.in_ok-constraint.ensures.tree c.in_ok-inner.ensures.tree
 
 pub build_exist-build_trace-requires : goal.build_exist-build_trace-requires
 build_exist-build_trace-requires t c =
-    let less : 4 * trace_work (environment worked (rows c.declare_groups.new.scope) c.in_ok-locals.locals.environment) (trace_view c.args.body.now) + 3 < 4 * trace_work (environment worked (rows c.args.scope.now) c.args.environment) (s.exist (groupings c.args.groups.now) (trace_view c.args.body.now)) =
+    let less : 5 * trace_work (environment worked (rows c.declare_groups.new.scope) c.in_ok-locals.locals.environment) (trace_view c.args.body.now) + 3 < 5 * trace_work (environment worked (rows c.args.scope.now) c.args.environment) (s.exist (groupings c.args.groups.now) (trace_view c.args.body.now)) =
     exist_less (environment worked (rows c.args.scope.now) c.args.environment) (environment worked (rows c.declare_groups.new.scope) c.in_ok-locals.locals.environment) (groupings c.args.groups.now) (trace_view c.args.body.now) c.in_ok-locals.ensures.work in
     search (rules, less)
 
+pub build_exist-truncate-requires : goal.build_exist-truncate-requires
+build_exist-truncate-requires t c = enough _ _ _ _ c.in_ok-locals.ensures.adds c.in_ok-inner.ensures.kept c.len-before.ensures
+
 pub build_exist-returns-clause-tree : goal.build_exist-returns-clause-tree
 build_exist-returns-clause-tree t c =
-    exist_built (environment (meant c.args.decimals) (rows c.args.scope.now) c.args.environment) (environment (meant c.args.decimals) (rows c.declare_groups.new.scope) c.in_ok-locals.locals.environment) (groupings c.args.groups.now) (trace_view c.args.body.now) (numbers_view c.args.numbers) (numbers_view c.in_ok-inside.inside)
-    c.in_ok-locals.locals.declared.items c.in_ok-locals.locals.next (expanded c.in_ok-expanded.expanded) c.in_ok-inner.inner
-    c.in_ok-locals.ensures.declared c.in_ok-locals.ensures.visible c.in_ok-locals.ensures.next c.in_ok-inside.ensures c.in_ok-inner.ensures.tree c.in_ok-expanded.ensures
+    let locals = c.in_ok-locals.locals in
+    let all = in_all (locals.next - length locals.declared.items) (map declared locals.declared.items) (expanded c.in_ok-inner.inner.expanded) in
+    IfOk-weaker c.put_locals.result _ _
+    (λ _ made.
+    made
+    ∙ exist_built (environment (meant c.args.decimals) (rows c.args.scope.now) c.args.environment) (environment (meant c.args.decimals) (rows c.declare_groups.new.scope) locals.environment) (groupings c.args.groups.now) (trace_view c.args.body.now) (numbers_view c.args.numbers) (numbers_view c.in_ok-inside.inside)
+    locals.declared.items locals.next all c.in_ok-inner.inner
+    c.in_ok-locals.ensures.declared c.in_ok-locals.ensures.visible c.in_ok-locals.ensures.next c.in_ok-inside.ensures c.in_ok-inner.ensures.tree refl)
+    c.put_locals.ensures
+
+pub build_exist-returns-clause-kept : goal.build_exist-returns-clause-kept
+build_exist-returns-clause-kept t c =
+    IfOk-weaker c.put_locals.result _ _ (λ _ _. same_back _ _ _ _ _ c.in_ok-locals.ensures.adds c.in_ok-inner.ensures.kept c.truncate.ensures.rows c.len-before.ensures) c.put_locals.ensures
 
 pub build_parts-build_trace-requires : goal.build_parts-build_trace-requires
 build_parts-build_trace-requires t c =
@@ -53,7 +71,7 @@ build_parts-build_trace-requires t c =
     let here = ap (λ es. trace_work (environment worked es c.args.environment) (trace_view c.part-item.result.body)) same in
     let some : trace_work (environment worked (rows c.args.scope.now) c.args.environment) (trace_view c.part-item.result.body) < alternatives_work (environment worked (rows c.args.scope.now) c.args.environment) (alternatives_of (map part_of c.args.written.now)) =
     (part_worked (environment worked (rows c.args.scope.now) c.args.environment) c.args.written.now c.loop-part.part-index c.part-item.result _ more c.part-item.is c.loop-part.invariant.work).0 in
-    let less : 4 * trace_work (environment worked (rows c.build_weight.new.scope) c.args.environment) (trace_view c.part-item.result.body) + 3 < 4 * alternatives_work (environment worked (rows c.args.scope.now) c.args.environment) (alternatives_of (map part_of c.args.written.now)) = omega (arith, here, some) in
+    let less : 5 * trace_work (environment worked (rows c.build_weight.new.scope) c.args.environment) (trace_view c.part-item.result.body) + 3 < 5 * alternatives_work (environment worked (rows c.args.scope.now) c.args.environment) (alternatives_of (map part_of c.args.written.now)) = omega (arith, here, some) in
     search (rules, less)
 
 pub build_parts-loop-part-preserved : goal.build_parts-loop-part-preserved
@@ -79,7 +97,7 @@ build_choice-build_parts-requires t c =
     let env = environment worked (rows c.args.scope.now) c.args.environment in
     let list : alternatives c.args.written.now ≡ alternatives_of (map part_of c.deref.result.now) = alternatives_list c.args.written.now ∙ ap (λ parts. alternatives_of (map part_of parts)) (sym c.deref.ensures.value) in
     let same = ap (alternatives_work env) list in
-    let less : 4 * alternatives_work env (alternatives_of (map part_of c.deref.result.now)) < 4 * alternatives_work env (alternatives c.args.written.now) + 1 = omega (arith, same) in
+    let less : 5 * alternatives_work env (alternatives_of (map part_of c.deref.result.now)) < 5 * alternatives_work env (alternatives c.args.written.now) + 1 = omega (arith, same) in
     search (rules, less)
 
 pub build_trace-returns-clause-tree : goal.build_trace-returns-clause-tree
@@ -109,3 +127,9 @@ build_choice-returns-clause-tree t c =
     c.put_choice.ensures
     ∙ ap chosen c.in_ok-chosen.ensures.tree
     ∙ (λ i. chosen (parts_of env (list i) (c.in_ok-inside.ensures i)))
+
+pub build_trace-truncate-requires : goal.build_trace-truncate-requires
+build_trace-truncate-requires t c = enough _ _ _ _ c.in_ok-head.ensures.adds c.in_ok-built.ensures.kept c.len-before.ensures
+
+pub build_trace-returns-clause-kept : goal.build_trace-returns-clause-kept
+build_trace-returns-clause-kept t c = same_back _ _ _ _ _ c.in_ok-head.ensures.adds c.in_ok-built.ensures.kept c.truncate.ensures.rows c.len-before.ensures

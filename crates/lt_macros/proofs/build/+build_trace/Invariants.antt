@@ -15,37 +15,40 @@ use Rattle.lt_macros.proofs.build.+build_trace.Given as goal
 
 -- what is left to do is less
 abbrev pub decreases-build_trace : goal.decreases-build_trace
-decreases-build_trace l = 4 * worked.phrase (environment worked (rows l.scope.now) l.environment) (source_view l.source) + 3
+decreases-build_trace l = 5 * worked.phrase (environment worked (rows l.scope.now) l.environment) (source_view l.source) + 3
 
 abbrev pub decreases-build_trace_head : goal.decreases-build_trace_head
-decreases-build_trace_head l = 4 * head_reads worked (rows l.scope.now) l.head + 2
+decreases-build_trace_head l = 5 * head_reads worked (rows l.scope.now) l.head + 2
 
 abbrev pub decreases-build_two : goal.decreases-build_two
-decreases-build_two l = 4 * (worked.phrase (environment worked (rows l.scope.now) l.environment) (source_view l.first) + worked.phrase (environment worked (rows l.scope.now) l.environment) (source_view l.second)) + 4
+decreases-build_two l = 5 * (worked.phrase (environment worked (rows l.scope.now) l.environment) (source_view l.first) + worked.phrase (environment worked (rows l.scope.now) l.environment) (source_view l.second)) + 5
+
+abbrev pub decreases-build_boxed : goal.decreases-build_boxed
+decreases-build_boxed l = 5 * worked.phrase (environment worked (rows l.scope.now) l.environment) (source_view l.source) + 4
 
 abbrev pub decreases-build_loop : goal.decreases-build_loop
-decreases-build_loop l = 4 * worked.phrase (environment worked (rows l.scope.now) l.environment) (trace (s.loop (limits l.written.now) (trace_view l.body.now)))
+decreases-build_loop l = 5 * worked.phrase (environment worked (rows l.scope.now) l.environment) (trace (s.loop (limits l.written.now) (trace_view l.body.now)))
 
 abbrev pub decreases-build_assert : goal.decreases-build_assert
-decreases-build_assert l = 4 * worked.phrase (environment worked (rows l.scope.now) l.environment) (trace (s.assert (exp l.always.now) (trace_view l.body.now)))
+decreases-build_assert l = 5 * worked.phrase (environment worked (rows l.scope.now) l.environment) (trace (s.assert (exp l.always.now) (trace_view l.body.now)))
 
 abbrev pub decreases-build_exist : goal.decreases-build_exist
-decreases-build_exist l = 4 * worked.phrase (environment worked (rows l.scope.now) l.environment) (trace (s.exist (groupings l.groups.now) (trace_view l.body.now)))
+decreases-build_exist l = 5 * worked.phrase (environment worked (rows l.scope.now) l.environment) (trace (s.exist (groupings l.groups.now) (trace_view l.body.now)))
 
 abbrev pub decreases-build_parts : goal.decreases-build_parts
-decreases-build_parts l = 4 * alternatives_work (environment worked (rows l.scope.now) l.environment) (alternatives_of (map part_of l.written.now))
+decreases-build_parts l = 5 * alternatives_work (environment worked (rows l.scope.now) l.environment) (alternatives_of (map part_of l.written.now))
 
 abbrev pub decreases-build_joined : goal.decreases-build_joined
-decreases-build_joined l = 4 * worked.phrase (environment worked (rows l.scope.now) l.environment) (joined l.join (s.one_trace (trace_view l.first.now) (traces_of (map trace_view l.rest.now)))) + 1
+decreases-build_joined l = 5 * worked.phrase (environment worked (rows l.scope.now) l.environment) (joined l.join (s.one_trace (trace_view l.first.now) (traces_of (map trace_view l.rest.now)))) + 1
 
 abbrev pub decreases-build_choice : goal.decreases-build_choice
-decreases-build_choice l = 4 * worked.phrase (environment worked (rows l.scope.now) l.environment) (braces (s.choice false (alternatives l.written.now))) + 1
+decreases-build_choice l = 5 * worked.phrase (environment worked (rows l.scope.now) l.environment) (braces (s.choice false (alternatives l.written.now))) + 1
 
 abbrev pub decreases-build_catch : goal.decreases-build_catch
-decreases-build_catch l = 4 * worked.phrase (environment worked (rows l.scope.now) l.environment) (trace (s.catch (word l.name.now) (trace_view l.body.now) (maybe_trace l.handler.now))) + 1
+decreases-build_catch l = 5 * worked.phrase (environment worked (rows l.scope.now) l.environment) (trace (s.catch (word l.name.now) (trace_view l.body.now) (maybe_trace l.handler.now))) + 1
 
 abbrev pub decreases-build_try : goal.decreases-build_try
-decreases-build_try l = 4 * worked.phrase (environment worked (rows l.scope.now) l.environment) (trace (s.try (trace_view l.body.now) (maybe_trace l.handler.now))) + 1
+decreases-build_try l = 5 * worked.phrase (environment worked (rows l.scope.now) l.environment) (trace (s.try (trace_view l.body.now) (maybe_trace l.handler.now))) + 1
 
 -- the other alternatives are still to be built
 abbrev pub invariant-build_parts-loop-part : goal.invariant-build_parts-loop-part

@@ -6,7 +6,7 @@ use Rattle.lt_macros.specs.inner.Reading.{environment, meant}
 use Rattle.lt_macros.specs.inner.Rows.{rows}
 use Rattle.lt_macros.proofs.Adding.{adds_both}
 use Rattle.lt_macros.proofs.Grouped.{group_visible, none_left}
-use Rattle.lt_macros.proofs.Opened.{group_counted, group_put}
+use Rattle.lt_macros.proofs.Opened.{as_many, group_counted, group_put}
 use Rattle.lt_macros.proofs.counting.put_variables.Goals as goal
 
 pub loop-group-preserved : goal.loop-group-preserved
@@ -51,3 +51,6 @@ pub returns-clause-next : goal.returns-clause-next
 returns-clause-next c =
     λ n env.
     omega (arith, c.loop-group.invariant.next n n env env, ap (λ gs. length (groups_variables c.args.role n env gs)) (none_left c.args.groups.now c.loop-group.group-index c.loop-group-test.false))
+
+pub loop-group-init : goal.loop-group-init
+loop-group-init c = grind (arith, as_many)

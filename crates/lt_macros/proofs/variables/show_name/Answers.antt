@@ -1,4 +1,5 @@
-use Rattle.std.proofs.Common.{ap, ◌∙◌, subst, sym}
+use Rattle.lt_macros.proofs.Building.{adding}
+use Rattle.std.proofs.Common.{ap, ◌∙◌, subst, sym, arith}
 use Rattle.lt_macros.specs.Environment.{parameter, variable, with_name}
 use Rattle.lt_macros.specs.inner.Reading.{environment, meant, worked}
 use Rattle.lt_macros.specs.inner.Handing.{AreRight}
@@ -23,3 +24,9 @@ returns-clause-work c =
 
 pub returns-clause-right : goal.returns-clause-right
 returns-clause-right c = subst AreRight (sym c.in_ok-number.ensures.rows) (tt, c.requires.right)
+
+pub push-requires : goal.push-requires
+push-requires c = grind (arith, adding)
+
+pub returns-clause-adds : goal.returns-clause-adds
+returns-clause-adds c = grind (arith, adding)

@@ -1,3 +1,4 @@
+use Rattle.lt_macros.proofs.Building.{adding}
 use Rattle.std.proofs.Common.{◌<◌, length, map, ap, sym, ◌∙◌, arith, rules}
 use Rattle.std.proofs.lemmas.List.{drop_all}
 use Rattle.lt_ast.specs.View.{word}
@@ -29,3 +30,6 @@ returns-clause-visible c =
     λ d.
     sym (ap (λ names. with_variables c.args.role c.loop-name.next (map word names) (environment (meant d) (rows c.loop-name.scope) c.loop-name.environment)) (drop_all c.loop-name.name-index c.args.names.now c.loop-name-test.false))
     ∙ c.loop-name.invariant.visible d
+
+pub loop-name-init : goal.loop-name-init
+loop-name-init c = grind (arith, adding)
