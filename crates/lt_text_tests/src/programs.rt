@@ -1,7 +1,7 @@
 //! Texts whose programs follow from the grammar.
 
 use crate::row::{halves, written};
-use lt_ast::{Body, Decl, Expr, Program, print};
+use lt_ast::{BinOp, Body, Decl, Expr, Program, Span, print};
 use lt_parser::{ParseRefusal, parse};
 use std::alloc::{AllocError, Global};
 use std::process::Abort;
@@ -42,37 +42,59 @@ fn programs(rt: HostRuntime) -> Result<(), Fail> {
     check_programs(&rt, rt.alloc(), PROGRAMS)
 }
 
-// Macros that stand for an operator between two operands, each with the operator and where the operands stand.
-const GROUPED: &str = "\
-let m: bool = a or b and c ==> Or 14-15 19-26
-let m: bool = a => b => c ==> Implies 14-15 19-25
-let m: int = 1 - 2 - 3 ==> Sub 13-18 21-22";
-
-// The operator and the places of both operands, where the first declaration of a text is such a macro.
-fn operands_of(alloc: Global, text: &str) -> Result<String, Fail> {
-    let program = parse(alloc, text.as_bytes())?;
-    Ok(operands(alloc, &program)?)
+// A macro that stands for an operator between two operands, and where these stand.
+#[derive(Clone, Copy)]
+struct Grouped {
+    text: &'static str,
+    operator: BinOp,
+    left: Span,
+    right: Span,
 }
 
-// The same of a program.
-fn operands(alloc: Global, program: &Program) -> Result<String, AllocError> {
-    if let Some(Decl::Macro(declared)) = program.decls.first()
-        && let Body::Value(Expr::Binary(operator, left, right, _)) = &declared.body
-    {
-        let (left, right) = (left.span(), right.span());
-        return format!(in alloc;
-            "{operator:?} {}-{} {}-{}",
-            left.start, left.end, right.start, right.end
-        );
+// The operator and the places of both operands, where the first declaration is such a macro.
+fn operands(program: &Program) -> Option<(BinOp, Span, Span)> {
+    let Decl::Macro(declared) = program.decls.first()? else {
+        return None;
+    };
+    match &declared.body {
+        Body::Value(Expr::Binary(operator, left, right, _)) => {
+            Some((*operator, left.span(), right.span()))
+        }
+        _ => None,
     }
-    Ok(String::new(alloc))
 }
 
 #[test]
 fn operators_take_their_operands_by_strength(rt: HostRuntime) -> Result<(), Fail> {
-    for row in GROUPED.lines() {
-        let (text, answer) = halves(row, " ==> ");
-        assert_eq!(rt; operands_of(rt.alloc(), text)?.as_str(), answer, "{row}");
+    let cases = [
+        Grouped {
+            text: "let m: bool = a or b and c",
+            operator: BinOp::Or,
+            left: Span { start: 14, end: 15 },
+            right: Span { start: 19, end: 26 },
+        },
+        Grouped {
+            text: "let m: bool = a => b => c",
+            operator: BinOp::Implies,
+            left: Span { start: 14, end: 15 },
+            right: Span { start: 19, end: 25 },
+        },
+        Grouped {
+            text: "let m: int = 1 - 2 - 3",
+            operator: BinOp::Sub,
+            left: Span { start: 13, end: 18 },
+            right: Span { start: 21, end: 22 },
+        },
+    ];
+    for case in cases {
+        let program = parse(rt.alloc(), case.text.as_bytes())?;
+        let found = operands(&program);
+        assert_eq!(rt;
+            found,
+            Some((case.operator, case.left, case.right)),
+            "{}",
+            case.text
+        );
     }
     Ok(())
 }

@@ -32,22 +32,42 @@ fn texts_with_no_tokens(rt: HostRuntime) -> Result<(), Fail> {
     check_tokens(&rt, rt.alloc(), NO_TOKENS)
 }
 
+// A refusal, and what it tells.
+#[derive(Clone, Copy)]
+struct Told {
+    refusal: LexRefusal,
+    code: &'static str,
+    place: Option<usize>,
+}
+
 #[test]
 fn codes_and_places(rt: HostRuntime) {
-    let refusal = LexRefusal::BadByte(7);
-    assert_eq!(rt; (refusal.code(), refusal.place()), ("lex.BadByte", Some(7)));
-    let refusal = LexRefusal::OpenComment(8);
-    assert_eq!(rt;
-        (refusal.code(), refusal.place()),
-        ("lex.OpenComment", Some(8))
-    );
-    let refusal = LexRefusal::NumberTooLong(9);
-    assert_eq!(rt;
-        (refusal.code(), refusal.place()),
-        ("lex.NumberTooLong", Some(9))
-    );
-    let refusal = LexRefusal::Memory;
-    assert_eq!(rt; (refusal.code(), refusal.place()), ("lex.Memory", None));
+    let cases = [
+        Told {
+            refusal: LexRefusal::BadByte(7),
+            code: "lex.BadByte",
+            place: Some(7),
+        },
+        Told {
+            refusal: LexRefusal::OpenComment(8),
+            code: "lex.OpenComment",
+            place: Some(8),
+        },
+        Told {
+            refusal: LexRefusal::NumberTooLong(9),
+            code: "lex.NumberTooLong",
+            place: Some(9),
+        },
+        Told {
+            refusal: LexRefusal::Memory,
+            code: "lex.Memory",
+            place: None,
+        },
+    ];
+    for case in cases {
+        assert_eq!(rt; case.refusal.code(), case.code);
+        assert_eq!(rt; case.refusal.place(), case.place);
+    }
 }
 
 const NO_PROGRAM: &str = "\
