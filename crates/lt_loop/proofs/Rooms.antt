@@ -1,7 +1,6 @@
 -- Room for the texts of a run.
-use Rattle.std.proofs.Common.{◌≡◌, ℕ, Bool, true, false, ◌+◌, ◌^◌, ◌<◌, ◌≤◌, List, [], ◌∷◌, ◌++◌, length, length-append, map, take, get_or, None, Some, Option, Global, String, string_bytes, ap, sym, refl, ◌∙◌, arith}
+use Rattle.std.proofs.Common.{◌≡◌, ℕ, Bool, true, false, ◌+◌, ◌^◌, ◌<◌, ◌≤◌, List, [], ◌∷◌, length, length-append, map, take, get_or, None, Some, Option, Global, String, string_bytes, ap, sym, refl, ◌∙◌, arith}
 use Rattle.std.proofs.lemmas.List.{length-map}
-use Rattle.std.proofs.lemmas.Simd.{map-map}
 use Rattle.std.proofs.lemmas.List.Sums.{sum_by-cons, sum_by_more}
 use Rattle.std.specs.Prelude.{sum_by, unwrap_or}
 use Rattle.std.specs.Option.{option_map}
@@ -15,8 +14,8 @@ use Rattle.lt_rif.specs.declared.declared.Declared.{Declared}
 use Rattle.lt_rif.specs.declared.end.End.{End}
 use Rattle.lt_rif.specs.declared.end.End.TheVariants as end
 use Rattle.lt_loop.specs.Scene.{Scene, Variable, declared_as, kinds_of}
-use Rattle.lt_loop.specs.Plan.{where_written}
-use Rattle.lt_loop.specs.inner.Writing.{Writing, declared_kinds, length_of, step_in, writing_of}
+use Rattle.lt_loop.specs.Plan.{all_kinds, step_kinds, where_written}
+use Rattle.lt_loop.specs.inner.Writing.{Writing, header_in, length_of, names_of, step_in, writing_of}
 
 -- locals that are written are as small
 written_are_sized : (writes_locals : Bool) (locals : List (Option Value)) → AreLocalsSized locals → AreLocalsSized (unwrap_or (where_written writes_locals locals) [])
@@ -59,13 +58,13 @@ by_map : {X Y : Type 0} (f : Y → ℕ) (g : X → Y) (xs : List X) → sum_by f
 by_map f g [] = refl
 by_map f g (x ∷ xs) = sum_by-cons f (g x) (map g xs) ∙ ap (λ n. f (g x) + n) (by_map f g xs) ∙ sym (sum_by-cons (λ y. f (g y)) x xs)
 
-pub declared_names : (ds : List Declared) → names_length (map declared_variable ds) ≡ sum_by (λ d. length_of d.name) ds
+pub declared_names : (ds : List Declared) → names_length (map declared_variable ds) ≡ names_of ds
 declared_names ds = by_map (λ (v : DeclaredVariable). length v.name) declared_variable ds
 
 pub text_names : (names : List (String Global)) → sum_by (λ name. length name) (map string_bytes names) ≡ sum_by length_of names
 text_names names = by_map (λ (name : List ℕ). length name) string_bytes names
 
-pub one_name_more : (ds : List Declared) (i : ℕ) (d : Declared) → i < length ds → sum_by (λ v. length_of v.name) (take (i + 1) ds) ≡ sum_by (λ v. length_of v.name) (take i ds) + length_of (get_or ds i d).name
+pub one_name_more : (ds : List Declared) (i : ℕ) (d : Declared) → i < length ds → names_of (take (i + 1) ds) ≡ names_of (take i ds) + length_of (get_or ds i d).name
 one_name_more ds i d within = sum_by_more (λ (v : Declared). length_of v.name) ds i d within
 
 pub one_text_more : (names : List (String Global)) (i : ℕ) (d : String Global) → i < length names → sum_by length_of (take (i + 1) names) ≡ sum_by length_of (take i names) + length_of (get_or names i d)
@@ -84,38 +83,38 @@ pub shown_is : (writes_locals : Bool) (locals : List Declared) (shown : Option (
 shown_is true locals shown is = ap (option_map (map declared_variable)) is
 shown_is false locals shown is = ap (option_map (map declared_variable)) is
 
--- ---- kinds
+-- ---- the texts of a scene
 
--- the kinds of variables that are declared
-declared_are : (ds : List DeclaredVariable) (vs : List Variable) → ds ≡ map declared_as vs → declared_kinds ds ≡ kinds_of vs
-declared_are ds vs is = ap declared_kinds is ∙ map-map (λ (d : DeclaredVariable). d.kind) declared_as vs
-
-pub written_with : (s : Scene) (writes_locals : Bool) (w : Writing) (outputs inputs locals : List DeclaredVariable)
+-- the header of a scene whose variables are declared so
+pub headed : (s : Scene) (seed : ℕ) (writes_locals : Bool) (outputs inputs locals : List DeclaredVariable)
     → outputs ≡ map declared_as s.outputs → inputs ≡ map declared_as s.inputs → locals ≡ map declared_as s.locals
-    → w.decimals ≡ s.decimals → w.writes_locals ≡ writes_locals → w.outputs ≡ declared_kinds outputs → w.step ≡ declared_kinds outputs ++ declared_kinds inputs
-    → w.all ≡ (declared_kinds outputs ++ declared_kinds inputs) ++ declared_kinds locals → w.names ≡ sum_by (λ name. length name) s.exceptions
-    → w ≡ writing_of s writes_locals
-written_with s writes_locals w outputs inputs locals o i l decimals writes os st all names =
-    let x = declared_are outputs s.outputs o in
-    let y = declared_are inputs s.inputs i in
-    let z = declared_are locals s.locals l in
-    λ j. record {
-      decimals = decimals j;
-      writes_locals = writes j;
-      outputs = (os ∙ x) j;
-      step = (st ∙ (λ k. x k ++ y k)) j;
-      all = (all ∙ (λ k. (x k ++ y k) ++ z k)) j;
-      names = names j;
-    }
+    → header_text seed outputs inputs (where_written writes_locals locals) ≡ header_in s seed writes_locals
+headed s seed writes_locals outputs inputs locals o i l = λ j. header_text seed (o j) (i j) (where_written writes_locals (l j))
 
--- all variables have so many kinds
-pub all_count : (outputs inputs locals : List DeclaredVariable) → length ((declared_kinds outputs ++ declared_kinds inputs) ++ declared_kinds locals) ≡ length outputs + length inputs + length locals
-all_count outputs inputs locals =
+-- as many variables are declared as a scene has
+declared_as_many : (ds : List Declared) (vs : List Variable) → map declared_variable ds ≡ map declared_as vs → length ds ≡ length vs
+declared_as_many ds vs is = sym (declared_count ds) ∙ ap length is ∙ length-map vs declared_as
+
+-- and each has its kind
+pub each_has_a_kind : (s : Scene) (outputs inputs locals : List Declared)
+    → map declared_variable outputs ≡ map declared_as s.outputs → map declared_variable inputs ≡ map declared_as s.inputs → map declared_variable locals ≡ map declared_as s.locals
+    → length outputs + length inputs + length locals ≡ length (all_kinds s)
+each_has_a_kind s outputs inputs locals o i l =
     omega (
       arith,
-      length-append (declared_kinds outputs ++ declared_kinds inputs) (declared_kinds locals),
-      length-append (declared_kinds outputs) (declared_kinds inputs),
-      length-map outputs (λ (v : DeclaredVariable). v.kind),
-      length-map inputs (λ (v : DeclaredVariable). v.kind),
-      length-map locals (λ (v : DeclaredVariable). v.kind),
+      declared_as_many outputs s.outputs o,
+      declared_as_many inputs s.inputs i,
+      declared_as_many locals s.locals l,
+      length-append (step_kinds s) (kinds_of s.locals),
+      length-append (kinds_of s.outputs) (kinds_of s.inputs),
+      length-map s.outputs (λ (v : Variable). v.kind),
+      length-map s.inputs (λ (v : Variable). v.kind),
+      length-map s.locals (λ (v : Variable). v.kind),
     )
+
+-- what the texts of a scene are written with
+pub written_with : (s : Scene) (writes_locals : Bool) (w : Writing) → w.decimals ≡ s.decimals → w.writes_locals ≡ writes_locals
+    → w.outputs ≡ kinds_of s.outputs → w.step ≡ step_kinds s → w.all ≡ all_kinds s → w.names ≡ sum_by (λ name. length name) s.exceptions
+    → w ≡ writing_of s writes_locals
+written_with s writes_locals w decimals writes outputs step all names =
+    λ j. record { decimals = decimals j; writes_locals = writes j; outputs = outputs j; step = step j; all = all j; names = names j }

@@ -6,7 +6,7 @@ ghost use Rattle.lt_loop.specs.Play.{destination_of};
 use lt_rif::End;
 
 /// Where a piece goes.
-#[derive(Clone, Copy, PartialEq, Eq)]
+#[derive(Clone, Copy)]
 pub enum Destination {
     /// To the controller.
     Controller,
@@ -95,7 +95,7 @@ pub enum Wants {
 }
 
 /// What a core answers to an event.
-#[derive(Clone, Copy, PartialEq, Eq)]
+#[derive(Clone, Copy)]
 pub struct Emits {
     /// How many bytes of the event's piece were taken, from its front.
     pub taken: usize,

@@ -59,7 +59,6 @@ pub fn plays_grow<M: Machine>()
 }
 
 /// A whole reply has a value for each slot that is kept, of the slot's kind and within its range.
-#[tactic(auto, using(crate::proofs::Fittings::replies_fit))]
 pub fn replies_fit()
     ensures { RepliesFit }
 {}

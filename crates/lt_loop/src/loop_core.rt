@@ -16,14 +16,13 @@ use crate::machine::{Machine, Outcome};
 use crate::phase::Phase;
 use crate::setup::{Setup, Talk};
 use crate::side::{Read, Side};
-use crate::slots::{first_inputs, reply_slots, verdict_slots};
+use crate::slots::{first_inputs, reply_slots};
 use crate::writer::Writer;
 use lt_num::Value;
 use lt_rif::{End, Who};
 use std::alloc::{AllocError, Global};
 
 /// The core of a run: it is told events, and puts out pieces.
-#[derive(Drop)]
 pub struct Core<M: Machine> {
     machine: M,
     alloc: Global,
@@ -48,6 +47,24 @@ pub struct Core<M: Machine> {
     ghost asks_in: { (side_state controller).reading.begun.decimals ≡ (M.scene machine).decimals },
     ghost judges_in: { (side_state oracle).reading.begun.decimals ≡ (M.scene machine).decimals },
     ghost stands: { Stands phase written left (side_state controller).reading (side_state oracle).reading } by { Stands-prop phase written left (side_state controller).reading (side_state oracle).reading },
+}
+
+// What a core owns is dropped by this one function, wherever a core is.
+impl<M: Machine> Drop for Core<M> {
+    fn drop(self) {
+        let Self {
+            machine: _,
+            alloc: _,
+            setup: _,
+            left: _,
+            written: _,
+            phase: _,
+            inputs: _,
+            controller: _,
+            oracle: _,
+            writer: _,
+        } = self;
+    }
 }
 
 impl<M: Machine> Core<M> {
@@ -80,7 +97,7 @@ impl<M: Machine> Core<M> {
         let slots = reply_slots(alloc, setup.controller, &machine)?;
         let inputs = first_inputs(alloc, slots.len(), machine.input_vars())?;
         let controller = Side::make(alloc, slots, machine.decimals())?;
-        let oracle = Side::make(alloc, verdict_slots(alloc)?, machine.decimals())?;
+        let oracle = Side::of_oracle(alloc, machine.decimals())?;
         let writer = Writer::make(alloc, &machine, setup.seed, setup.locals)?;
         Ok(Core {
             machine,
@@ -227,7 +244,7 @@ impl<M: Machine> Core<M> {
     {
         let goes_on = !matches!(self.phase, Phase::Over(_) | Phase::Starved);
         let has_side = match side {
-            Who::Controller => self.setup.controller != Talk::Nobody,
+            Who::Controller => !matches!(self.setup.controller, Talk::Nobody),
             Who::Oracle => self.setup.oracle,
         };
         goes_on && has_side

@@ -13,7 +13,7 @@ use lt_rif::End;
 use std::alloc::Global;
 
 /// How a scenario ends.
-#[derive(Clone, Copy, PartialEq, Eq)]
+#[derive(Clone, Copy)]
 pub enum ScenarioEnd {
     /// It is over.
     Normal,
@@ -68,7 +68,7 @@ impl ScenarioEnd {
 }
 
 /// What a step of a machine answers.
-#[derive(Clone, Copy, PartialEq, Eq)]
+#[derive(Clone, Copy)]
 pub enum Outcome {
     /// The outputs have values for this instant.
     Values,

@@ -3,7 +3,7 @@
 use lt_rif::End;
 
 /// How far a core is: the parts of an instant, in turn. Between two events it is never at `Made` or `Answered`.
-#[derive(Clone, Copy, PartialEq, Eq)]
+#[derive(Clone, Copy)]
 pub enum Phase {
     /// Nothing was put out.
     Fresh,

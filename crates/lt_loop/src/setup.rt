@@ -1,7 +1,7 @@
 //! What a run is told before it begins.
 
 /// Whether a controller is there, and what it is told.
-#[derive(Clone, Copy, PartialEq, Eq)]
+#[derive(Clone, Copy)]
 pub enum Talk {
     /// There is none. The scenario has no inputs.
     Nobody,
@@ -14,7 +14,7 @@ pub enum Talk {
 }
 
 /// What a run is told before it begins.
-#[derive(Clone, Copy, PartialEq, Eq)]
+#[derive(Clone, Copy)]
 pub struct Setup {
     /// The seed, which the trace names.
     pub seed: u64,

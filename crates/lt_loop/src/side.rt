@@ -4,9 +4,10 @@ ghost use Rattle.std.specs.Prelude.{◌≡◌, ◌↔◌, IsTrue, ◌<◌, ◌�
 ghost use Rattle.lt_num.specs.Bounds.{most_decimals};
 ghost use Rattle.lt_rif.specs.Reading.{reading, values_of, between};
 ghost use Rattle.lt_rif.specs.Reply.{longest};
-ghost use Rattle.lt_loop.specs.Scene.{fit};
+ghost use Rattle.lt_loop.specs.Scene.{fit, verdict_slots};
 ghost use Rattle.lt_loop.specs.inner.Fitting.{AnswersFit, AnswersFit-prop};
 
+use crate::slots::verdict_slots;
 use lt_num::Value;
 use lt_rif::{Closing, Fed, Reader, Slot, ValueFault};
 use std::alloc::{AllocError, Global};
@@ -15,7 +16,7 @@ use std::alloc::{AllocError, Global};
 pub const MOST_KEPT: usize = 65_536;
 
 /// What a read of a side's reply finds.
-#[derive(Clone, Copy, PartialEq, Eq)]
+#[derive(Clone, Copy)]
 pub enum Read {
     /// The reply is whole.
     Whole,
@@ -31,7 +32,6 @@ pub enum Read {
 }
 
 /// A side: the reader of its replies, and the bytes that were taken of it and not read.
-#[derive(Drop)]
 pub struct Side {
     /// The reader of its replies.
     pub reader: Reader,
@@ -46,6 +46,17 @@ pub struct Side {
     ghost has_room: { 65_536 ≤ vec_capacity kept },
     ghost short: { (reading reader).begun.taken + length (reading reader).text ≤ longest },
     ghost fits: { AnswersFit (reading reader) } by { AnswersFit-prop (reading reader) },
+}
+
+// A core has two sides, and drops each by this one function.
+impl Drop for Side {
+    fn drop(self) {
+        let Self {
+            reader: _,
+            kept: _,
+            is_closed: _,
+        } = self;
+    }
 }
 
 impl Side {
@@ -63,6 +74,17 @@ impl Side {
             kept: Vec::with_capacity(alloc, MOST_KEPT)?,
             is_closed: false,
         })
+    }
+
+    /// The side of an oracle, of which nothing was taken.
+    pub fn of_oracle(alloc: Global, decimals: u32) -> Result<Side, AllocError>
+        requires { decimals ≤ most_decimals }
+        ensures reading { IfOk result (λ s. (side_state s).reading ≡ between decimals verdict_slots 0) }
+        ensures nothing { IfOk result (λ s. s.kept.items ≡ []) }
+        ensures open { IfOk result (λ s. s.is_closed ≡ false) }
+    {
+        let slots = verdict_slots(alloc)?;
+        Side::make(alloc, slots, decimals)
     }
 
     /// The values of the last whole reply.

@@ -2,14 +2,13 @@
 
 ghost use Rattle.std.specs.Prelude.{◌≡◌, ◌≤◌, ◌+◌, ◌++◌, true, IfOk, IfSome, length, map, string_bytes, sum_by, vec_len, vec_capacity};
 ghost use Rattle.lt_num.specs.Bounds.{most_decimals};
-ghost use Rattle.lt_rif.specs.Enough.{names_length};
 ghost use Rattle.lt_rif.specs.Room.{room_for};
 ghost use Rattle.lt_rif.specs.Trace.{declared_variable, end_text, header_text, line_text, step_text};
 ghost use Rattle.std.specs.Option.{option_copied};
-ghost use Rattle.lt_loop.specs.Plan.{where_written};
-ghost use Rattle.lt_loop.specs.Scene.{declared_as};
+ghost use Rattle.lt_loop.specs.Plan.{all_kinds, step_kinds, where_written};
+ghost use Rattle.lt_loop.specs.Scene.{declared_as, kinds_of};
 ghost use Rattle.lt_loop.specs.SceneView.{variable};
-ghost use Rattle.lt_loop.specs.inner.Writing.{declared_kinds, length_of};
+ghost use Rattle.lt_loop.specs.inner.Writing.{header_in, length_of, names_of};
 
 use crate::machine::Machine;
 use crate::sizes::{end_is_sized, locals_are_sized};
@@ -22,7 +21,6 @@ use lt_rif::{
 use std::alloc::{AllocError, Global};
 
 /// The texts of a run, one after another, in room that is enough for each.
-#[derive(Drop)]
 pub struct Writer {
     /// The text that was made last.
     pub text: Vec<u8>,
@@ -55,9 +53,25 @@ pub struct Writer {
     ghost has_room: { room_for (vec_len all) names ≤ vec_capacity text },
 }
 
+// What a writer owns is dropped by this one function, wherever a writer is.
+impl Drop for Writer {
+    fn drop(self) {
+        let Self {
+            text: _,
+            decimals: _,
+            writes_locals: _,
+            outputs: _,
+            step: _,
+            all: _,
+            names: _,
+            values: _,
+        } = self;
+    }
+}
+
 impl Writer {
     ghost use Rattle.lt_loop.specs.WriterView.{writing};
-    ghost use Rattle.lt_loop.specs.inner.Writing.{header_in, step_in, writing_of};
+    ghost use Rattle.lt_loop.specs.inner.Writing.{step_in, writing_of};
 
     /// The texts of a run of a machine's scenario, with the header as the first.
     ///
@@ -73,24 +87,13 @@ impl Writer {
         ensures writes { IfOk result (λ w. writing w ≡ writing_of (M.scene machine.now) writes_locals) }
         ensures header { IfOk result (λ w. w.text.items ≡ header_in (M.scene machine.now) seed writes_locals) }
     {
-        let outputs = declared(alloc, machine.output_vars())?;
-        let inputs = declared(alloc, machine.input_vars())?;
-        let locals = declared(alloc, machine.local_vars())?;
         let Some(names) = with_texts(0, machine.names()) else {
             return Err(AllocError);
         };
-        let text = header(
-            alloc,
-            seed,
-            &outputs,
-            &inputs,
-            &locals,
-            writes_locals,
-            names,
-        )?;
-        let step = step_kinds(alloc, &outputs, &inputs)?;
-        let all = all_kinds(alloc, &outputs, &inputs, &locals)?;
-        let outputs = pushed(Vec::new(alloc), &outputs)?;
+        let text = header(alloc, machine, seed, writes_locals, names)?;
+        let outputs = output_kinds(alloc, machine)?;
+        let step = step_kinds(alloc, machine)?;
+        let all = all_kinds(alloc, machine)?;
         let values = Vec::with_capacity(alloc, step.len())?;
         Ok(Writer {
             text,
@@ -232,34 +235,32 @@ fn declared(alloc: Global, variables: &[Var]) -> Result<Vec<Declared>, AllocErro
     Ok(declared)
 }
 
-// The kinds of outputs and inputs.
-fn step_kinds(
-    alloc: Global,
-    outputs: &[Declared],
-    inputs: &[Declared],
-) -> Result<Vec<Kind>, AllocError>
-    ensures { IfOk result (λ kinds. kinds.items ≡ declared_kinds (map declared_variable outputs.now) ++ declared_kinds (map declared_variable inputs.now)) }
+// The kinds of a machine's outputs.
+fn output_kinds<M: Machine>(alloc: Global, machine: &M) -> Result<Vec<Kind>, AllocError>
+    ensures { IfOk result (λ kinds. kinds.items ≡ kinds_of (M.scene machine.now).outputs) }
 {
-    let kinds = pushed(Vec::new(alloc), outputs)?;
-    pushed(kinds, inputs)
+    with_kinds(Vec::new(alloc), machine.output_vars())
 }
 
-// The kinds of all variables.
-fn all_kinds(
-    alloc: Global,
-    outputs: &[Declared],
-    inputs: &[Declared],
-    locals: &[Declared],
-) -> Result<Vec<Kind>, AllocError>
-    ensures { IfOk result (λ kinds. kinds.items ≡ (declared_kinds (map declared_variable outputs.now) ++ declared_kinds (map declared_variable inputs.now)) ++ declared_kinds (map declared_variable locals.now)) }
+// The kinds of its outputs and inputs.
+fn step_kinds<M: Machine>(alloc: Global, machine: &M) -> Result<Vec<Kind>, AllocError>
+    ensures { IfOk result (λ kinds. kinds.items ≡ step_kinds (M.scene machine.now)) }
 {
-    let kinds = step_kinds(alloc, outputs, inputs)?;
-    pushed(kinds, locals)
+    let kinds = output_kinds(alloc, machine)?;
+    with_kinds(kinds, machine.input_vars())
+}
+
+// The kinds of all its variables.
+fn all_kinds<M: Machine>(alloc: Global, machine: &M) -> Result<Vec<Kind>, AllocError>
+    ensures { IfOk result (λ kinds. kinds.items ≡ all_kinds (M.scene machine.now)) }
+{
+    let kinds = step_kinds(alloc, machine)?;
+    with_kinds(kinds, machine.local_vars())
 }
 
 // Some kinds, and those of variables behind them.
-fn pushed(kinds: Vec<Kind>, variables: &[Declared]) -> Result<Vec<Kind>, AllocError>
-    ensures { IfOk result (λ more. more.items ≡ kinds.items ++ declared_kinds (map declared_variable variables.now)) }
+fn with_kinds(kinds: Vec<Kind>, variables: &[Var]) -> Result<Vec<Kind>, AllocError>
+    ensures { IfOk result (λ more. more.items ≡ kinds.items ++ kinds_of (map variable variables.now)) }
 {
     let mut kinds = kinds;
     for variable in variables {
@@ -268,9 +269,34 @@ fn pushed(kinds: Vec<Kind>, variables: &[Declared]) -> Result<Vec<Kind>, AllocEr
     Ok(kinds)
 }
 
-// The header of a trace, in room that is enough for each text of a run with these variables, and with exceptions
-// whose names have so many bytes.
-fn header(
+// The header of the trace of a machine's scenario, in room that is enough for each text of a run whose exceptions have
+// names of so many bytes.
+fn header<M: Machine>(
+    alloc: Global,
+    machine: &M,
+    seed: u64,
+    writes_locals: bool,
+    names: u32,
+) -> Result<Vec<u8>, AllocError>
+    ensures text { IfOk result (λ text. text.items ≡ header_in (M.scene machine.now) seed writes_locals) }
+    ensures room { IfOk result (λ text. room_for (length (all_kinds (M.scene machine.now))) names ≤ vec_capacity text) }
+{
+    let outputs = declared(alloc, machine.output_vars())?;
+    let inputs = declared(alloc, machine.input_vars())?;
+    let locals = declared(alloc, machine.local_vars())?;
+    header_of(
+        alloc,
+        seed,
+        &outputs,
+        &inputs,
+        &locals,
+        writes_locals,
+        names,
+    )
+}
+
+// The header of a trace that declares these variables, in that room.
+fn header_of(
     alloc: Global,
     seed: u64,
     outputs: &[Declared],
@@ -301,14 +327,13 @@ fn where_declared(writes_locals: bool, locals: &[Declared]) -> Option<&[Declared
 }
 
 // That room; none where variables, or the bytes of names, are 2^32 or more.
-#[tactic(auto, using(crate::proofs::Rooms::declared_names, crate::proofs::Rooms::declared_count))]
 fn room_of(
     outputs: &[Declared],
     inputs: &[Declared],
     locals: &[Declared],
     names: u32,
 ) -> Option<usize>
-    ensures { IfSome result (λ room. room ≡ room_for (length outputs.now + length inputs.now + length locals.now) (names + names_length (map declared_variable outputs.now) + names_length (map declared_variable inputs.now) + names_length (map declared_variable locals.now))) }
+    ensures { IfSome result (λ room. room ≡ room_for (length outputs.now + length inputs.now + length locals.now) (names + names_of outputs.now + names_of inputs.now + names_of locals.now)) }
 {
     let variables = with_length(with_length(0, outputs.len())?, inputs.len())?;
     let variables = with_length(variables, locals.len())?;
@@ -318,9 +343,8 @@ fn room_of(
 }
 
 // A length, and those of the names of variables; none where it is 2^32 or more.
-#[tactic(auto, using(crate::proofs::Rooms::one_name_more))]
 fn with_names(length: u32, variables: &[Declared]) -> Option<u32>
-    ensures { IfSome result (λ sum. sum ≡ length + sum_by (λ d. length_of d.name) variables.now) }
+    ensures { IfSome result (λ sum. sum ≡ length + names_of variables.now) }
 {
     let mut sum = length;
     for variable in variables {
@@ -330,7 +354,6 @@ fn with_names(length: u32, variables: &[Declared]) -> Option<u32>
 }
 
 // A length, and those of texts; none where it is 2^32 or more.
-#[tactic(auto, using(crate::proofs::Rooms::one_text_more))]
 fn with_texts(length: u32, texts: &[String]) -> Option<u32>
     ensures { IfSome result (λ sum. sum ≡ length + sum_by length_of texts.now) }
 {

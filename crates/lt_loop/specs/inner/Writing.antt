@@ -7,7 +7,8 @@ use Rattle.std.specs.declared.string.String.{String}
 use Rattle.lt_num.specs.declared.kind.Kind.{Kind}
 use Rattle.lt_num.specs.declared.value.Value.{Value}
 use Rattle.lt_num.specs.contracts.kind.Kind as kind_contract
-use Rattle.lt_rif.specs.Trace.{DeclaredVariable, header_text, step_text}
+use Rattle.lt_rif.specs.Trace.{header_text, step_text}
+use Rattle.lt_rif.specs.declared.declared.Declared.{Declared}
 use Rattle.lt_loop.specs.Scene.{Scene, declared_as, kinds_of}
 use Rattle.lt_loop.specs.Plan.{step_kinds, all_kinds, where_written}
 
@@ -43,13 +44,13 @@ header_in s seed writes_locals = header_text seed (map declared_as s.outputs) (m
 abbrev pub step_in : Writing → ℕ → List Value → List Value → List (Option Value) → List ℕ
 step_in w number outputs inputs locals = step_text w.decimals number w.all outputs inputs (where_written w.writes_locals locals)
 
--- the kinds of declared variables
-abbrev pub declared_kinds : List DeclaredVariable → List Kind
-declared_kinds variables = map (λ v. v.kind) variables
-
 -- how many bytes a text of the code has
 abbrev pub length_of : String Global → ℕ
 length_of text = length (string_bytes text)
+
+-- and how many the names of variables have that a header declares
+abbrev pub names_of : List Declared → ℕ
+names_of variables = sum_by (λ v. length_of v.name) variables
 
 -- two writings are the same in one way at most
 coded_writing : Coded Writing
