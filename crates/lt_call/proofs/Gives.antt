@@ -1,5 +1,5 @@
 -- What a call gives: for a scenario, for a text, and for a file.
-use Rattle.std.proofs.Common.{◌≡◌, ℕ, ◌<◌, ◌≤◌, inl, inr, Bool, true, false, List, [], ◌∷◌, ◌++◌, length, take, None, Some, refl, ap, sym, ◌∙◌, subst, arith, le-leb, append-nil, append_assoc, ◌+◌, OnErr, OnOk, Ok, Err}
+use Rattle.std.proofs.Common.{◌≡◌, ◌≢◌, ℕ, ◌<◌, ◌≤◌, inl, inr, Bool, true, false, List, [], ◌∷◌, ◌++◌, length, take, None, Some, refl, ap, sym, ◌∙◌, subst, arith, le-leb, append-nil, append_assoc, ◌+◌, OnErr, OnOk, Ok, Err}
 use Rattle.std.proofs.Math.ListN.{replicate}
 use Rattle.std.proofs.lemmas.List.{length-replicate}
 use Rattle.std.specs.Io.KnownBytes.{Appends, Keeps}
@@ -9,6 +9,8 @@ use Rattle.std.specs.declared.result.Result.{Result}
 use Rattle.lt_drive.specs.Outside.{Sink}
 use Rattle.lt_io.specs.Causes.{HasCause, Rose, WhereTold}
 use Rattle.lt_io.specs.Sending.{AppendsPart}
+use Rattle.lt_io.specs.declared.files.FileRefusal.{FileRefusal}
+use Rattle.lt_io.specs.declared.files.FileRefusal.TheVariants as file
 use Rattle.lt_macros.specs.Answer.{asked_name}
 use Rattle.lt_prepare.specs.Prepared.{IfRefused, IsPrintedAnswer, IsScenarioAnswer}
 use Rattle.lt_prepare.specs.declared.refusal.Unprepared.{Unprepared}
@@ -21,6 +23,7 @@ use Rattle.lt_session.specs.Session.{Outside as Beside}
 use Rattle.lt_term.specs.Scene.{Scene}
 use Rattle.lt_words.specs.Settings.{longest_text, longest_replay}
 use Rattle.lt_words.specs.Words.{Request}
+use Rattle.lt_words.specs.declared.usage.UsageKind.{UsageKind}
 use Rattle.lt_words.specs.declared.words.Mode.TheVariants as mode
 use Rattle.lt_call.proofs.Dues.{is_short, traced, traced_due, traced_files}
 use Rattle.lt_call.specs.Call.{GivesDue, IsCounted, IsText, IsTrace, Says, blames}
@@ -30,7 +33,7 @@ use Rattle.lt_call.specs.Given.{Gives, IsDone, PutsNothing, refused, written, cu
 use Rattle.lt_call.specs.Laws.{ContentsHaveOneDueAnswer}
 use Rattle.lt_call.specs.Outside.{Outside, beside, faults_of}
 use Rattle.lt_call.specs.inner.Parts as parts
-use Rattle.lt_call.specs.inner.Parts.{GivesForText, GivesRun, Prints, status_why}
+use Rattle.lt_call.specs.inner.Parts.{GivesForText, GivesRun, Prints, status_unread, status_why}
 use Rattle.lt_call.specs.declared.status.Status.{Status}
 use Rattle.lt_call.specs.declared.status.Status.TheVariants as status
 use Rattle.lt_call.specs.declared.status.Refusal.TheVariants as refusal
@@ -240,6 +243,14 @@ trace_too_long r told text name s old new m fits has given e h f puts = λ asked
       ),
     )
 
+-- one that wasn't read, for this reason
+pub trace_not_read : {V : Type 0} → (r : Request) (told : List ℕ → Option (List ℕ)) (text name : List ℕ) (s : Scene) (old new : Outside) (x : Result V FileRefusal) (why : FileRefusal) → r.mode ≡ mode.Run → length text ≤ longest_text → HasScene r (record { scenario = text; replay = [] }) s → IsServed r s → giver_of r ≡ by_file name →
+    x ≡ Err why → (x ≡ Err file.TooLong → WhereTold (told name) (λ b. longest_replay < length b)) → (x ≢ Err file.Memory → new.files.asked ≡ old.files.asked ++ name ∷ []) → (x ≡ Err file.Memory → new.files.asked ≡ old.files.asked) →
+    PutsNothing (beside old) (beside new) → GivesForText r told text old new [] (status_unread why)
+trace_not_read r told text name s old new x file.Failed m fits has given e is long asks none puts = trace_failed r told text name s old new m fits has given e (asks (λ memory. cc)) puts
+trace_not_read r told text name s old new x file.TooLong m fits has given e is long asks none puts = trace_too_long r told text name s old new m fits has given e (long is) (asks (λ memory. cc)) puts
+trace_not_read r told text name s old new x file.Memory m fits has given e is long asks none puts = trace_unread r told text s old new m fits has given (none is) puts
+
 -- a run of it, or of a scenario without one
 ran_with : (r : Request) (told : List ℕ → Option (List ℕ)) (text trace : List ℕ) (s : Scene) (old new : Outside) (names : List (List ℕ)) (t : Status) (asked : List (List ℕ)) → r.mode ≡ mode.Run → length text ≤ longest_text → HasScene r (record { scenario = text; replay = [] }) s → IsServed r s →
     is_short (giver_of r) (record { scenario = text; replay = trace }) ≡ true → IsTrace (giver_of r) told trace → new.files.asked ≡ asked ++ (r.file ∷ files_of (giver_of r)) → GivesRun r trace s (beside old) (beside new) names t →
@@ -335,6 +346,36 @@ file_too_long r told asked old new file h f puts =
     let bytes = long_bytes longest_text (told r.file) h in
     let trace = some_trace (giver_of r) told in
     (record { scenario = bytes.0; replay = trace.0 }, (with_file (has_file r.mode) (told r.file) bytes.0 file bytes.1, trace.1), record { work = refuses refusal.TooLong; files = r.file ∷ [] }, too_long file bytes.2, done [] (status.Refused refusal.TooLong) f (refused refusal.TooLong puts))
+
+-- it wasn't read, for this reason
+pub file_not_read : {V : Type 0} → ContentsHaveOneDueAnswer → (r : Request) (told : List ℕ → Option (List ℕ)) (asked : List (List ℕ)) (old new : Outside) (x : Result V FileRefusal) (why : FileRefusal) → has_file r.mode ≡ true →
+    x ≡ Err why → (x ≡ Err file.TooLong → WhereTold (told r.file) (λ b. longest_text < length b)) → (x ≢ Err file.Memory → new.files.asked ≡ asked ++ r.file ∷ []) → (x ≡ Err file.Memory → new.files.asked ≡ asked) →
+    PutsNothing (beside old) (beside new) → GivesDue r told asked old new [] (status_unread why)
+file_not_read law r told asked old new x file.Failed has is long asks none puts = file_failed law r told asked old new has (asks (λ memory. cc)) puts
+file_not_read law r told asked old new x file.TooLong has is long asks none puts = file_too_long r told asked old new has (long is) (asks (λ memory. cc)) puts
+file_not_read law r told asked old new x file.Memory has is long asks none puts = file_unread law r told asked old new (none is) puts
+
+-- its device is blamed where that failed, and else none is
+not_read_counted : {V : Type 0} → (x : Result V FileRefusal) (why : FileRefusal) (before now programs trace : ℕ) → x ≡ Err why → (x ≡ Err file.Failed → Rose before now) → (x ≢ Err file.Failed → now ≡ before) →
+    IsCounted device.File (blames (status_unread why) device.File) before now × ((w : Who) → IsCounted (device.Program w) (blames (status_unread why) (device.Program w)) programs programs) × IsCounted device.Trace (blames (status_unread why) device.Trace) trace trace
+not_read_counted x file.Failed before now programs trace is cause calm = (cause is, λ w. omega arith, refl)
+not_read_counted x file.TooLong before now programs trace is cause calm = (calm (λ failed. cc), λ w. omega arith, refl)
+not_read_counted x file.Memory before now programs trace is cause calm = (calm (λ failed. cc), λ w. omega arith, refl)
+
+pub unread_counted : {V : Type 0} → (x : Result V FileRefusal) (why : FileRefusal) (s : Status) (old new : Outside) → s ≡ status_unread why → x ≡ Err why → (x ≡ Err file.Failed → Rose old.files.faults new.files.faults) → (x ≢ Err file.Failed → new.files.faults ≡ old.files.faults) →
+    new.programs.faults ≡ old.programs.faults → new.trace.faults ≡ old.trace.faults → (what : Device) → IsCounted what (blames s what) (faults_of what old) (faults_of what new)
+unread_counted x why s old new so is cause calm programs trace =
+    let all = not_read_counted x why old.files.faults new.files.faults old.programs.faults old.trace.faults is cause calm in
+    subst (λ (t : Status). (what : Device) → IsCounted what (blames t what) (faults_of what old) (faults_of what new)) (sym so)
+    (counted (status_unread why) old new all.0
+    (λ w. subst (λ (n : ℕ). IsCounted (device.Program w) (blames (status_unread why) (device.Program w)) old.programs.faults n) (sym programs) (all.1 w))
+    (subst (λ (n : ℕ). IsCounted device.Trace (blames (status_unread why) device.Trace) old.trace.faults n) (sym trace) all.2))
+
+-- and the words aren't blamed
+pub unread_usage : (why : FileRefusal) (s : Status) (kind : UsageKind) → s ≡ status_unread why → s ≡ status.Usage kind → ⊥
+unread_usage file.Failed s kind so is = cc
+unread_usage file.TooLong s kind so is = cc
+unread_usage file.Memory s kind so is = cc
 
 -- a trace is asked for of other files that tell the same
 same_trace : (g : Giver) (told told' : List ℕ → Option (List ℕ)) (trace : List ℕ) → ((name : List ℕ) → told' name ≡ told name) → IsTrace g told' trace → IsTrace g told trace

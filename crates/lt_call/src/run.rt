@@ -28,7 +28,7 @@ use crate::laws::contents_have_one_due_answer;
 use crate::served::Served;
 use crate::status::{Device, Ending, Refusal, Status};
 use lt_drive::Driven;
-use lt_io::{FileRefusal, Files, Sink, Spawner};
+use lt_io::{Files, Sink, Spawner};
 use lt_loop::{Core, Setup, Talk};
 use lt_play::Player;
 use lt_prepare::scenario_of;
@@ -125,17 +125,24 @@ fn run_scenario<F: Files, P: Spawner, S: Sink>(
     // A law that the proof needs: where memory runs out, an answer is due all the same.
     contents_have_one_due_answer();
     if !is_served(request, &scenario) {
-        return Served::refused(Refusal::NeedsController);
+        return not_run(scenario, Status::Refused(Refusal::NeedsController));
     }
     let Some(name) = trace_name(request) else {
         return run(alloc, request, scenario, &[], spawner, trace);
     };
     match files.read(alloc, name, LONGEST_REPLAY) {
         Ok(replay) => run(alloc, request, scenario, &replay, spawner, trace),
-        Err(FileRefusal::Failed) => Served::unread(),
-        Err(FileRefusal::TooLong) => Served::refused(Refusal::TooLong),
-        Err(FileRefusal::Memory) => Served::starved(),
+        Err(why) => not_run(scenario, Status::from(why)),
     }
+}
+
+// A call that ended so. Its scenario isn't run, but dropped, by this one function.
+fn not_run(scenario: Scenario, status: Status) -> Served
+    ensures status { result.status ≡ status }
+    ensures names { names_of result ≡ [] }
+{
+    drop(scenario);
+    Served::without_run(status)
 }
 
 // Runs a scenario whose inputs are given values, by these bytes where an earlier trace gives them.
@@ -167,10 +174,10 @@ fn run<P: Spawner, S: Sink>(
     // A law that the proof needs: a program is blamed only where a fault was counted.
     blame_has_a_cause::<Player>();
     let Ok(player) = Player::make(alloc, scenario, request.seed, request.budget) else {
-        return Served::starved();
+        return Served::without_run(Status::Memory);
     };
     let Ok(mut core) = Core::make(alloc, player, setup(request)) else {
-        return Served::starved();
+        return Served::without_run(Status::Memory);
     };
     let sides = Sides {
         controller: source(request, replay),

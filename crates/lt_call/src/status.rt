@@ -3,12 +3,13 @@
 ghost use Rattle.std.specs.Prelude.{◌≡◌};
 ghost use Rattle.lt_call.specs.Lines.{end_code, status_code};
 
+use lt_io::FileRefusal;
 use lt_prepare::Unprepared;
 use lt_rif::{End, Who};
 use lt_words::UsageKind;
 
 /// How a call of the program ended, with all that its line on standard error says.
-#[derive(Clone, Copy, PartialEq, Eq)]
+#[derive(Clone, Copy)]
 pub enum Status {
     /// What was asked for was written whole.
     Done,
@@ -38,7 +39,7 @@ pub enum Status {
 }
 
 /// How a run ended.
-#[derive(Clone, Copy, PartialEq, Eq)]
+#[derive(Clone, Copy)]
 pub struct Ending {
     /// Why.
     pub end: End,
@@ -49,7 +50,7 @@ pub struct Ending {
 }
 
 /// Why what was asked for is refused.
-#[derive(Clone, Copy, PartialEq, Eq)]
+#[derive(Clone, Copy)]
 pub enum Refusal {
     /// A file is longer than [`LONGEST_TEXT`](lt_words::LONGEST_TEXT), or an earlier trace than
     /// [`LONGEST_REPLAY`](lt_words::LONGEST_REPLAY).
@@ -63,7 +64,7 @@ pub enum Refusal {
 }
 
 /// What failed outside.
-#[derive(Clone, Copy, PartialEq, Eq)]
+#[derive(Clone, Copy)]
 pub enum Device {
     /// A file.
     File,
@@ -119,6 +120,23 @@ impl From<Unprepared> for Status {
         match why {
             Unprepared::Refused(reason) => Status::Refused(Refusal::Scenario(reason)),
             Unprepared::Memory => Status::Memory,
+        }
+    }
+}
+
+impl From<FileRefusal> for Status {
+    ghost use Rattle.lt_call.specs.inner.Parts.{status_unread};
+
+    ghost from_gives = { λ why status. status ≡ status_unread why };
+
+    fn from(why: FileRefusal) -> Status {
+        match why {
+            FileRefusal::Failed => Status::Device {
+                device: Device::File,
+                text: 0,
+            },
+            FileRefusal::TooLong => Status::Refused(Refusal::TooLong),
+            FileRefusal::Memory => Status::Memory,
         }
     }
 }

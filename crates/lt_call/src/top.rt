@@ -20,9 +20,9 @@ use crate::print::print_text;
 use crate::run::run_text;
 use crate::say::say;
 use crate::served::Served;
-use crate::status::{Refusal, Status};
+use crate::status::Status;
 use crate::stress::make_large_run;
-use lt_io::{FileRefusal, Files, Sink, Spawner};
+use lt_io::{Files, Sink, Spawner};
 use lt_words::{LONGEST_TEXT, Mode, Request, WordsRefusal, requested};
 use std::alloc::Global;
 
@@ -108,7 +108,7 @@ fn serve<F: Files, P: Spawner, S: Sink>(
     match requested(alloc, words) {
         Ok(request) => serve_request(alloc, &request, files, spawner, trace),
         Err(WordsRefusal::Usage(kind)) => Served::without_run(Status::Usage(kind)),
-        Err(WordsRefusal::Memory) => Served::starved(),
+        Err(WordsRefusal::Memory) => Served::without_run(Status::Memory),
     }
 }
 
@@ -193,9 +193,7 @@ fn serve_file<F: Files, P: Spawner, S: Sink>(
     contents_have_one_due_answer();
     match files.read(alloc, request.file, LONGEST_TEXT) {
         Ok(text) => serve_text(alloc, request, &text, files, spawner, trace),
-        Err(FileRefusal::Failed) => Served::unread(),
-        Err(FileRefusal::TooLong) => Served::refused(Refusal::TooLong),
-        Err(FileRefusal::Memory) => Served::starved(),
+        Err(why) => Served::without_run(Status::from(why)),
     }
 }
 

@@ -3,6 +3,8 @@ use Rattle.std.specs.Prelude.{◌≡◌, ◌⊎◌, ◌≤◌, ℕ, ◌∷◌, �
 use Rattle.std.specs.Io.KnownBytes.{Appends, Keeps}
 use Rattle.std.specs.declared.option.Option.{Option}
 use Rattle.lt_io.specs.Sending.{AppendsPart}
+use Rattle.lt_io.specs.declared.files.FileRefusal.{FileRefusal}
+use Rattle.lt_io.specs.declared.files.FileRefusal.TheVariants as file
 use Rattle.lt_loop.specs.Machine.{most_steps}
 use Rattle.lt_prepare.specs.Prepared.{IsPrintedAnswer}
 use Rattle.lt_prepare.specs.declared.refusal.Refusal.{Refusal as Reason}
@@ -49,6 +51,12 @@ pub data Prints (text : List ℕ) (old new : Option (List ℕ)) : Status → Typ
 abbrev pub status_why : Unprepared → Status
 status_why (unprepared.Refused reason) = status.Refused (refusal.Scenario reason)
 status_why unprepared.Memory = status.Memory
+
+-- the status of a call of which a file wasn't read
+abbrev pub status_unread : FileRefusal → Status
+status_unread file.Failed = status.Device device.File 0
+status_unread file.TooLong = status.Refused refusal.TooLong
+status_unread file.Memory = status.Memory
 
 -- the status of a large run that ended so
 abbrev pub status_so : Stressed → Status

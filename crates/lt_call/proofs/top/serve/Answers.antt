@@ -17,4 +17,4 @@ words_unread law (Ok request) told asked names old new s none starved same puts 
 words_unread law (Err kind) told asked names old new s none starved same puts = tt
 
 pub returns-in-Err-Memory-clause-answers : goal.returns-in-Err-Memory-clause-answers
-returns-in-Err-Memory-clause-answers g c = words_unread c.contents_have_one_due_answer.ensures _ _ _ _ _ _ c.starved.result.status c.starved.ensures.names c.starved.ensures.status refl (nothing _)
+returns-in-Err-Memory-clause-answers g c = words_unread c.contents_have_one_due_answer.ensures _ _ _ _ _ _ c.without_run-in-Err-Memory.result.status c.without_run-in-Err-Memory.ensures.names c.without_run-in-Err-Memory.ensures.status refl (nothing _)
