@@ -1,9 +1,8 @@
 //! The call of the program.
 
-ghost use Rattle.std.specs.Prelude.{◌≡◌, ◌⊎◌, ◌≤◌, ℕ, true, List, Err, IfOk, OnErr, length, map, string_bytes};
+ghost use Rattle.std.specs.Prelude.{◌≡◌, ◌⊎◌, ℕ, true, List, Err, IfOk, OnErr, map, string_bytes};
 ghost use Rattle.lt_drive.specs.Outside.{sink};
 ghost use Rattle.lt_words.specs.Asked.{request as request_of};
-ghost use Rattle.lt_words.specs.Settings.{longest_text};
 ghost use Rattle.lt_words.specs.Words.{IsWithin, requested};
 ghost use Rattle.lt_words.specs.declared.usage.UsageKind.{UsageKind};
 ghost use Rattle.lt_call.specs.Call.{GivesDue, IsCall, IsCounted, blames};
@@ -12,7 +11,6 @@ ghost use Rattle.lt_call.specs.Given.{PutsNothing};
 ghost use Rattle.lt_call.specs.Outside.{faults_of};
 ghost use Rattle.lt_call.specs.declared.status.Device.{Device};
 ghost use Rattle.lt_call.specs.declared.status.Status.{Status};
-ghost use Rattle.lt_call.specs.inner.Parts.{GivesForText};
 ghost use Rattle.lt_call.specs.inner.ServedView.{names_of};
 
 use crate::laws::contents_have_one_due_answer;
@@ -192,53 +190,11 @@ fn serve_file<F: Files, P: Spawner, S: Sink>(
     // A law that the proof needs: where the file stays unread, an answer is due all the same.
     contents_have_one_due_answer();
     match files.read(alloc, request.file, LONGEST_TEXT) {
-        Ok(text) => serve_text(alloc, request, &text, files, spawner, trace),
+        Ok(text) => match request.mode {
+            Mode::Run => run_text(alloc, request, &text, files, spawner, trace),
+            Mode::Print => Served::without_run(print_text(alloc, &text, trace)),
+            Mode::Stress(_) => unreachable!(),
+        },
         Err(why) => Served::without_run(Status::from(why)),
-    }
-}
-
-// Does what is asked for with the scenario's text.
-fn serve_text<F: Files, P: Spawner, S: Sink>(
-    alloc: Global,
-    request: &Request<'_>,
-    text: &[u8],
-    files: &mut F,
-    spawner: &mut P,
-    trace: &mut S,
-) -> Served
-    requires within { IsWithin (request_of request.now) }
-    requires file { has_file request.now.mode ≡ true }
-    requires short { length text.now ≤ longest_text }
-    ensures gives { GivesForText (request_of request.now) (F.contents files.old) text.now
-        (record {
-          files = record { contents = F.contents files.old; asked = F.asked files.old; faults = F.faults files.old };
-          programs = record { coming = P.coming spawner.old; closed = P.closed spawner.old; asked = P.asked spawner.old; faults = P.faults spawner.old };
-          trace = sink (S.written trace.old) (S.faults trace.old);
-        })
-        (record {
-          files = record { contents = F.contents files.new; asked = F.asked files.new; faults = F.faults files.new };
-          programs = record { coming = P.coming spawner.new; closed = P.closed spawner.new; asked = P.asked spawner.new; faults = P.faults spawner.new };
-          trace = sink (S.written trace.new) (S.faults trace.new);
-        })
-        (names_of result) result.status }
-    ensures no_usage { (kind : UsageKind) → result.status ≡ Status.Usage kind → ⊥ }
-    ensures counts { (what : Device) → IsCounted what (blames result.status what)
-        (faults_of what (record {
-          files = record { contents = F.contents files.old; asked = F.asked files.old; faults = F.faults files.old };
-          programs = record { coming = P.coming spawner.old; closed = P.closed spawner.old; asked = P.asked spawner.old; faults = P.faults spawner.old };
-          trace = sink (S.written trace.old) (S.faults trace.old);
-        }))
-        (faults_of what (record {
-          files = record { contents = F.contents files.new; asked = F.asked files.new; faults = F.faults files.new };
-          programs = record { coming = P.coming spawner.new; closed = P.closed spawner.new; asked = P.asked spawner.new; faults = P.faults spawner.new };
-          trace = sink (S.written trace.new) (S.faults trace.new);
-        })) }
-{
-    // A law that the proof needs: where memory runs out, an answer is due all the same.
-    contents_have_one_due_answer();
-    match request.mode {
-        Mode::Run => run_text(alloc, request, text, files, spawner, trace),
-        Mode::Print => Served::without_run(print_text(alloc, text, trace)),
-        Mode::Stress(_) => unreachable!(),
     }
 }
