@@ -3,15 +3,15 @@
 ghost use Rattle.std.specs.Prelude.{◌≡◌, ◌<◌, ◌≤◌};
 ghost use Rattle.lt_formula.specs.View.{table_len};
 
+use crate::searching::Question;
 use crate::sheet::Sheet;
 use lt_formula::ExpNode::{
     Add, And, Eq, Ge, Gt, If, Implies, Int, Le, Local, Lt, Mul, Ne, Neg, Not, Or, Output, Real,
     Sub, Xor,
 };
-use lt_formula::{ExpNode, Valuation, value_under};
+use lt_formula::{Valuation, value_under};
 use lt_num::{Range, Value};
 use std::alloc::Global;
-use std::process::Abort;
 use std::test::Fail;
 
 /// The ranges of the outputs and the locals: a Boolean, an int and a real of each.
@@ -27,20 +27,15 @@ pub(crate) const RANGES: [Range; 6] = [
     },
 ];
 
-/// Numbers that look like drawn ones.
+// Numbers that look like drawn ones.
 #[derive(Clone, Copy)]
-pub(crate) struct Numbers {
+struct Numbers {
     state: u64,
 }
 
 impl Numbers {
-    /// Numbers of a start.
-    pub(crate) fn new(start: u64) -> Numbers {
-        Numbers { state: start }
-    }
-
-    /// A number below another.
-    pub(crate) fn below(&mut self, most: u64) -> u64
+    // A number below another.
+    fn below(&mut self, most: u64) -> u64
         requires { 1 ≤ most }
         ensures { result < most }
     {
@@ -50,42 +45,65 @@ impl Numbers {
             .wrapping_add(1_442_695_040_888_963_407);
         (self.state >> 33) % most
     }
+
+    // Which variables are in scope, and what they begin at, with ample budget.
+    fn question(&mut self) -> Question {
+        let mut question = Question {
+            scope: [true; 6],
+            targets: [0; 6],
+            budget: 1_000_000,
+        };
+        for i in 0..6 {
+            question.scope[i] = self.below(8) > 0;
+            question.targets[i] = RANGES[i].low - 1 + self.below(6) as i64;
+        }
+        question
+    }
 }
 
-/// Constraints over the six variables, which ones are in scope, and a target for each.
+/// Constraints over the six variables, and what is searched for.
 #[derive(Drop)]
 pub(crate) struct Problem {
     pub(crate) sheet: Sheet,
-    pub(crate) wanted: [u32; 3],
-    pub(crate) scope: [bool; 6],
-    pub(crate) targets: [i64; 6],
+    pub(crate) question: Question,
 }
 
 impl Problem {
     /// The problem of a number.
-    pub(crate) fn make(rt: &impl Abort, alloc: Global, number: u64) -> Result<Problem, Fail> {
-        let mut numbers = Numbers::new(number);
+    pub(crate) fn make(alloc: Global, number: u64) -> Result<Problem, Fail> {
+        let mut numbers = Numbers { state: number };
         let mut sheet = Sheet::new(alloc)?;
-        let mut wanted = [0; 3];
-        for number in wanted.iter_mut() {
-            *number = put_truth(rt, &mut sheet, &mut numbers)?;
-        }
-        let mut scope = [true; 6];
-        let mut targets = [0; 6];
-        for i in 0..6 {
-            scope[i] = numbers.below(8) > 0;
-            targets[i] = RANGES[i].low - 1 + numbers.below(6) as i64;
-        }
-        Ok(Problem {
-            sheet,
-            wanted,
-            scope,
-            targets,
-        })
+        put_truths(&mut sheet, &mut numbers)?;
+        let question = numbers.question();
+        Ok(Problem { sheet, question })
     }
 
-    /// How many points there are.
-    pub(crate) fn points(&self) -> u64 {
+    /// Puts what is to be found, by going through all points, and answers whether there is a solution.
+    pub(crate) fn put_due(&self, due: &mut String) -> Result<bool, Fail> {
+        let need = self.points().wrapping_mul(2);
+        let wanted = self.sheet.numbers.as_slice();
+        write!(due, "{wanted:?} at 2 decimals, need {need}, ")?;
+        let first = self.first_by_trial();
+        match first {
+            Some(point) => write!(due, "Solution {point:?}")?,
+            None => due.push_str("Unsat")?,
+        }
+        Ok(first.is_some())
+    }
+
+    // The first point at which all constraints are true, by going through the points in their order.
+    fn first_by_trial(&self) -> Option<[i64; 6]> {
+        for number in 0..self.points() {
+            let point = self.point(number);
+            if self.is_true_at(&point) {
+                return Some(point);
+            }
+        }
+        None
+    }
+
+    // How many points there are.
+    fn points(&self) -> u64 {
         let mut points = 1u64;
         for i in 0..6 {
             points = points.wrapping_mul(self.count(i));
@@ -93,22 +111,11 @@ impl Problem {
         points
     }
 
-    /// The first point at which all constraints are true, by going through the points in their order.
-    pub(crate) fn first_by_trial(&self, rt: &impl Abort) -> Option<[i64; 6]> {
-        for number in 0..self.points() {
-            let point = self.point(number);
-            if self.is_true_at(rt, &point) {
-                return Some(point);
-            }
-        }
-        None
-    }
-
     // How many numbers a variable has.
     fn count(&self, variable: usize) -> u64
         requires { variable < 6 }
     {
-        if self.scope[variable] {
+        if self.question.scope[variable] {
             RANGES[variable].high.abs_diff(RANGES[variable].low) + 1
         } else {
             1
@@ -123,8 +130,9 @@ impl Problem {
             let variable = 5 - k;
             let count = self.count(variable);
             if count > 0 {
-                if self.scope[variable] {
-                    point[variable] = nth(RANGES[variable], self.targets[variable], rest % count);
+                if self.question.scope[variable] {
+                    let target = self.question.targets[variable];
+                    point[variable] = nth(RANGES[variable], target, rest % count);
                 }
                 rest /= count;
             }
@@ -133,7 +141,7 @@ impl Problem {
     }
 
     // Whether all constraints are true at a point.
-    fn is_true_at(&self, rt: &impl Abort, point: &[i64; 6]) -> bool {
+    fn is_true_at(&self, point: &[i64; 6]) -> bool {
         let valuation = Valuation {
             inputs: &[],
             outputs: &[
@@ -151,9 +159,11 @@ impl Problem {
             pre_locals: &[],
             decimals: 2,
         };
-        for exp in self.wanted {
-            assert!(rt; (exp as usize) < self.sheet.table.len());
-            if value_under(&valuation, &self.sheet.table, exp) != Ok(Value::Bool(true)) {
+        let table = &self.sheet.table;
+        for exp in self.sheet.numbers.iter().copied() {
+            if (exp as usize) >= table.len()
+                || value_under(&valuation, table, exp) != Ok(Value::Bool(true))
+            {
                 return false;
             }
         }
@@ -173,10 +183,19 @@ fn nth(range: Range, target: i64, place: u64) -> i64 {
     }
 }
 
+// Puts three constraints, whose numbers are those that are wanted.
+fn put_truths(sheet: &mut Sheet, numbers: &mut Numbers) -> Result<(), Fail> {
+    for _ in 0..3u32 {
+        let number = put_truth(sheet, numbers)?;
+        sheet.numbers.push(number)?;
+    }
+    Ok(())
+}
+
 // Puts a constraint: two simple ones that are joined, or denied, or one of them chosen.
-fn put_truth(rt: &impl Abort, sheet: &mut Sheet, numbers: &mut Numbers) -> Result<u32, Fail> {
-    let a = put_simple(rt, sheet, numbers)?;
-    let b = put_simple(rt, sheet, numbers)?;
+fn put_truth(sheet: &mut Sheet, numbers: &mut Numbers) -> Result<u32, Fail> {
+    let a = put_simple(sheet, numbers)?;
+    let b = put_simple(sheet, numbers)?;
     let node = match numbers.below(9) {
         0 => And(a, b),
         1 => Or(a, b),
@@ -185,30 +204,24 @@ fn put_truth(rt: &impl Abort, sheet: &mut Sheet, numbers: &mut Numbers) -> Resul
         4 => Eq(a, b),
         5 => Ne(a, b),
         6 => Not(a),
-        7 => {
-            let c = put_simple(rt, sheet, numbers)?;
-            If(c, a, b)
-        }
+        7 => If(put_simple(sheet, numbers)?, a, b),
         _ => return Ok(a),
     };
-    sheet.put(rt, node)
+    sheet.put(node)
 }
 
 // Puts a Boolean variable or a comparison.
-fn put_simple(rt: &impl Abort, sheet: &mut Sheet, numbers: &mut Numbers) -> Result<u32, Fail> {
+fn put_simple(sheet: &mut Sheet, numbers: &mut Numbers) -> Result<u32, Fail> {
     if numbers.below(4) == 0 {
-        return sheet.put(
-            rt,
-            if numbers.below(2) == 0 {
-                Output(0)
-            } else {
-                Local(0)
-            },
-        );
+        return sheet.put(if numbers.below(2) == 0 {
+            Output(0)
+        } else {
+            Local(0)
+        });
     }
     let is_real = numbers.below(2) == 0;
-    let a = put_number(rt, sheet, numbers, is_real)?;
-    let b = put_number(rt, sheet, numbers, is_real)?;
+    let a = put_number(sheet, numbers, is_real)?;
+    let b = put_number(sheet, numbers, is_real)?;
     let node = match numbers.below(6) {
         0 => Eq(a, b),
         1 => Ne(a, b),
@@ -217,27 +230,19 @@ fn put_simple(rt: &impl Abort, sheet: &mut Sheet, numbers: &mut Numbers) -> Resu
         4 => Gt(a, b),
         _ => Ge(a, b),
     };
-    sheet.put(rt, node)
+    sheet.put(node)
 }
 
 // Puts a number: a sum of a constant and a variable of one kind, either of which may have another sign or factor.
-fn put_number(
-    rt: &impl Abort,
-    sheet: &mut Sheet,
-    numbers: &mut Numbers,
-    is_real: bool,
-) -> Result<u32, Fail> {
+fn put_number(sheet: &mut Sheet, numbers: &mut Numbers, is_real: bool) -> Result<u32, Fail> {
     let place = if is_real { 2 } else { 1 };
-    let variable = sheet.put(
-        rt,
-        if numbers.below(2) == 0 {
-            Output(place)
-        } else {
-            Local(place)
-        },
-    )?;
+    let variable = sheet.put(if numbers.below(2) == 0 {
+        Output(place)
+    } else {
+        Local(place)
+    })?;
     let raw = numbers.below(9) as i64 - 4;
-    let constant = sheet.put(rt, if is_real { Real(raw) } else { Int(raw) })?;
+    let constant = sheet.put(if is_real { Real(raw) } else { Int(raw) })?;
     let node = match numbers.below(6) {
         0 => Add(variable, constant),
         1 => Sub(constant, variable),
@@ -246,5 +251,5 @@ fn put_number(
         4 => Add(variable, variable),
         _ => return Ok(variable),
     };
-    sheet.put(rt, node)
+    sheet.put(node)
 }

@@ -8,16 +8,28 @@ ghost use Rattle.lt_formula.specs.View.{table_kinds, table_len};
 use lt_formula::{ExpNode, Known, Role, Shape, Table};
 use lt_num::{Kind, Value};
 use std::alloc::Global;
-use std::process::Abort;
 use std::test::Fail;
 
 /// A table over three inputs, three outputs and three locals: a Boolean, an int and a real of each.
-#[derive(Drop)]
 pub(crate) struct Sheet {
     pub(crate) table: Table,
+
+    /// The numbers of the expressions that were read, in their order.
+    pub(crate) numbers: Vec<u32>,
+
     ghost inputs: { length (table_kinds table).inputs ≡ 3 },
     ghost outputs: { length (table_kinds table).outputs ≡ 3 },
     ghost locals: { length (table_kinds table).locals ≡ 3 },
+}
+
+// What a sheet owns is dropped by this one function, wherever a sheet is.
+impl Drop for Sheet {
+    fn drop(self) {
+        let Self {
+            table: _,
+            numbers: _,
+        } = self;
+    }
 }
 
 impl Sheet {
@@ -27,17 +39,30 @@ impl Sheet {
         let inputs = kinds.to_vec(alloc)?;
         let outputs = kinds.to_vec(alloc)?;
         let locals = kinds.to_vec(alloc)?;
-        let table = Table::new(alloc, inputs, outputs, locals);
-        Ok(Sheet { table })
+        Ok(Sheet {
+            table: Table::new(alloc, inputs, outputs, locals),
+            numbers: Vec::new(alloc),
+        })
     }
 
     /// Puts an expression whose parts are there.
-    pub(crate) fn put(&mut self, rt: &impl Abort, node: ExpNode) -> Result<u32, Fail>
+    pub(crate) fn put(&mut self, node: ExpNode) -> Result<u32, Fail>
         ensures { IfOk result (λ number. number < table_len self.new.table) }
     {
-        let before = self.table.len();
-        assert!(rt; has_parts(node.shape(), before));
+        if !has_parts(node.shape(), self.table.len()) {
+            return Err(Fail::new("a part is missing"));
+        }
         Ok(self.table.push(node)?)
+    }
+
+    /// The number of the expression that was read at this place.
+    pub(crate) fn number(&self, place: usize) -> Result<u32, Fail>
+        ensures { IfOk result (λ number. number < table_len self.now.table) }
+    {
+        match self.numbers.get(place) {
+            Some(number) if (*number as usize) < self.table.len() => Ok(*number),
+            _ => Err(Fail::new("an expression is missing")),
+        }
     }
 }
 

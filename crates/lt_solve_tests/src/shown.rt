@@ -2,49 +2,39 @@
 
 use lt_linear::{Form, FormRef, NumRefusal};
 use lt_space::{Atom, Formula, FormulaRefusal, Loaded, Relation};
-use std::alloc::{AllocError, Global};
+use std::alloc::AllocError;
 
-/// A form, as `2*v0 + -1*v3 + 7`, or why there is none.
-pub(crate) fn shown_form(
-    alloc: Global,
+/// Puts a form, as `2*v0 + -1*v3 + 7`, or why there is none.
+pub(crate) fn put_form_or_refusal(
+    text: &mut String,
     answer: &Result<Form, NumRefusal>,
-) -> Result<String, AllocError> {
+) -> Result<(), AllocError> {
     match answer {
-        Ok(form) => {
-            let mut text = String::new(alloc);
-            put_form(&mut text, form.lend())?;
-            Ok(text)
-        }
-        Err(refusal) => format!(in alloc; "{refusal:?}"),
+        Ok(form) => put_form(text, form.lend()),
+        Err(refusal) => write!(text, "{refusal:?}"),
     }
 }
 
-/// A formula, as `(v0 and not 2*v1 + -3 <= 0)`, or why there is none.
-pub(crate) fn shown_formula(
-    alloc: Global,
+/// Puts a formula, as `(v0 and not 2*v1 + -3 <= 0)`, or why there is none.
+pub(crate) fn put_formula_or_refusal(
+    text: &mut String,
     answer: &Result<Formula, FormulaRefusal>,
-) -> Result<String, AllocError> {
+) -> Result<(), AllocError> {
     match answer {
-        Ok(formula) => {
-            let mut text = String::new(alloc);
-            put_formula(&mut text, formula)?;
-            Ok(text)
-        }
-        Err(FormulaRefusal::Fault(fault)) => format!(in alloc; "{fault:?}"),
-        Err(FormulaRefusal::Memory) => String::from_str(alloc, "Memory"),
+        Ok(formula) => put_formula(text, formula),
+        Err(FormulaRefusal::Fault(fault)) => write!(text, "{fault:?}"),
+        Err(FormulaRefusal::Memory) => text.push_str("Memory"),
     }
 }
 
-/// What a load says of an atom, as `v0` and `2*v1 + -3 <= 0`.
-pub(crate) fn shown_atom(alloc: Global, atom: Loaded<'_>) -> Result<String, AllocError> {
-    let mut text = String::new(alloc);
+/// Puts what a load says of an atom, as `v0` and `2*v1 + -3 <= 0`.
+pub(crate) fn put_loaded(text: &mut String, atom: Loaded<'_>) -> Result<(), AllocError> {
     match atom {
-        Loaded::Skipped => text.push_str("skipped")?,
-        Loaded::Truth(truth) => write!(&mut text, "{truth}")?,
-        Loaded::Flag(variable) => write!(&mut text, "v{variable}")?,
-        Loaded::Compare(form, relation) => put_comparison(&mut text, form, relation)?,
+        Loaded::Skipped => text.push_str("skipped"),
+        Loaded::Truth(truth) => write!(text, "{truth}"),
+        Loaded::Flag(variable) => write!(text, "v{variable}"),
+        Loaded::Compare(form, relation) => put_comparison(text, form, relation),
     }
-    Ok(text)
 }
 
 // Puts a form.

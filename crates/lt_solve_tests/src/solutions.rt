@@ -1,10 +1,9 @@
 //! First solutions, compared with those that a plain enumeration of all points finds.
 
 use crate::problems::{Problem, RANGES};
-use crate::rows::check;
-use crate::searching::{Found, Question, Search, first_solution};
+use crate::rows::{Topic, check, check_found};
+use crate::searching::put_found;
 use lt_num::Range;
-use lt_solver::Answer;
 use std::alloc::Global;
 use std::process::Abort;
 use std::test::Fail;
@@ -18,63 +17,78 @@ const ZERO: Range = Range { low: 0, high: 0 };
 // An int from 0 to 3.
 const SMALL: Range = Range { low: 0, high: 3 };
 
-// The ranges where two small ints are in scope, an output and a local.
-const TWO_INTS: [Range; 6] = [ZERO, SMALL, ZERO, ZERO, SMALL, ZERO];
+/// The ranges where two small ints are in scope, an output and a local.
+pub(crate) const TWO_INTS: [Range; 6] = [ZERO, SMALL, ZERO, ZERO, SMALL, ZERO];
 
+// Each row has constraints, or `nothing`, the variables `in` scope, their targets and a budget, as `question_of` reads them,
+// and what is found.
+const SEARCHES: &str = "\
+-- A list of constraints is loaded in its order.
+k = 1 + 1 , j > 1 in bjyckz from 0 0 0 0 0 -149 within 10000 ==> \
+[3, 5] at 2 decimals, need 1920, Solution [0, 2, 0, 0, 2, -149]
+-- A fault leaves nothing of a list.
+k = 1 + 1 , j = 1 div 0 in bjyckz from 1 1 1 1 1 -148 within 10000 ==> \
+DivisionByZero, [] at 2 decimals, need 1920, Solution [1, 1, 1, 1, 1, -148]
+-- What is out of scope is 0.
+nothing in ------ from 1 1 1 1 1 -148 within 10000 ==> [] at 0 decimals, need 2, Solution [0, 0, 0, 0, 0, 0]
+-- A need over the budget is the answer. This is problem 1, and twice its 960 points are needed.
+if k + 4 < k + -2 then j + -1 <= k + k else j + -1 >= j + j , ( z + -3u = z + 4u ) => ( z + z > y ) , \
+( j + j < 3 - j ) xor ( 0 * k <> j ) in bjyckz from -1 -2 1 1 1 -151 within 1919 ==> \
+[13, 23, 30] at 2 decimals, need 1920, Budget(1920)
+if k + 4 < k + -2 then j + -1 <= k + k else j + -1 >= j + j , ( z + -3u = z + 4u ) => ( z + z > y ) , \
+( j + j < 3 - j ) xor ( 0 * k <> j ) in bjyckz from -1 -2 1 1 1 -151 within 1920 ==> \
+[13, 23, 30] at 2 decimals, need 1920, Unsat";
+
+// The same, where two small ints are in scope.
 const TARGETS: &str = "\
-j + k = 3, j + k = 3 in -j--k- from 0 2 0 0 2 0 within 32 ==> need 32, Solution [0, 2, 0, 0, 1, 0]
+-- Each variable goes on from its target.
+j + k = 3 , j + k = 3 in -j--k- from 0 2 0 0 2 0 within 32 ==> \
+[4, 4] at 2 decimals, need 32, Solution [0, 2, 0, 0, 1, 0]
 -- The first can't be 3, so it begins anew at 0.
-j + k = 3, j <= 2 in -j--k- from 0 3 0 0 0 0 within 32 ==> need 32, Solution [0, 0, 0, 0, 3, 0]
+j + k = 3 , j <= 2 in -j--k- from 0 3 0 0 0 0 within 32 ==> \
+[4, 6] at 2 decimals, need 32, Solution [0, 0, 0, 0, 3, 0]
 -- Twice the 16 points are needed.
-j + k = 7, j + k = 7 in -j--k- from 0 0 0 0 0 0 within 32 ==> need 32, Unsat
-j + k = 7, j + k = 7 in -j--k- from 0 0 0 0 0 0 within 31 ==> need 32, Budget(32)";
+j + k = 7 , j + k = 7 in -j--k- from 0 0 0 0 0 0 within 32 ==> [4, 4] at 2 decimals, need 32, Unsat
+j + k = 7 , j + k = 7 in -j--k- from 0 0 0 0 0 0 within 31 ==> [4, 4] at 2 decimals, need 32, Budget(32)";
 
-// What is found for a problem under a budget.
-fn solve(rt: &impl Abort, alloc: Global, problem: &Problem, budget: u64) -> Result<Found, Fail> {
-    let question = Question {
-        wanted: &problem.wanted,
-        scope: problem.scope,
-        targets: problem.targets,
-        budget,
-    };
-    let found = first_solution(rt, alloc, &problem.sheet, &RANGES, &question)?;
-    assert_eq!(rt; found.loaded, Ok(()));
-    Ok(found)
+#[test]
+fn searches(rt: HostRuntime) -> Result<(), Fail> {
+    check(&rt, rt.alloc(), Topic::Search, SEARCHES, 5)?;
+    check(&rt, rt.alloc(), Topic::SearchOfInts, TARGETS, 4)
+}
+
+// What is found for the problem of a number is what going through all points finds. The answer is whether it has a solution.
+fn check_problem(rt: &impl Abort, alloc: Global, number: u64) -> Result<bool, Fail> {
+    let problem = Problem::make(alloc, number)?;
+    let mut due = format!(in alloc; "problem {number}: ")?;
+    let is_solved = problem.put_due(&mut due)?;
+    check_solution(rt, alloc, number, &problem, &due)?;
+    Ok(is_solved)
+}
+
+// What is found for a problem is what is due.
+fn check_solution(
+    rt: &impl Abort,
+    alloc: Global,
+    number: u64,
+    problem: &Problem,
+    due: &str,
+) -> Result<(), Fail> {
+    let mut found = format!(in alloc; "problem {number}: ")?;
+    put_found(&mut found, alloc, &problem.sheet, &RANGES, problem.question)?;
+    check_found(rt, &found, due);
+    Ok(())
 }
 
 #[test]
 fn first_solutions_are_those_of_an_enumeration(rt: HostRuntime) -> Result<(), Fail> {
     let mut solved = 0u64;
     for number in 0..PROBLEMS {
-        let problem = Problem::make(&rt, rt.alloc(), number)?;
-        let found = solve(&rt, rt.alloc(), &problem, 1_000_000)?;
-        match problem.first_by_trial(&rt) {
-            Some(point) => {
-                solved = solved.saturating_add(1);
-                assert_eq!(rt; found.answer, Answer::Solution, "problem {number}");
-                assert_eq!(rt; found.values, point, "problem {number}");
-            }
-            None => assert_eq!(rt; found.answer, Answer::Unsat, "problem {number}"),
+        if check_problem(&rt, rt.alloc(), number)? {
+            solved = solved.saturating_add(1);
         }
     }
     // Both answers come often.
-    assert!(rt; solved > 100);
-    assert!(rt; solved < PROBLEMS - 20);
+    assert!(rt; solved > 100 && solved < PROBLEMS - 20);
     Ok(())
-}
-
-#[test]
-fn a_need_over_the_budget_is_the_answer(rt: HostRuntime) -> Result<(), Fail> {
-    let problem = Problem::make(&rt, rt.alloc(), 1)?;
-    let need = problem.points().wrapping_mul(2);
-    let over = solve(&rt, rt.alloc(), &problem, need.wrapping_sub(1))?;
-    assert_eq!(rt; over.answer, Answer::Budget(u128::from(need)));
-    let within = solve(&rt, rt.alloc(), &problem, need)?;
-    assert_ne!(rt; within.answer, Answer::Budget(u128::from(need)));
-    Ok(())
-}
-
-#[test]
-fn each_variable_goes_on_from_its_target(rt: HostRuntime) -> Result<(), Fail> {
-    check(&rt, rt.alloc(), &Search { ranges: TWO_INTS }, TARGETS, 4)
 }
