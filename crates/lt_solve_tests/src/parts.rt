@@ -1,8 +1,5 @@
 //! Parts of constraints, and what a load says of their atoms. What is expected was worked out by hand from the rules.
 
-ghost use Rattle.std.specs.Prelude.{◌<◌};
-ghost use Rattle.lt_formula.specs.View.{table_len};
-
 use crate::rows::{Topic, check};
 use crate::sheet::{Sheet, known};
 use crate::shown::{put_formula, put_loaded};

@@ -1,7 +1,6 @@
 //! Small problems, made from a number, and their first solutions by going through all points.
 
-ghost use Rattle.std.specs.Prelude.{◌≡◌, ◌<◌, ◌≤◌};
-ghost use Rattle.lt_formula.specs.View.{table_len};
+ghost use Rattle.std.specs.Prelude.{◌<◌, ◌≤◌};
 
 use crate::searching::Question;
 use crate::sheet::Sheet;

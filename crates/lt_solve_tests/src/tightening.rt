@@ -2,32 +2,27 @@
 
 use lt_bounds::{Rows, Tight, tighten};
 use lt_num::Range;
-use std::test::Fail;
 
 #[test]
-fn a_row_moves_the_ends_of_ranges(rt: HostRuntime) -> Result<(), Fail> {
+fn a_row_moves_the_ends_of_ranges(rt: HostRuntime) {
     // 2 * x + 3 * y - 7 <= 0, where x is at least 0 and y at least 1: x is at most 2, and y at most 2.
     let rows = Rows {
         width: 3,
-        cells: vec![in rt.alloc(); 2, 3, -7]?,
+        cells: vec![in rt.alloc(); 2, 3, -7].expect(&rt, "memory"),
     };
     let mut ranges = [Range { low: 0, high: 9 }, Range { low: 1, high: 9 }];
-    assert_eq!(rt; tighten(&mut ranges, &rows), Tight::Narrowed);
-    assert_eq!(rt;
-        ranges,
-        [Range { low: 0, high: 2 }, Range { low: 1, high: 2 }]
-    );
-    Ok(())
+    let tight = tighten(&mut ranges, &rows);
+    assert!(rt; tight == Tight::Narrowed);
+    assert!(rt; ranges == [Range { low: 0, high: 2 }, Range { low: 1, high: 2 }]);
 }
 
 #[test]
-fn a_row_that_no_point_satisfies_is_found(rt: HostRuntime) -> Result<(), Fail> {
+fn a_row_that_no_point_satisfies_is_found(rt: HostRuntime) {
     // 7 - 2 * x <= 0, where x is at most 3.
     let rows = Rows {
         width: 2,
-        cells: vec![in rt.alloc(); -2, 7]?,
+        cells: vec![in rt.alloc(); -2, 7].expect(&rt, "memory"),
     };
     let mut ranges = [Range { low: 0, high: 3 }];
-    assert_eq!(rt; tighten(&mut ranges, &rows), Tight::Empty);
-    Ok(())
+    assert!(rt; tighten(&mut ranges, &rows) == Tight::Empty);
 }
