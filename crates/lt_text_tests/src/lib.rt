@@ -5,11 +5,11 @@
 #![tactic(auto)]
 
 #[cfg(test)]
+mod found;
+#[cfg(test)]
 mod names;
 #[cfg(test)]
 mod order;
-#[cfg(test)]
-mod printed;
 #[cfg(test)]
 mod programs;
 #[cfg(test)]
@@ -17,7 +17,7 @@ mod ranges;
 #[cfg(test)]
 mod refusals;
 #[cfg(test)]
-mod row;
+mod rows;
 #[cfg(test)]
 mod tokens;
 #[cfg(test)]

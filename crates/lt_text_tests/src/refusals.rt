@@ -1,11 +1,8 @@
 //! Texts whose refusals follow from the lexical rules and the grammar.
 
-use crate::programs::check_programs;
-use crate::row::{NODE, halves};
-use crate::tokens::check_tokens;
+use crate::found::Asked;
+use crate::rows::check;
 use lt_lexer::LexRefusal;
-use lt_parser::{ParseRefusal, parse};
-use std::alloc::Global;
 use std::test::Fail;
 
 const NO_TOKENS: &str = "\
@@ -27,9 +24,42 @@ node n() (* ==> OpenComment(9)
 a 1234567890123456789 & ==> NumberTooLong(2)
 node n() returns (b: bool) = b & b ==> BadByte(31)";
 
+const NO_PROGRAM: &str = "\
+node n() (* ==> Lex(OpenComment(9))
+node n() returns (b: bool) = b & b ==> Lex(BadByte(31))
+node n() returns (b: bool) = run ==> Unexpected(29)
+node n() returns (b: bool) = b and  ==> Unexpected(35)
+node n() returns (b: bool) = { b : b } ==> Unexpected(33)
+node n() returns (b: bool) = a < b < c ==> Unexpected(35)
+node n() returns (b: bool) = loop ~3 b ==> Unexpected(37)
+let m: bool = a fby b ==> Unexpected(16)
+try a do b do c ==> Unexpected(0)
+node n() returns (b: bool) = try a do b do c ==> Unexpected(40)";
+
+// Texts that open one level of nesting. Where the trace of a node is 200 times such a text, it ends too soon. With one
+// time more it is refused at the token that opens a level.
+const OPENERS: &str = "\
+{ ==> Unexpected(229) TooDeep(229)
+( ==> Unexpected(229) TooDeep(229)
+f( ==> Unexpected(429) TooDeep(430)
+loop  ==> Unexpected(1029) TooDeep(1029)
+not  ==> Unexpected(829) TooDeep(829)
+-  ==> Unexpected(429) TooDeep(429)
+if  ==> Unexpected(629) TooDeep(629)
+a =>  ==> Unexpected(1029) TooDeep(1031)
+assert a in  ==> Unexpected(2429) TooDeep(2429)
+exist u: bool in  ==> Unexpected(3429) TooDeep(3429)
+let m: bool = a in  ==> Unexpected(3829) TooDeep(3829)
+exception e in  ==> Unexpected(3029) TooDeep(3029)
+catch e in  ==> Unexpected(2229) TooDeep(2229)
+trap e in  ==> Unexpected(2029) TooDeep(2029)
+try  ==> Unexpected(829) TooDeep(829)";
+
 #[test]
-fn texts_with_no_tokens(rt: HostRuntime) -> Result<(), Fail> {
-    check_tokens(&rt, rt.alloc(), NO_TOKENS)
+fn texts_are_refused_at_a_place(rt: HostRuntime) -> Result<(), Fail> {
+    check(&rt, rt.alloc(), Asked::Tokens, "", NO_TOKENS)?;
+    check(&rt, rt.alloc(), Asked::Program, "", NO_PROGRAM)?;
+    check(&rt, rt.alloc(), Asked::Levels, "", OPENERS)
 }
 
 // A refusal, and what it tells.
@@ -68,61 +98,4 @@ fn codes_and_places(rt: HostRuntime) {
         assert_eq!(rt; case.refusal.code(), case.code);
         assert_eq!(rt; case.refusal.place(), case.place);
     }
-}
-
-const NO_PROGRAM: &str = "\
-node n() (* ==> Lex(OpenComment(9))
-node n() returns (b: bool) = b & b ==> Lex(BadByte(31))
-node n() returns (b: bool) = run ==> Unexpected(29)
-node n() returns (b: bool) = b and  ==> Unexpected(35)
-node n() returns (b: bool) = { b : b } ==> Unexpected(33)
-node n() returns (b: bool) = a < b < c ==> Unexpected(35)
-node n() returns (b: bool) = loop ~3 b ==> Unexpected(37)
-let m: bool = a fby b ==> Unexpected(16)
-try a do b do c ==> Unexpected(0)
-node n() returns (b: bool) = try a do b do c ==> Unexpected(40)";
-
-#[test]
-fn texts_with_no_program(rt: HostRuntime) -> Result<(), Fail> {
-    check_programs(&rt, rt.alloc(), NO_PROGRAM)
-}
-
-// Texts that open one level of nesting, and where in them the token stands that does.
-const OPENERS: &str = "\
-{ ==> 0
-( ==> 0
-f( ==> 1
-loop  ==> 0
-not  ==> 0
--  ==> 0
-if  ==> 0
-a =>  ==> 2
-assert a in  ==> 0
-exist u: bool in  ==> 0
-let m: bool = a in  ==> 0
-exception e in  ==> 0
-catch e in  ==> 0
-trap e in  ==> 0
-try  ==> 0";
-
-// Why a node is refused in which a text opens so many levels.
-fn refusal_of(alloc: Global, opener: &str, levels: usize) -> Result<Option<ParseRefusal>, Fail> {
-    let mut text = String::from_str(alloc, NODE)?;
-    for _ in 0..levels {
-        text.push_str(opener)?;
-    }
-    Ok(parse(alloc, text.as_bytes()).err())
-}
-
-#[test]
-fn texts_nested_too_deep(rt: HostRuntime) -> Result<(), Fail> {
-    for row in OPENERS.lines() {
-        let (opener, place) = halves(row, " ==> ");
-        let end = NODE.len().saturating_add(opener.len().saturating_mul(200));
-        let ends = ParseRefusal::Unexpected(end);
-        assert_eq!(rt; refusal_of(rt.alloc(), opener, 200)?, Some(ends), "{row}");
-        let deep = ParseRefusal::TooDeep(end.saturating_add(place.parse()?));
-        assert_eq!(rt; refusal_of(rt.alloc(), opener, 201)?, Some(deep), "{row}");
-    }
-    Ok(())
 }

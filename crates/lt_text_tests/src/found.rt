@@ -1,0 +1,202 @@
+//! What is found of a text.
+
+ghost use Rattle.std.specs.Prelude.{◌≤◌};
+ghost use Rattle.lt_lexer.specs.Source.{IsTokenOf};
+
+use crate::rows::NODE;
+use lt_ast::{Body, Decl, Expr, Program, print};
+use lt_lexer::{LexRefusal, Token, lex};
+use lt_parser::{ParseRefusal, parse};
+use lt_types::{TypeRefusal, check};
+use std::alloc::{AllocError, Global};
+use std::test::Fail;
+
+/// What is asked of a text. A refusal is told as it is.
+#[derive(Clone, Copy)]
+pub enum Asked {
+    /// Its tokens, each with its kind and its place.
+    Tokens,
+
+    /// Its tokens, each with its sign and its letters besides.
+    Signs,
+
+    /// How many tokens it has, how many of them have the bytes of their letters, and how many are spelled as their sign is.
+    Spelled,
+
+    /// Its program, as it is printed.
+    Program,
+
+    /// The operator that its first macro stands for, and the places of both operands.
+    Operands,
+
+    /// The programs in which it stands 200 and 201 times where a trace begins.
+    Levels,
+
+    /// Whether it keeps to the rules of types, where a real has two decimals.
+    Types,
+
+    /// The same where a real has none.
+    RoughTypes,
+
+    /// The same where a real has six.
+    FineTypes,
+
+    /// Its decimals, and the typed program, as it is lent and as it is given back.
+    Typed,
+}
+
+/// What is found, behind a blank.
+pub fn found_of(alloc: Global, asked: Asked, text: &str) -> Result<String, Fail> {
+    match asked {
+        Asked::Tokens => Ok(tokens_of(alloc, text.as_bytes())?),
+        Asked::Signs => signs_of(alloc, text.as_bytes()),
+        Asked::Spelled => spelled_of(alloc, text.as_bytes()),
+        Asked::Program => Ok(program_of(alloc, text)?),
+        Asked::Operands => operands_of(alloc, text),
+        Asked::Levels => Ok(levels_of(alloc, text)?),
+        Asked::Types => types_of(alloc, text, 2),
+        Asked::RoughTypes => types_of(alloc, text, 0),
+        Asked::FineTypes => types_of(alloc, text, 6),
+        Asked::Typed => typed_of(alloc, text),
+    }
+}
+
+/// The tokens of a text.
+pub fn tokens_of(alloc: Global, text: &[u8]) -> Result<String, AllocError> {
+    told_tokens(alloc, &lex(alloc, text))
+}
+
+// Each token behind a blank, or the refusal.
+fn told_tokens(
+    alloc: Global,
+    answer: &Result<Vec<Token>, LexRefusal>,
+) -> Result<String, AllocError> {
+    let mut out = String::new(alloc);
+    match answer {
+        Ok(tokens) => {
+            for token in tokens {
+                let span = token.span;
+                write!(out, " {:?} {}-{}", token.kind, span.start, span.end)?;
+            }
+        }
+        Err(refusal) => write!(out, " {refusal:?}")?,
+    }
+    Ok(out)
+}
+
+// The tokens of a text, with their signs and letters.
+fn signs_of(alloc: Global, text: &[u8]) -> Result<String, Fail> {
+    let tokens = lex(alloc, text)?;
+    let mut out = String::new(alloc);
+    for token in &tokens {
+        put_sign(&mut out, text, token)?;
+    }
+    Ok(out)
+}
+
+// Puts a token behind what is found.
+fn put_sign(out: &mut String, text: &[u8], token: &Token) -> Result<(), AllocError>
+    requires { IsTokenOf text.now token.now }
+{
+    let (kind, span) = (token.kind, token.span);
+    let (sign, letters) = (token.sign(text), token.letters(text));
+    write!(
+        out,
+        " {kind:?} {}-{} {sign:?} {letters}",
+        span.start, span.end
+    )
+}
+
+// How many tokens a text has, and how many of them are what they are to be.
+fn spelled_of(alloc: Global, text: &[u8]) -> Result<String, Fail> {
+    let tokens = lex(alloc, text)?;
+    let mut same = 0usize;
+    let mut spelled = 0usize;
+    for token in &tokens {
+        let letters = token.letters(text);
+        if token.bytes(text) == letters.as_bytes() {
+            same = same.saturating_add(1);
+        }
+        if token.sign(text).text() == letters {
+            spelled = spelled.saturating_add(1);
+        }
+    }
+    Ok(format!(in alloc; " {} {same} {spelled}", tokens.len())?)
+}
+
+// The program of a text.
+fn program_of(alloc: Global, text: &str) -> Result<String, AllocError> {
+    told_program(alloc, &parse(alloc, text.as_bytes()))
+}
+
+// A program, or the refusal.
+fn told_program(
+    alloc: Global,
+    answer: &Result<Program, ParseRefusal>,
+) -> Result<String, AllocError> {
+    match answer {
+        Ok(program) => {
+            let text = print(alloc, program)?;
+            format!(in alloc; " {text}")
+        }
+        Err(refusal) => format!(in alloc; " {refusal:?}"),
+    }
+}
+
+// The operator of the first macro of a text.
+fn operands_of(alloc: Global, text: &str) -> Result<String, Fail> {
+    let program = parse(alloc, text.as_bytes())?;
+    Ok(told_operands(alloc, &program)?)
+}
+
+// The operator that the first declaration stands for, where it is such a macro.
+fn told_operands(alloc: Global, program: &Program) -> Result<String, AllocError> {
+    if let Some(Decl::Macro(declared)) = program.decls.first()
+        && let Body::Value(Expr::Binary(operator, left, right, _)) = &declared.body
+    {
+        let (left, right) = (left.span(), right.span());
+        return format!(in alloc;
+            " {operator:?} {}-{} {}-{}",
+            left.start, left.end, right.start, right.end
+        );
+    }
+    Ok(String::new(alloc))
+}
+
+// The programs of a text that stands 200 times where a trace begins, and one time more.
+fn levels_of(alloc: Global, opener: &str) -> Result<String, AllocError> {
+    let mut text = String::from_str(alloc, NODE)?;
+    for _ in 0..200 {
+        text.push_str(opener)?;
+    }
+    let fewer = program_of(alloc, &text)?;
+    text.push_str(opener)?;
+    let more = program_of(alloc, &text)?;
+    format!(in alloc; "{fewer}{more}")
+}
+
+// Whether a text keeps to the rules of types, where a real has so many decimals.
+fn types_of(alloc: Global, text: &str, decimals: u32) -> Result<String, Fail>
+    requires { decimals ≤ 6 }
+{
+    let program = parse(alloc, text.as_bytes())?;
+    Ok(told_types(alloc, check(alloc, program, decimals).err())?)
+}
+
+// The refusal, or that there is none.
+fn told_types(alloc: Global, refusal: Option<TypeRefusal>) -> Result<String, AllocError> {
+    match refusal {
+        Some(refusal) => format!(in alloc; " {refusal:?}"),
+        None => String::from_str(alloc, " Accepted"),
+    }
+}
+
+// The decimals of a typed program, the program that it lends, and the one that it gives back.
+fn typed_of(alloc: Global, text: &str) -> Result<String, Fail> {
+    let program = parse(alloc, text.as_bytes())?;
+    let typed = check(alloc, program, 2)?;
+    let decimals = typed.decimals();
+    let lent = print(alloc, typed.program())?;
+    let given_back = print(alloc, &typed.into_program())?;
+    Ok(format!(in alloc; " {decimals} {lent}{given_back}")?)
+}
