@@ -1,6 +1,5 @@
 -- What scopes are before and behind a list of names.
 use Rattle.std.proofs.Common.{◌≡◌, ℕ, ◌+◌, ◌-◌, ◌<◌, ◌≤◌, get_or, List, [], ◌∷◌, ◌++◌, map, take, drop, length, refl, ap, sym, ◌∙◌, subst, arith}
-use Rattle.lt_ast.specs.declared.group.TypeName.{TypeName}
 use Rattle.lt_ast.specs.declared.group.Group.{Group}
 use Rattle.lt_ast.specs.declared.group.Groups.{Groups, out-Groups}
 use Rattle.lt_ast.specs.declared.trace.MacroDecl.{MacroDecl, MacroDecl', out-MacroDecl, view-MacroDecl-params, Held-MacroDecl-params, MacroDecl-params-None', MacroDecl-params-Some'}
@@ -8,13 +7,13 @@ use denote.Hole.Carrier.{out}
 use Rattle.lt_ast.specs.inner.Lists.{groups_of}
 use Rattle.lt_ast.specs.inner.Rows.{group_of}
 use Rattle.lt_ast.specs.Syntax as s
-use Rattle.lt_ast.specs.Syntax.{Word, Grouping, Groupings, Parameters, Macro, MaybeExp}
+use Rattle.lt_ast.specs.Syntax.{Word, Grouping, Groupings, Parameters, Macro}
 use Rattle.lt_ast.specs.View.{word, groupings, meaning, macro as macro_seen, parameters as parameters_held}
 use Rattle.lt_ast.proofs.Public.{groups_list}
 use Rattle.lt_types.specs.Environment.{Environment, Binding, Entry, Role, variables, with_bindings, with_names, with_group, with_groups, with_group_names, with_parameters, with_macro, with_exceptions, group_entry}
 use Rattle.lt_types.specs.Environment as e
-use Rattle.lt_types.specs.inner.Given.{parameters_view, first_judged, first_type}
-use Rattle.lt_types.specs.Refusals.{first_wanted, group_refusals, groups_refusals, macro_refusals, parameters_refusals}
+use Rattle.lt_types.specs.inner.Given.{parameters_view}
+use Rattle.lt_types.specs.Refusals.{group_refusals, groups_refusals, macro_refusals, parameters_refusals}
 use Rattle.lt_types.specs.inner.Scoping.{oldest, since, declared_since, with_oldest_names, with_oldest_exceptions}
 use Rattle.lt_types.specs.Answer.{Leads}
 use Rattle.lt_types.specs.declared.refusal.TypeRefusal.{TypeRefusal}
@@ -154,11 +153,6 @@ pub group_from : (role : Role) (from : ℕ) (env behind : Environment) (g : Grou
 group_from role from env behind g h e = omega (arith, group_more role env g, ap (λ env'. length env'.names) e)
 
 pub ruleset groups_steps = (groups_refusals_list, with_groups_list, groups_next, with_groups_next, drop_next, group_more)
-
--- a first value, whose type is known
-pub first_known : (kind : TypeName) (env : Environment) (first : MaybeExp) → first_wanted kind env first ≡ first_judged kind (first_type env first) first
-first_known kind env s.no_exp = refl
-first_known kind env (s.an_exp x) = refl
 
 -- the parameters of a list
 pub groups_parameters_list : (g : Groups) → e.groups_parameters (groupings g) ≡ e.groups_parameters (groups_of (map group_of (out-Groups g).items.items))

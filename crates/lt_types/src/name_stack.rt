@@ -137,7 +137,6 @@ impl NameStack {
     }
 
     // Adds names.
-    #[tactic(auto, using(crate::proofs::Leading::leads))]
     pub(crate) fn push_all(&mut self, names: &Names) -> Result<(), TypeRefusal>
         ensures ok { OnOk result (self.new ≡ with_names (words names.now) self.old) }
         ensures memory { Checks result [] }
@@ -162,7 +161,6 @@ impl NameStack {
     }
 
     // Adds names while they are new.
-    #[tactic(auto, using(crate::proofs::Leading::leads, crate::proofs::Stacks::new_steps))]
     fn push_new(&mut self, from: usize, names: &Names) -> Result<(), TypeRefusal>
         requires { from ≤ length self.old }
         ensures answered { Checks result (new_names (since from self.old) (words names.now)) }

@@ -118,7 +118,6 @@ impl Scope {
     }
 
     // The names of a group.
-    #[tactic(auto, using(crate::proofs::Leading::leads))]
     pub(crate) fn declare_group(
         &mut self,
         role: Role,

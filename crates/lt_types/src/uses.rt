@@ -100,7 +100,6 @@ pub(crate) fn check_applied(
 }
 
 // What a name with arguments stands for.
-#[tactic(auto, using(crate::proofs::Leading::leads, crate::proofs::Naming::as_many_steps))]
 fn check_entry_applied(
     scope: &Scope,
     name: &Name,
@@ -180,7 +179,6 @@ fn argument_fits(scope: &Scope, arg: &Arg, kind: TypeName, param: Param) -> bool
 }
 
 // Whether an expression is the name of a variable of this type.
-#[tactic(auto, using(crate::proofs::Naming::named_used))]
 fn is_variable(scope: &Scope, expr: &Expr, kind: TypeName) -> bool
     ensures { result ≡ is_a_variable scope.now (exp expr.now) kind }
 {

@@ -11,14 +11,14 @@ invariant_of-self-in-Ok c =
     pushed c.self.inside.items.items c.push.new.self.items item c.in_ok-key.key c.len-place.result c.self.inside.places c.insert.new.self (search rules) (search rules)
     (c.copied.ensures ∙ c.get.ensures.value ∙ ap (get_by_text c.self.inside.places) (search rules)) (search rules) c.in-Ok.ensures.updates c.self.invariant
 
-pub returns-in_err-from_str-clause-memory : goal.returns-in_err-from_str-clause-memory
-returns-in_err-from_str-clause-memory c = grind (arith, leads)
+pub returns-in_err-from_str : goal.returns-in_err-from_str
+returns-in_err-from_str c = grind (arith, leads)
 
-pub returns-in_err-key-clause-memory : goal.returns-in_err-key-clause-memory
-returns-in_err-key-clause-memory c = grind (arith, leads)
+pub returns-in_err-key : goal.returns-in_err-key
+returns-in_err-key c = grind (arith, leads)
 
-pub returns-in_err-push-clause-memory : goal.returns-in_err-push-clause-memory
-returns-in_err-push-clause-memory c = grind (arith, leads)
+pub returns-in_err-push : goal.returns-in_err-push
+returns-in_err-push c = grind (arith, leads)
 
 pub returns-clause-memory : goal.returns-clause-memory
 returns-clause-memory c = grind (arith, leads, names_push)

@@ -2,5 +2,5 @@ use Rattle.std.proofs.Common.{arith}
 use Rattle.lt_types.proofs.Leading.{leads}
 use Rattle.lt_types.proofs.scope.Scope.declare.Goals as goal
 
-pub returns-in_err-push-clause-memory : goal.returns-in_err-push-clause-memory
-returns-in_err-push-clause-memory c = grind (arith, leads)
+pub returns-in_err-push : goal.returns-in_err-push
+returns-in_err-push c = grind (arith, leads)
