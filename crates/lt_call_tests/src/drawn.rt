@@ -7,7 +7,7 @@ use std::test::Fail;
 fn what_is_drawn_is_named_by_the_seed(rt: HostRuntime) -> Result<(), Fail> {
     // The same call twice writes the same.
     for _ in 0..2 {
-        check_rows(&rt, "", 21, DRAWN)?;
+        check_rows(&rt, "", 22, DRAWN)?;
     }
     Ok(())
 }
@@ -58,6 +58,14 @@ $ run f -l 0 --seed 18446744073709551615
 f is node n() returns (x: int [0;999]) = loop true
 > #seed 18446744073709551615\n#inputs "x":int\n#outputs
 > #end limit 0
+
+## each further try of a choice takes a further word
+
+-- Its first word is 2 by 3, which takes the third, that can't be; the next one is 0 by 2, and the first one is odd.
+$ run f
+f is node n() returns (x: int [0;3]) = { | x = 1 | x = 2 | x > 3 }
+> #seed 0\n#inputs "x":int\n#outputs
+> #step 1\n1 #outs\n#end normal 1
 
 ## the first solution is the first from the drawn point
 

@@ -8,7 +8,7 @@ fn scenarios_are_played(rt: HostRuntime) -> Result<(), Fail> {
     check_rows(
         &rt,
         "",
-        13,
+        14,
         r#"
 ## priorities are played
 $ run f
@@ -74,6 +74,13 @@ f is node n() returns (x: real [0.0;10.0] = 1.0) = loop x = 0.9 * pre x
 > #seed 0\n#inputs "x":real\n#outputs
 > #step 1\n0.90 #outs\n#step 2\n0.81 #outs\n#step 3\n0.73 #outs
 > #end limit 3
+
+-- A quarter of x is a half.
+$ run f
+f is node n() returns (x: real [0.0;9.0]) = x / 4.0 = 0.5
+> #seed 0\n#inputs "x":real\n#outputs
+> #step 1\n2.00 #outs
+> #end normal 1
 
 -- 100 x is 90 y in units, and that needs y to be a multiple of 10.
 $ run f

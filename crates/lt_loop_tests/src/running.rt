@@ -1,4 +1,5 @@
-//! Runs of a core whose streams come in pieces of one length, where they are wanted.
+//! Runs of a core whose streams come in pieces of one length, where they are wanted. The end of the controller's stream
+//! comes right behind its last piece, while bytes of it may still be kept.
 
 use crate::echo::Echo;
 use lt_loop::{Core, Destination, Emits, Event, Setup, Talk, Wants};
@@ -46,17 +47,19 @@ pub fn run(alloc: Global, script: Script<'_>, length: usize) -> Result<Written, 
         shown: Vec::new(alloc),
     };
     let mut wants = Wants::Turn;
+    let mut is_closed = false;
     for _ in 0..1000 {
         let event = match wants {
+            Wants::Nothing(_) | Wants::Memory => break,
+            _ if replies.is_empty() && !is_closed => {
+                is_closed = true;
+                Event::ControllerEnd
+            }
             Wants::Turn => Event::Turn,
             Wants::Controller => {
                 let (piece, rest) = replies.split_at(length.min(replies.len()));
                 replies = rest;
-                if piece.is_empty() {
-                    Event::ControllerEnd
-                } else {
-                    Event::ControllerBytes(piece)
-                }
+                Event::ControllerBytes(piece)
             }
             Wants::Oracle => {
                 let (piece, rest) = verdicts.split_at(length.min(verdicts.len()));
@@ -67,7 +70,6 @@ pub fn run(alloc: Global, script: Script<'_>, length: usize) -> Result<Written, 
                     Event::OracleBytes(piece)
                 }
             }
-            Wants::Nothing(_) | Wants::Memory => break,
         };
         let emits = core.event(event);
         written.put(emits, core.text())?;

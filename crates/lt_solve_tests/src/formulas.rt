@@ -58,13 +58,13 @@ fn formulas_of_expressions(rt: HostRuntime) -> Result<(), Fail> {
 #[test]
 fn a_product_is_not_rounded_where_it_is_compared(rt: HostRuntime) {
     let alloc = rt.alloc();
-    // x = 0.9 * y: only multiples of 0.10 have a partner
+    // x = 0.81 * y: only multiples of 1.00 have a partner. Of 0.79 it would be 0.6399, and not 0.64.
     let x = Form::of_variable(alloc, 0, 100).expect(&rt, "memory");
-    let y = Form::of_variable(alloc, 1, 90).expect(&rt, "memory");
+    let y = Form::of_variable(alloc, 1, 81).expect(&rt, "memory");
     let difference = form_compare(alloc, &x, &y, 1).expect(&rt, "memory");
     assert!(rt; difference.terms.as_slice().len() <= 128);
     let equal = Formula::Atom(Atom::Compare(difference, Relation::Equal));
-    let truths = [holds(&equal, &[9, 10], 2), holds(&equal, &[10, 11], 2)];
+    let truths = [holds(&equal, &[81, 100], 2), holds(&equal, &[64, 79], 2)];
     assert!(rt; truths == [true, false]);
 }
 

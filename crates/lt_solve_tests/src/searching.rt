@@ -54,6 +54,8 @@ pub(crate) fn load(alloc: Global, sheet: &Sheet) -> Result<(Space, Result<(), Ar
     let mut space = Space::make(alloc, &sheet.table, numbers.len())?;
     let mut loaded = Ok(());
     if !numbers.is_empty() {
+        // What is loaded takes the place of what was loaded before.
+        let _before = space.load(&sheet.table, numbers, &known());
         loaded = space.load(&sheet.table, numbers, &known());
     }
     Ok((space, loaded))

@@ -26,3 +26,27 @@ fn a_row_that_no_point_satisfies_is_found(rt: HostRuntime) {
     let mut ranges = [Range { low: 0, high: 3 }];
     assert!(rt; tighten(&mut ranges, &rows) == Tight::Empty);
 }
+
+#[test]
+fn a_row_without_variables_is_judged(rt: HostRuntime) {
+    // 1 <= 0, whatever x is.
+    let rows = Rows {
+        width: 2,
+        cells: vec![in rt.alloc(); 0, 1].expect(&rt, "memory"),
+    };
+    let mut ranges = [Range { low: 0, high: 3 }];
+    assert!(rt; tighten(&mut ranges, &rows) == Tight::Empty);
+}
+
+#[test]
+fn rows_are_passed_over_eight_times(rt: HostRuntime) {
+    // y < x and x < y: each pass takes two numbers from each end of either range.
+    let rows = Rows {
+        width: 3,
+        cells: vec![in rt.alloc(); -1, 1, 1, 1, -1, 1].expect(&rt, "memory"),
+    };
+    let mut ranges = [Range { low: 0, high: 100 }, Range { low: 1, high: 101 }];
+    let tight = tighten(&mut ranges, &rows);
+    assert!(rt; tight == Tight::Narrowed);
+    assert!(rt; ranges == [Range { low: 16, high: 84 }, Range { low: 17, high: 85 }]);
+}
