@@ -1,8 +1,11 @@
 //! That words, picks and targets are those that other programs make.
 
-use lt_draw::{StepWords, pick, target, word};
+use crate::rows::{check, halves, numbers_of};
+use crate::subject::Subject;
+use lt_draw::{StepWords, pick, sum_of, target, word};
 use lt_num::Range;
-use std::process::Abort;
+use std::alloc::Global;
+use std::test::Fail;
 
 // How many slots a step has.
 const SLOTS: u32 = 16_777_216;
@@ -10,107 +13,122 @@ const SLOTS: u32 = 16_777_216;
 // The slot of the word that a scenario's first variable gets its target from.
 const FIRST_VARIABLE: u32 = 8_388_608;
 
-// The greatest size of a raw number.
-const MOST: i64 = 1_000_000_000_000;
+// A seed, a step and a slot, with the word that another program gave there.
+const WORDS: &str = "
+0 0 1 ==> 6411218084291373563
+0 1 0 ==> 670457862477091661
+0 1 1 ==> 945580710927154822
+0 1 64 ==> 8542392665323216598
+0 1 8388608 ==> 15939427002774378928
+0 2 8388735 ==> 17877493951084941515
+0 1000000 16777215 ==> 13760510481398817155
+1 1 0 ==> 15242382240706905632
+1 3 4194303 ==> 12666273054581543937
+4294967296 1 64 ==> 6862741670566267012
+9223372036854775808 1 0 ==> 9434840655129785195
+9223372036854775808 3 4194303 ==> 16436026582173414204
+18446744073709551615 1 0 ==> 10082901677460505370
+18446744073709551615 1000000 16777215 ==> 128566075295983809
 
-// Words that another program gave: of a seed, at a step and a slot.
-const WORDS: [(u64, u64, u32, u64); 14] = [
-    (0, 0, 1, 6_411_218_084_291_373_563),
-    (0, 1, 0, 670_457_862_477_091_661),
-    (0, 1, 1, 945_580_710_927_154_822),
-    (0, 1, 64, 8_542_392_665_323_216_598),
-    (0, 1, 8_388_608, 15_939_427_002_774_378_928),
-    (0, 2, 8_388_735, 17_877_493_951_084_941_515),
-    (0, 1_000_000, 16_777_215, 13_760_510_481_398_817_155),
-    (1, 1, 0, 15_242_382_240_706_905_632),
-    (1, 3, 4_194_303, 12_666_273_054_581_543_937),
-    (1 << 32, 1, 64, 6_862_741_670_566_267_012),
-    (1 << 63, 1, 0, 9_434_840_655_129_785_195),
-    (1 << 63, 3, 4_194_303, 16_436_026_582_173_414_204),
-    (u64::MAX, 1, 0, 10_082_901_677_460_505_370),
-    (u64::MAX, 1_000_000, 16_777_215, 128_566_075_295_983_809),
-];
+and the word behind it
+0 1 0 on ==> 670457862477091661 945580710927154822
+";
 
-#[test]
-fn words_are_those_of_pcg64(rt: HostRuntime) {
-    for (seed, step, slot, expected) in WORDS {
-        assert!(rt; slot < SLOTS);
-        let found = [
-            word(seed, step, slot),
-            StepWords::new(seed, step).word(slot),
-        ];
-        assert_eq!(rt; found, [expected, expected], "{seed} {step} {slot}");
+/// Puts the word of a seed at a step and a slot, in any of the ways to it, or the words from there on.
+pub fn put_word(found: &mut String, given: &str) -> Result<(), Fail> {
+    let (seed, place) = halves(given, " ")?;
+    let (step, slot) = halves(place, " ")?;
+    let (seed, step) = (seed.parse()?, step.parse()?);
+    let words = StepWords::new(seed, step);
+    if slot == "0 on" {
+        let mut words = words.starting_at(0);
+        let first = words.next_word();
+        write!(found, "{first} {}", words.next_word())?;
+        return Ok(());
     }
+    let slot = slot.parse()?;
+    if slot >= SLOTS {
+        return Err(Fail::new("a slot"));
+    }
+    let at_once = word(seed, step, slot);
+    if at_once == words.word(slot) {
+        write!(found, "{at_once}")?;
+    }
+    Ok(())
 }
 
-#[test]
-fn words_follow_each_other(rt: HostRuntime) {
-    let mut words = StepWords::new(0, 1).starting_at(0);
-    assert_eq!(rt; words.next_word(), 670_457_862_477_091_661);
-    assert_eq!(rt; words.next_word(), 945_580_710_927_154_822);
+// Weights and a word, with the place that it picks.
+const PICKS: &str = "
+0 3 1 by 0 ==> 1
+0 3 1 by 1 ==> 1
+0 3 1 by 2 ==> 1
+0 3 1 by 3 ==> 2
+0 3 1 by 4 ==> 1
+0 3 1 by 7 ==> 2
+4611686018427387904 0 4611686018427387904 by 0 ==> 0
+4611686018427387904 0 4611686018427387904 by 4611686018427387903 ==> 0
+4611686018427387904 0 4611686018427387904 by 4611686018427387904 ==> 2
+4611686018427387904 0 4611686018427387904 by 9223372036854775808 ==> 0
+4611686018427387904 0 4611686018427387904 by 18446744073709551615 ==> 2
+";
+
+/// Puts the place that a word picks among weights.
+pub fn put_pick(found: &mut String, alloc: Global, given: &str) -> Result<(), Fail> {
+    let (weights, word) = halves(given, " by ")?;
+    let word = word.parse()?;
+    let weights = numbers_of(alloc, weights)?;
+    if sum_of(&weights) > 0 {
+        write!(found, "{}", pick(&weights, word))?;
+    }
+    Ok(())
 }
 
-#[test]
-fn picks_go_by_weight(rt: HostRuntime) {
-    for (word, place) in [(0, 1), (1, 1), (2, 1), (3, 2), (4, 1), (7, 2)] {
-        assert_eq!(rt; pick(&[0, 3, 1], word), place, "{word}");
-    }
-    let half = 4_611_686_018_427_387_904;
-    for (word, place) in [
-        (0, 0),
-        (half - 1, 0),
-        (half, 2),
-        (2 * half, 0),
-        (u64::MAX, 2),
-    ] {
-        assert_eq!(rt; pick(&[half, 0, half], word), place, "{word}");
-    }
-}
+// The ends of a range and a word, with the number that it aims at.
+const TARGETS: &str = "
+-3 3 by 6 ==> 3
+-3 3 by 7 ==> -3
+7 7 by 18446744073709551615 ==> 7
+-1000000000000 1000000000000 by 18446744073709551615 ==> -926299671757
+-9223372036854775808 9223372036854775807 by 0 ==> -9223372036854775808
+-9223372036854775808 9223372036854775807 by 18446744073709551615 ==> 9223372036854775807
+-9223372036854775808 9223372036854775806 by 18446744073709551615 ==> -9223372036854775808
 
-// Ends of a range, a word, and the number that it aims at.
-const TARGETS: [(i64, i64, u64, i64); 7] = [
-    (-3, 3, 6, 3),
-    (-3, 3, 7, -3),
-    (7, 7, u64::MAX, 7),
-    (-MOST, MOST, u64::MAX, -926_299_671_757),
-    (i64::MIN, i64::MAX, 0, i64::MIN),
-    (i64::MIN, i64::MAX, u64::MAX, i64::MAX),
-    (i64::MIN, i64::MAX - 1, u64::MAX, i64::MIN),
-];
+a first variable, which nothing constrains, has the values that another program wrote in a trace: by a seed at each step
+0 3 by 2689535733758285068 at 1 ==> 3
+0 3 by 2689535733758285068 at 2 ==> 3
+0 3 by 2689535733758285068 at 3 ==> 0
+0 3 by 2689535733758285068 at 4 ==> 1
+0 3 by 2689535733758285068 at 5 ==> 1
+0 3 by 2689535733758285068 at 6 ==> 3
+0 3 by 2689535733758285068 at 7 ==> 0
+0 3 by 2689535733758285068 at 8 ==> 0
+0 3 by 2689535733758285068 at 9 ==> 0
+0 3 by 2689535733758285068 at 10 ==> 3
+0 3 by 2689535733758285068 at 11 ==> 2
+0 3 by 2689535733758285068 at 12 ==> 3
+-10000 10000 by 8755260454800672976 at 1 ==> 891
+-10000 10000 by 8755260454800672976 at 2 ==> -3257
+-10000 10000 by 8755260454800672976 at 3 ==> 9264
+";
 
-#[test]
-fn targets_go_round_the_range(rt: HostRuntime) {
-    for (low, high, word, expected) in TARGETS {
-        assert!(rt; low <= high);
-        assert_eq!(rt;
-            target(Range { low, high }, word),
-            expected,
-            "{low} {high} {word}"
-        );
-    }
-}
-
-// Sees that a run's first variable, which nothing constrains, has these values in the order of the steps.
-fn check_targets(rt: &impl Abort, seed: u64, range: Range, values: &[i64]) {
-    assert!(rt; range.low <= range.high);
-    let mut step = 0u64;
-    for value in values {
-        step = step.wrapping_add(1);
-        let word = StepWords::new(seed, step).word(FIRST_VARIABLE);
-        assert_eq!(rt; target(range, word), *value, "{step}");
-    }
-}
-
-// The values are those that another program wrote in a trace.
-#[test]
-fn a_free_variable_takes_its_targets(rt: HostRuntime) {
-    let four = Range { low: 0, high: 3 };
-    let values = [3, 3, 0, 1, 1, 3, 0, 0, 0, 3, 2, 3];
-    check_targets(&rt, 2_689_535_733_758_285_068, four, &values);
-    let wide = Range {
-        low: -10_000,
-        high: 10_000,
+/// Puts the number of a range that a word aims at, or that of a seed at a step for its first variable.
+pub fn put_target(found: &mut String, given: &str) -> Result<(), Fail> {
+    let (range, drawn) = halves(given, " by ")?;
+    let (low, high) = halves(range, " ")?;
+    let (low, high) = (low.parse()?, high.parse()?);
+    let word = match drawn.split_once(" at ") {
+        Some((seed, step)) => StepWords::new(seed.parse()?, step.parse()?).word(FIRST_VARIABLE),
+        None => drawn.parse()?,
     };
-    let values = [891, -3_257, 9_264];
-    check_targets(&rt, 8_755_260_454_800_672_976, wide, &values);
+    if low <= high {
+        write!(found, "{}", target(Range { low, high }, word))?;
+    }
+    Ok(())
+}
+
+#[test]
+fn draws_are_those_of_other_programs(rt: HostRuntime) -> Result<(), Fail> {
+    check(&rt, rt.alloc(), &Subject::Words, WORDS, 15)?;
+    check(&rt, rt.alloc(), &Subject::Picks, PICKS, 11)?;
+    check(&rt, rt.alloc(), &Subject::Targets, TARGETS, 22)
 }

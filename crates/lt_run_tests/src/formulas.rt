@@ -9,7 +9,8 @@ ghost use Rattle.lt_formula.specs.Kinds.{Kinds};
 ghost use Rattle.lt_formula.specs.Table.{fits};
 ghost use Rattle.lt_formula.specs.View.{table_kinds, table_len};
 
-use crate::rows::{halves, rows};
+use crate::rows::check;
+use crate::subject::Subject;
 use lt_formula::ExpNode::{
     Add, And, Div, Eq, Flag, Ge, If, Implies, Input, Int, Le, Local, Lt, Mod, Mul, Ne, Neg, Not,
     Or, Output, PreInput, PreLocal, PreOutput, Real, Sub, Xor,
@@ -17,7 +18,6 @@ use lt_formula::ExpNode::{
 use lt_formula::{ExpNode, Known, Role, Shape, Table, Valuation, known_value, value_under};
 use lt_num::{Arith, Kind, Value};
 use std::alloc::Global;
-use std::process::Abort;
 use std::test::Fail;
 
 // Expressions over an input, an output and a local of each kind: a Boolean, an int and a real.
@@ -40,20 +40,14 @@ impl Sheet {
     }
 
     // Puts an expression whose parts are there.
-    fn put(&mut self, rt: &impl Abort, node: ExpNode) -> Result<u32, Fail>
+    fn put(&mut self, node: ExpNode) -> Result<u32, Fail>
         ensures { IfOk result (λ number. number < table_len self.new.table) }
     {
-        let before = self.table.len();
-        assert!(rt; has_parts(node.shape(), before));
-        Ok(self.table.push(node)?)
-    }
-
-    // The same of an expression that isn't there yet.
-    fn put_new(&mut self, rt: &impl Abort, node: ExpNode) -> Result<u32, Fail> {
-        let before = self.table.len();
-        let number = self.put(rt, node)?;
-        assert_eq!(rt; number as usize, before);
-        Ok(number)
+        if has_parts(node.shape(), self.table.len()) {
+            Ok(self.table.push(node)?)
+        } else {
+            Err(Fail::new("an expression over parts that are there"))
+        }
     }
 }
 
@@ -163,50 +157,57 @@ fn node_of(text: &str) -> Result<ExpNode, Fail> {
     made(name, numbers)
 }
 
-// The value or the fault of this name.
-fn answer_of(name: &str) -> Result<Result<Value, Arith>, Fail> {
-    match name {
-        "false" => Ok(Ok(Value::Bool(false))),
-        "true" => Ok(Ok(Value::Bool(true))),
-        "Overflow" => Ok(Err(Arith::Overflow)),
-        "DivisionByZero" => Ok(Err(Arith::DivisionByZero)),
-        "NoPrevious" => Ok(Err(Arith::NoPrevious)),
-        raw => Ok(Ok(Value::Num(raw.parse()?))),
+// What is known where no output and no local is.
+fn known() -> Known<'static>
+    ensures { result.decimals ≡ 2 }
+{
+    Known {
+        inputs: &[Value::Bool(true), Value::Num(7), Value::Num(250)],
+        pre_inputs: &[None, None, None],
+        pre_outputs: &[None, Some(Value::Num(4)), None],
+        pre_locals: &[None, None, Some(Value::Num(-75))],
+        decimals: 2,
     }
 }
 
-// The value of the last of some expressions, each of which is new and stands over those before it.
-fn value_of_last(
-    rt: &impl Abort,
-    alloc: Global,
-    nodes: &str,
-) -> Result<Result<Value, Arith>, Fail> {
-    let mut sheet = Sheet::new(alloc)?;
-    let mut last = 0;
+/// Puts what the last of the expressions of a row is worth, each of which is new, or for each what its row asks for.
+pub fn put_worth(found: &mut String, alloc: Global, given: &str) -> Result<(), Fail> {
+    let (asked, nodes) = given.split_once(": ").unwrap_or(("last", given));
+    put_each(found, &mut Sheet::new(alloc)?, asked, nodes)
+}
+
+// Puts the expressions into a sheet, and what each is asked for: its number and how many there are, what it is worth where no
+// output is known, or else what it is worth at the instant. In the last case a new one takes the place of what was put before.
+fn put_each(found: &mut String, sheet: &mut Sheet, asked: &str, nodes: &str) -> Result<(), Fail> {
     for node in nodes.split("; ") {
-        last = sheet.put_new(rt, node_of(node)?)?;
-    }
-    assert!(rt; (last as usize) < sheet.table.len());
-    Ok(value_under(&instant(), &sheet.table, last))
-}
-
-// That the last of the expressions of a row has the value of the row.
-fn check_row(rt: &impl Abort, alloc: Global, row: &str) -> Result<(), Fail> {
-    let (nodes, wanted) = halves(row)?;
-    let found = value_of_last(rt, alloc, nodes)?;
-    assert_eq!(rt; found, answer_of(wanted)?, "{nodes}");
-    Ok(())
-}
-
-// The same of each row of a table, which has so many.
-fn check(rt: &impl Abort, alloc: Global, table: &str, count: usize) -> Result<(), Fail> {
-    for row in rows(rt, table, count) {
-        check_row(rt, alloc, row)?;
+        let before = sheet.table.len();
+        let number = sheet.put(node_of(node)?)?;
+        if asked == "numbers" {
+            write!(found, "{number}/{} ", sheet.table.len())?;
+        } else if asked == "known" {
+            put_value(found, known_value(&sheet.table, number, &known()))?;
+        } else {
+            if number as usize == before {
+                found.clear();
+            }
+            put_value(found, value_under(&instant(), &sheet.table, number))?;
+        }
     }
     Ok(())
 }
 
-const ROUNDED: &str = "
+// Puts a value or a fault, with a blank behind it.
+fn put_value(found: &mut String, value: Result<Value, Arith>) -> Result<(), Fail> {
+    match value {
+        Ok(Value::Bool(flag)) => write!(found, "{flag} ")?,
+        Ok(Value::Num(raw)) => write!(found, "{raw} ")?,
+        Err(fault) => write!(found, "{fault:?} ")?,
+    }
+    Ok(())
+}
+
+const EXPRESSIONS: &str = "
+reals are rounded, and ints are cut
 Real(90); Real(100); Mul(0, 1) ==> 90
 Real(90); PreOutput(2); Mul(0, 1) ==> 73
 Real(1); Real(50); Mul(0, 1) ==> 1
@@ -221,14 +222,8 @@ Int(-7); Int(2); Mod(0, 1) ==> -1
 Int(7); Int(-2); Mod(0, 1) ==> 1
 Int(90); Int(81); Mul(0, 1) ==> 7290
 Int(7); Neg(0) ==> -7
-";
 
-#[test]
-fn reals_are_rounded_and_ints_are_cut(rt: HostRuntime) -> Result<(), Fail> {
-    check(&rt, rt.alloc(), ROUNDED, 14)
-}
-
-const PAST_THE_BOUND: &str = "
+numbers past the bound overflow
 Int(1000000000000) ==> 1000000000000
 Int(1000000000001) ==> Overflow
 Real(1000000000001) ==> Overflow
@@ -238,14 +233,8 @@ Int(1000000); Mul(0, 0) ==> 1000000000000
 Int(1000000); Int(1000001); Mul(0, 1) ==> Overflow
 Real(1000000000000); Real(99); Div(0, 1) ==> Overflow
 Int(-1000000000000); Neg(0) ==> 1000000000000
-";
 
-#[test]
-fn numbers_past_the_bound_overflow(rt: HostRuntime) -> Result<(), Fail> {
-    check(&rt, rt.alloc(), PAST_THE_BOUND, 9)
-}
-
-const FAULTS: &str = "
+the first fault from the left is the answer
 Int(1); Int(0); Div(0, 1) ==> DivisionByZero
 Real(1); Real(0); Div(0, 1) ==> DivisionByZero
 Int(1); Int(0); Mod(0, 1) ==> DivisionByZero
@@ -253,14 +242,8 @@ PreInput(1) ==> NoPrevious
 PreInput(1); Int(0); Div(1, 1); Add(0, 2) ==> NoPrevious
 PreInput(1); Int(0); Div(1, 1); Add(2, 0) ==> DivisionByZero
 Int(1000000000001); Int(0); Div(0, 1) ==> Overflow
-";
 
-#[test]
-fn the_first_fault_from_the_left_is_the_answer(rt: HostRuntime) -> Result<(), Fail> {
-    check(&rt, rt.alloc(), FAULTS, 7)
-}
-
-const SETTLED: &str = "
+what the left part settles needs no right part
 Flag(false); PreOutput(0); And(0, 1) ==> false
 Flag(true); PreOutput(0); And(0, 1) ==> NoPrevious
 Flag(true); PreOutput(0); Or(0, 1) ==> true
@@ -271,14 +254,8 @@ Flag(false); PreOutput(0); Xor(0, 1) ==> NoPrevious
 Flag(false); PreOutput(0); And(1, 0) ==> NoPrevious
 Flag(true); Int(5); PreInput(1); If(0, 1, 2) ==> 5
 Flag(false); Int(5); PreInput(1); If(0, 1, 2) ==> NoPrevious
-";
 
-#[test]
-fn what_the_left_part_settles_needs_no_right_part(rt: HostRuntime) -> Result<(), Fail> {
-    check(&rt, rt.alloc(), SETTLED, 10)
-}
-
-const VARIABLES: &str = "
+variables have their values
 Input(0); Local(0); Xor(0, 1) ==> false
 Output(0); Not(0) ==> true
 Input(1); Output(1); Add(0, 1) ==> 4
@@ -289,70 +266,15 @@ Local(1); Int(0); Ne(0, 1) ==> false
 Input(1); Int(7); Le(0, 1) ==> true
 Output(1); Local(1); Ge(0, 1) ==> false
 PreInput(0); Flag(false); Eq(0, 1) ==> true
+
+equal expressions have one number: each number stands before that of all that are there then
+numbers: Output(1); Int(3); Lt(0, 1); Output(1); Lt(0, 1); Lt(1, 0); PreOutput(1); Real(3); Int(3) ==> 0/1 1/2 2/3 0/3 2/3 3/4 4/5 5/6 1/6
+
+known values need no outputs
+known: Input(1); PreOutput(1); Mul(0, 1); Input(2); PreLocal(2); Mul(3, 4); PreInput(0) ==> 7 4 28 250 -75 -188 NoPrevious
 ";
 
 #[test]
-fn variables_have_their_values(rt: HostRuntime) -> Result<(), Fail> {
-    check(&rt, rt.alloc(), VARIABLES, 10)
-}
-
-// Expressions in the order in which they are put, each with its number, and of how many it is one then.
-const NUMBERED: &str = "
-Output(1) ==> 0 of 1
-Int(3) ==> 1 of 2
-Lt(0, 1) ==> 2 of 3
-Output(1) ==> 0 of 3
-Lt(0, 1) ==> 2 of 3
-Lt(1, 0) ==> 3 of 4
-PreOutput(1) ==> 4 of 5
-Real(3) ==> 5 of 6
-Int(3) ==> 1 of 6
-";
-
-#[test]
-fn equal_expressions_have_one_number(rt: HostRuntime) -> Result<(), Fail> {
-    let mut sheet = Sheet::new(rt.alloc())?;
-    for row in rows(&rt, NUMBERED, 9) {
-        let (node, wanted) = halves(row)?;
-        let number = sheet.put(&rt, node_of(node)?)?;
-        let found = format!(in rt.alloc(); "{number} of {}", sheet.table.len())?;
-        assert_eq!(rt; found.as_str(), wanted, "{node}");
-    }
-    Ok(())
-}
-
-// What is known where no output and no local is.
-fn known() -> Known<'static>
-    ensures { result.decimals ≡ 2 }
-{
-    Known {
-        inputs: &[Value::Bool(true), Value::Num(7), Value::Num(250)],
-        pre_inputs: &[None, None, None],
-        pre_outputs: &[None, Some(Value::Num(4)), None],
-        pre_locals: &[None, None, Some(Value::Num(-75))],
-        decimals: 2,
-    }
-}
-
-// Expressions in the order in which they are put, each with its value.
-const KNOWN: &str = "
-Input(1) ==> 7
-PreOutput(1) ==> 4
-Mul(0, 1) ==> 28
-Input(2) ==> 250
-PreLocal(2) ==> -75
-Mul(3, 4) ==> -188
-PreInput(0) ==> NoPrevious
-";
-
-#[test]
-fn known_values_need_no_outputs(rt: HostRuntime) -> Result<(), Fail> {
-    let mut sheet = Sheet::new(rt.alloc())?;
-    for row in rows(&rt, KNOWN, 7) {
-        let (node, wanted) = halves(row)?;
-        let number = sheet.put(&rt, node_of(node)?)?;
-        let value = known_value(&sheet.table, number, &known());
-        assert_eq!(rt; value, answer_of(wanted)?, "{node}");
-    }
-    Ok(())
+fn expressions_are_worth_what_the_rules_say(rt: HostRuntime) -> Result<(), Fail> {
+    check(&rt, rt.alloc(), &Subject::Expressions, EXPRESSIONS, 52)
 }

@@ -16,12 +16,12 @@ mod links;
 #[cfg(test)]
 mod numbers;
 #[cfg(test)]
-mod pipes;
-#[cfg(test)]
 mod plants;
 #[cfg(test)]
 mod replies;
 #[cfg(test)]
 mod rows;
+#[cfg(test)]
+mod subject;
 #[cfg(test)]
 mod traces;

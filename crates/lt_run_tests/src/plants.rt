@@ -1,14 +1,16 @@
 //! Plants: which words name them, what they reply, and how they are served.
 
-use crate::rows::{bytes_of, halves, rows, unquoted};
+use crate::rows::{bytes_of, check, halves};
+use crate::subject::Subject;
 use lt_io::ScriptLink;
 use lt_plants::{Plant, Playing, plant_of, reply, serve};
-use std::alloc::{AllocError, Global};
-use std::process::Abort;
+use std::alloc::Global;
+use std::str;
 use std::test::Fail;
 
-// Words, with the plant that they name. The word `''` is empty.
+// Words, with the plant that they name. The word `''` is empty, and in the first row there are none.
 const NAMED: &str = "
+ ==> None
 thermostat ==> Some(Thermostat)
 gate ==> Some(Gate)
 safe ==> Some(Safe)
@@ -28,179 +30,81 @@ Gate ==> None
 '' ==> None
 ";
 
-fn words_of(alloc: Global, text: &str) -> Result<Vec<String>, AllocError> {
-    let mut words = Vec::new(alloc);
-    for word in text.split(' ') {
-        let word = if word == "''" { "" } else { word };
-        words.push(String::from_str(alloc, word)?)?;
-    }
-    Ok(words)
-}
-
-#[test]
-fn words_name_plants(rt: HostRuntime) -> Result<(), Fail> {
-    for row in rows(&rt, NAMED, 17) {
-        let (words, wanted) = halves(row)?;
-        let found = format!(in rt.alloc(); "{:?}", plant_of(&words_of(rt.alloc(), words)?))?;
-        assert_eq!(rt; found.as_str(), wanted, "{words}");
-    }
-    assert_eq!(rt; plant_of(&[]), None);
+/// Puts the plant that words name.
+pub fn put_named(found: &mut String, alloc: Global, words: &str) -> Result<(), Fail> {
+    write!(found, "{:?}", plant_named(alloc, words)?)?;
     Ok(())
 }
 
-// That a plant replies to the line of a row as the row says. Where it has no reply, it stays as it was.
-fn check_reply(rt: &impl Abort, playing: &mut Playing, row: &str) -> Result<(), Fail> {
-    let (line, wanted) = halves(row)?;
-    let line = unquoted(line)?;
+// The plant that words name.
+fn plant_named(alloc: Global, text: &str) -> Result<Option<Plant>, Fail> {
+    let mut words = Vec::new(alloc);
+    for word in text.split_whitespace() {
+        words.push(String::from_str(alloc, word.trim_matches('\''))?)?;
+    }
+    Ok(plant_of(&words))
+}
+
+// A plant and the lines that it is given in turn, each between two bars, with what it replies to each.
+const REPLIES: &str = "
+a thermostat heats below 19.00, and goes on up to 21.00
+thermostat: |19.00 f|18.99 f|19.00 t|21.00 f|21.01 t|21.00 f|-0.01 f|10000000000.00 f|-10000000000.00 f| ==> f t t t f f t f t
+
+what is no temperature has no reply, and changes nothing
+thermostat: |18.00 f|10000000000.01 f|20.00 f| ==> t none t
+thermostat: |18.00 f|30.0 f|20.00 f| ==> t none t
+thermostat: |18.00 f|30.000 f|20.00 f| ==> t none t
+thermostat: |18.00 f|030.00 f|20.00 f| ==> t none t
+thermostat: |18.00 f|+30.00 f|20.00 f| ==> t none t
+thermostat: |18.00 f|-0.00 f|20.00 f| ==> t none t
+thermostat: |18.00 f|.30 f|20.00 f| ==> t none t
+thermostat: |18.00 f|30 f|20.00 f| ==> t none t
+thermostat: |18.00 f|30.00|20.00 f| ==> t none t
+thermostat: |18.00 f|30.00 |20.00 f| ==> t none t
+thermostat: |18.00 f|30.00  f|20.00 f| ==> t none t
+thermostat: |18.00 f|30.00 F|20.00 f| ==> t none t
+thermostat: |18.00 f|30.00 f |20.00 f| ==> t none t
+thermostat: |18.00 f|30.00 f t|20.00 f| ==> t none t
+thermostat: |18.00 f||20.00 f| ==> t none t
+
+a gate tells whether a truth and the one before it are true
+gate: |t|t|T|true||t|f|t| ==> f t none none none t f f
+
+a constant replies to anything
+constant -12: ||whatever it is| ==> -12 -12
+
+what is heated over 30.00 is not safe
+safe: |30.00 f t|30.01 f t|30.01 t f|-30.01 t t|30.01 t|30.1 t t|30.01 t t t| ==> t f t t none none none
+";
+
+/// Puts what a plant replies to the lines of a row in turn, with a blank behind each. Where it has no reply, it stays as it
+/// was.
+pub fn put_replies(found: &mut String, alloc: Global, given: &str) -> Result<(), Fail> {
+    let (plant, lines) = halves(given, ": |")?;
+    let lines = lines.strip_suffix('|').ok_or("a bar behind")?;
+    let mut playing = Playing::new(plant_named(alloc, plant)?.ok_or("a plant")?);
+    for line in lines.split('|') {
+        put_reply(found, &mut playing, line)?;
+    }
+    Ok(())
+}
+
+// Puts the reply to a line.
+fn put_reply(found: &mut String, playing: &mut Playing, line: &str) -> Result<(), Fail> {
     let before = *playing;
     let mut into = [b'.'; 24];
-    match reply(playing, line.as_bytes(), &mut into) {
-        Some(count) => {
-            assert!(rt; count <= 24);
-            let wanted = unquoted(wanted)?;
-            assert_eq!(rt; &into[..count], wanted.as_bytes(), "{line}");
-        }
-        None => {
-            assert_eq!(rt; wanted, "none", "{line}");
-            assert_eq!(rt; *playing, before, "{line}");
-        }
-    }
-    Ok(())
-}
-
-// The same of a plant that is given so many lines in turn.
-fn check_replies(rt: &impl Abort, plant: Plant, lines: &str, count: usize) -> Result<(), Fail> {
-    let mut playing = Playing::new(plant);
-    for row in rows(rt, lines, count) {
-        check_reply(rt, &mut playing, row)?;
-    }
-    Ok(())
-}
-
-const WARM_AND_COLD: &str = r#"
-"19.00 f" ==> "f"
-"18.99 f" ==> "t"
-"19.00 t" ==> "t"
-"21.00 f" ==> "t"
-"21.01 t" ==> "f"
-"21.00 f" ==> "f"
-"-0.01 f" ==> "t"
-"10000000000.00 f" ==> "f"
-"-10000000000.00 f" ==> "t"
-"#;
-
-const NO_TEMPERATURES: &str = r#"
-"18.00 f" ==> "t"
-"10000000000.01 f" ==> none
-"30.0 f" ==> none
-"30.000 f" ==> none
-"030.00 f" ==> none
-"+30.00 f" ==> none
-"-0.00 f" ==> none
-".30 f" ==> none
-"30 f" ==> none
-"30.00" ==> none
-"30.00 " ==> none
-"30.00  f" ==> none
-"30.00 F" ==> none
-"30.00 f " ==> none
-"30.00 f t" ==> none
-"" ==> none
-"20.00 f" ==> "t"
-"#;
-
-const TRUTHS: &str = r#"
-"t" ==> "f"
-"t" ==> "t"
-"T" ==> none
-"true" ==> none
-"" ==> none
-"t" ==> "t"
-"f" ==> "f"
-"t" ==> "f"
-"#;
-
-const ANYTHING: &str = r#"
-"" ==> "-12"
-"whatever it is" ==> "-12"
-"#;
-
-const HEATED: &str = r#"
-"30.00 f t" ==> "t"
-"30.01 f t" ==> "f"
-"30.01 t f" ==> "t"
-"-30.01 t t" ==> "t"
-"30.01 t" ==> none
-"30.1 t t" ==> none
-"30.01 t t t" ==> none
-"#;
-
-#[test]
-fn plants_reply_to_lines(rt: HostRuntime) -> Result<(), Fail> {
-    check_replies(&rt, Plant::Thermostat, WARM_AND_COLD, 9)?;
-    check_replies(&rt, Plant::Thermostat, NO_TEMPERATURES, 17)?;
-    check_replies(&rt, Plant::Gate, TRUTHS, 8)?;
-    check_replies(&rt, Plant::Constant(-12), ANYTHING, 2)?;
-    check_replies(&rt, Plant::Safe, HEATED, 7)
-}
-
-// Serves a plant over a link in memory, in pieces of at most this many bytes, where any is given.
-fn served(
-    alloc: Global,
-    plant: Plant,
-    text: &[u8],
-    cut: Option<usize>,
-    failing: &[u64],
-) -> Result<(u8, ScriptLink), Fail> {
-    let mut cuts = Vec::new(alloc);
-    if let Some(cut) = cut {
-        for _ in text {
-            cuts.push(cut)?;
-        }
-    }
-    let mut link = ScriptLink::make(alloc, text.to_vec(alloc)?, cuts, 64, failing.to_vec(alloc)?)?;
-    let number = serve(&mut Playing::new(plant), &mut link);
-    Ok((number, link))
-}
-
-// Sees that a plant is served so as a row says: with which number, and what is sent.
-fn check_served(
-    rt: &impl Abort,
-    alloc: Global,
-    plant: Plant,
-    text: &[u8],
-    cut: Option<usize>,
-    failing: &[u64],
-    wanted: &str,
-) -> Result<(), Fail> {
-    let (number, sent) = wanted.split_once(", ").ok_or("a number and replies")?;
-    let sent = bytes_of(alloc, sent)?;
-    let (found, link) = served(alloc, plant, text, cut, failing)?;
-    assert_eq!(rt; found, number.parse()?, "{wanted} {cut:?}");
-    assert_eq!(rt; link.sent(), sent.as_slice(), "{wanted} {cut:?}");
-    assert_eq!(rt; link.faults(), failing.len() as u64, "{wanted} {cut:?}");
-    Ok(())
-}
-
-// The same of a plant and a text that stand in a row, in pieces of at most so many bytes.
-fn check_cuts(
-    rt: &impl Abort,
-    alloc: Global,
-    row: &str,
-    cuts: &[Option<usize>],
-) -> Result<(), Fail> {
-    let (given, wanted) = halves(row)?;
-    let (plant, text) = given.split_once(": ").ok_or("a plant and a text")?;
-    let plant = plant_of(&words_of(alloc, plant)?).ok_or("a plant")?;
-    let text = bytes_of(alloc, text)?;
-    for cut in cuts {
-        check_served(rt, alloc, plant, &text, *cut, &[], wanted)?;
-    }
-    Ok(())
+    let told = match reply(playing, line.as_bytes(), &mut into) {
+        Some(count) => str::from_utf8(&into[..count])?,
+        None if *playing == before => "none",
+        None => "none, and it changed",
+    };
+    found.push_str(told)?;
+    Ok(found.push(' ')?)
 }
 
 // A plant and what comes of its link, with the number that it is served with and what is sent.
 const SERVED: &str = r#"
+lines come in any pieces
 gate: "t\nt\nf\nt\n" ==> 0, "f\nt\nf\nf\n"
 gate: "t\nt" ==> 0, "f\n"
 gate: "" ==> 0, ""
@@ -210,18 +114,8 @@ gate: "x\nt\n" ==> 1, ""
 constant 5: "\n\n" ==> 0, "5\n5\n"
 thermostat: "18.00 t\n20.00 f\n22.00 f\n20.00 f\n" ==> 0, "t\nt\nf\nf\n"
 safe: "31.00 f t\r\n" ==> 1, ""
-"#;
 
-#[test]
-fn lines_are_served_in_any_pieces(rt: HostRuntime) -> Result<(), Fail> {
-    for row in rows(&rt, SERVED, 9) {
-        check_cuts(&rt, rt.alloc(), row, &[None, Some(1), Some(3)])?;
-    }
-    Ok(())
-}
-
-// The same of long lines.
-const LONG: &str = r#"
+a line has so many bytes
 constant 5: 4096 of "x" + "\n" ==> 0, "5\n"
 constant 5: 4097 of "x" + "\n" ==> 2, ""
 constant 5: 4096 of "x" ==> 0, ""
@@ -230,38 +124,75 @@ constant 5: 4096 of "x" + "\nx\n" ==> 0, "5\n5\n"
 constant 5: 9000 of "x" + "\nx\n" ==> 2, ""
 "#;
 
-#[test]
-fn a_line_has_so_many_bytes(rt: HostRuntime) -> Result<(), Fail> {
-    for row in rows(&rt, LONG, 6) {
-        check_cuts(&rt, rt.alloc(), row, &[None, Some(1), Some(1000)])?;
+/// Puts with which number a plant is served, and what is sent.
+pub fn put_service(found: &mut String, alloc: Global, given: &str) -> Result<(), Fail> {
+    let (plant, text) = halves(given, ": ")?;
+    let plant = plant_named(alloc, plant)?.ok_or("a plant")?;
+    put_in_any_pieces(found, alloc, plant, &bytes_of(alloc, text)?)
+}
+
+// Puts that whatever the pieces are. What differs in pieces of some length is put behind it.
+fn put_in_any_pieces(
+    found: &mut String,
+    alloc: Global,
+    plant: Plant,
+    text: &[u8],
+) -> Result<(), Fail> {
+    put_served(found, alloc, plant, text, 0, &[])?;
+    for cut in [1, 3, 1000] {
+        let mut other = String::new(alloc);
+        put_served(&mut other, alloc, plant, text, cut, &[])?;
+        if other != *found {
+            write!(found, " but in pieces of {cut}: {other}")?;
+        }
     }
     Ok(())
 }
 
-// A call that fails, with the number and what is sent then. The calls are: a piece, a reply, a piece, a reply, the end.
+// The calls are: a piece, a reply, a piece, a reply, the end. One of them fails.
 const FAILING: &str = r#"
-0 ==> 9, ""
-1 ==> 9, ""
-2 ==> 9, "f\n"
-3 ==> 9, "f\n"
-4 ==> 9, "f\nt\n"
+call 0 ==> 9, "" and faults 1
+call 1 ==> 9, "" and faults 1
+call 2 ==> 9, "f\n" and faults 1
+call 3 ==> 9, "f\n" and faults 1
+call 4 ==> 9, "f\nt\n" and faults 1
 "#;
 
-#[test]
-fn a_fault_of_the_link_ends_a_service(rt: HostRuntime) -> Result<(), Fail> {
-    let alloc = rt.alloc();
-    for row in rows(&rt, FAILING, 5) {
-        let (call, wanted) = halves(row)?;
-        let failing = [call.parse()?];
-        check_served(
-            &rt,
-            alloc,
-            Plant::Gate,
-            b"t\nt\n",
-            Some(2),
-            &failing,
-            wanted,
-        )?;
+/// Puts what comes of serving a gate where a call of the link fails.
+pub fn put_failing(found: &mut String, alloc: Global, given: &str) -> Result<(), Fail> {
+    let call = given.strip_prefix("call ").ok_or("a call")?.parse()?;
+    put_served(found, alloc, Plant::Gate, b"t\nt\n", 2, &[call])
+}
+
+// Serves a plant over a link in memory, in pieces of at most so many bytes, where these are some, and puts with which number,
+// what is sent, and how many calls failed, if any did.
+fn put_served(
+    found: &mut String,
+    alloc: Global,
+    plant: Plant,
+    text: &[u8],
+    cut: usize,
+    failing: &[u64],
+) -> Result<(), Fail> {
+    let cuts = vec![in alloc; cut; if cut > 0 { text.len() } else { 0 }]?;
+    let failing = failing.to_vec(alloc)?;
+    let mut link = ScriptLink::make(alloc, text.to_vec(alloc)?, cuts, 64, failing)?;
+    let number = serve(&mut Playing::new(plant), &mut link);
+    put_ending(found, number, &link)
+}
+
+fn put_ending(found: &mut String, number: u8, link: &ScriptLink) -> Result<(), Fail> {
+    write!(found, "{number}, {:?}", str::from_utf8(link.sent())?)?;
+    if link.faults() > 0 {
+        write!(found, " and faults {}", link.faults())?;
     }
     Ok(())
+}
+
+#[test]
+fn words_name_plants_that_reply_and_are_served(rt: HostRuntime) -> Result<(), Fail> {
+    check(&rt, rt.alloc(), &Subject::Names, NAMED, 18)?;
+    check(&rt, rt.alloc(), &Subject::PlantReplies, REPLIES, 19)?;
+    check(&rt, rt.alloc(), &Subject::Services, SERVED, 15)?;
+    check(&rt, rt.alloc(), &Subject::FailingServices, FAILING, 5)
 }

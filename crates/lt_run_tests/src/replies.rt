@@ -3,17 +3,18 @@
 //!
 //! A row gives the slots of a reply, the decimals of its reals, and a stream: `skipped int, real [-20;20] at 2: "1 .5 "`.
 //! A slot has a kind, and maybe a range of raw numbers; values of a skipped one are not kept. A stream is parts that
-//! follow each other, as `"t" + 9 of " "`. What is wanted is all that is found in the stream, in order.
+//! follow each other, as `"t" + 9 of " "`, and it ends there, unless more may come. What is wanted is all that is found in
+//! the stream, in order.
 
-ghost use Rattle.std.specs.Prelude.{◌≡◌, ◌≤◌, ◌<◌, ◌+◌, ◌^◌, IfOk, length};
+ghost use Rattle.std.specs.Prelude.{◌≡◌, ◌≤◌, ◌<◌, ◌+◌, ◌^◌, length, true};
 ghost use Rattle.lt_num.specs.Bounds.{most_decimals};
 ghost use Rattle.lt_rif.specs.Reading.{reading, given};
 
-use crate::rows::{bytes_of, halves, rows};
+use crate::rows::{bytes_of, check, halves, kind_of};
+use crate::subject::Subject;
 use lt_num::{Kind, Range, Value};
-use lt_rif::{Closing, Fed, Reader, Slot, ValueFault};
+use lt_rif::{Closing, Fed, Reader, Slot};
 use std::alloc::Global;
-use std::process::Abort;
 use std::test::Fail;
 
 // Words of truths; at last where false alone is in range.
@@ -134,17 +135,17 @@ real [0;100] at 2: "-0.005 " ==> malformed OutOfRange 0
 const WORDS: &str = r##"
 bool at 0: "  t\t\r\nf\r\n" ==> whole t at 4; whole f at 8; short 1
 bool at 0: "t" ==> whole t at 1; short 0
-bool at 0: "t" ==> needs
-bool at 0: "x" ==> needs
+bool at 0: "t" and more ==> needs
+bool at 0: "x" and more ==> needs
 bool at 0: "x" ==> malformed NotAValue 0
 bool at 0: "" ==> short 0
-bool at 0: "" ==> needs
+bool at 0: "" and more ==> needs
 bool at 0: "\n\n" ==> short 2
 bool at 0: "#outs t #outs f " ==> whole t at 8; whole f at 16; short 0
 bool at 0: "#outsx t\nf " ==> whole f at 11; short 0
 bool at 0: "#o" ==> short 2
 bool at 0: "#outs" ==> short 5
-bool at 0: "#outs" ==> needs
+bool at 0: "#outs" and more ==> needs
 bool at 0: "#out s\nt " ==> whole t at 9; short 0
 bool at 0: "# t\nf " ==> whole f at 6; short 0
 bool at 0: "-- t\nf " ==> whole f at 7; short 0
@@ -154,7 +155,7 @@ bool at 0: "t--x f " ==> malformed NotAValue 0
 bool at 0: "t#x " ==> malformed NotAValue 0
 bool at 0: "#locs t\nf " ==> whole f at 10; short 0
 bool at 0: "#a #b\n#c\nt " ==> whole t at 11; short 0
-bool at 0: "#x" ==> needs
+bool at 0: "#x" and more ==> needs
 bool at 0: "\x00 " ==> malformed NotAValue 0
 bool at 0: "t\x0bf " ==> malformed NotAValue 0
 bool at 0: "\xff " ==> malformed NotAValue 0
@@ -177,18 +178,18 @@ bool at 0: "-- -- t\nf " ==> whole f at 10; short 0
 bool at 0: "#x\r t\n f" ==> whole f at 8; short 0
 bool at 0: "#o t\nf " ==> whole f at 7; short 0
 bool at 0: "f#" ==> malformed NotAValue 0
-bool at 0: "#outs t" ==> needs
-bool at 0: "-" ==> needs
-bool at 0: "#ou" ==> needs
+bool at 0: "#outs t" and more ==> needs
+bool at 0: "-" and more ==> needs
+bool at 0: "#ou" and more ==> needs
 "##;
 
 // Two ints, of which the second is kept; at last a truth, a real, a real that is not kept, and an int.
 const STEPS: &str = r##"
 skipped int, int at 2: "#step 1\n1 #outs 5\n#step 2\n1 #outs 6\n#step 3\n1 #o" ==> whole 5 at 18; whole 6 at 36; short 12
 skipped int, int at 2: "1 2 3" ==> whole 2 at 4; short 1
-skipped int, int at 2: "1 2 3" ==> whole 2 at 4; needs
+skipped int, int at 2: "1 2 3" and more ==> whole 2 at 4; needs
 skipped int, int at 2: "1 -- 2\n3\n" ==> whole 3 at 9; short 0
-skipped int, int at 2: "1 x" ==> needs
+skipped int, int at 2: "1 x" and more ==> needs
 skipped int, int at 2: "1 x" ==> malformed NotAValue 2
 skipped int, int at 2: "1 #outs" ==> short 7
 skipped int, int at 2: "1 #o\n2 " ==> whole 2 at 7; short 0
@@ -234,10 +235,10 @@ bool at 0: 65535 of " " + "t " ==> malformed TooLong 0
 bool at 0: 65534 of " " + "x " ==> malformed NotAValue 65534
 bool at 0: 65534 of " " + "t " ==> whole t at 65536; short 0
 bool at 0: 65534 of " " + "x" ==> malformed NotAValue 65534
-bool at 0: 65534 of " " + "x" ==> needs
+bool at 0: 65534 of " " + "x" and more ==> needs
 bool at 0: 65534 of " " + "t" ==> whole t at 65535; short 0
 bool at 0: 65535 of " " ==> short 65535
-bool at 0: 65535 of " " ==> needs
+bool at 0: 65535 of " " and more ==> needs
 bool at 0: 65536 of " " ==> malformed TooLong 0
 bool at 0: 70000 of " " + "t " ==> malformed TooLong 0
 bool at 0: 1 of " " + "t   " ==> whole t at 3; short 2
@@ -260,65 +261,97 @@ bool, bool at 0: 65531 of " " + "t   t " ==> malformed TooLong 0
 bool, bool at 0: 65531 of " " + "t  ft " ==> malformed TooLong 0
 "##;
 
-// What was found so far, as text.
+// A stream with the slots of its replies.
 #[derive(Drop)]
-struct Findings {
-    alloc: Global,
-    text: String,
+struct Stream {
+    slots: Vec<Slot>,
+    decimals: u32,
+    bytes: Vec<u8>,
+    // Whether more may come.
+    is_open: bool,
+    ghost few_decimals: { decimals ≤ most_decimals },
+    ghost is_short: { length bytes.items ≤ 1_000_000 },
 }
 
-impl Findings {
-    fn add(&mut self, finding: &str) -> Result<(), Fail> {
-        if !self.text.is_empty() {
-            self.text.push_str("; ")?;
+// The lengths of pieces that a stream is cut into, and those of a long one.
+const LENGTHS: [usize; 7] = [1, 2, 3, 4, 5, 7, 11];
+
+const LONG_LENGTHS: [usize; 5] = [1, 7, 4096, 65_535, 100_000];
+
+/// Puts what is found in the stream of a row.
+pub fn put_replies(found: &mut String, alloc: Global, given: &str) -> Result<(), Fail> {
+    stream_of(alloc, given)?.put_in_any_pieces(found, alloc)
+}
+
+impl Stream {
+    // Puts what is found, whatever the pieces are: those of each length, and for a stream that is not long two that are cut
+    // at each place. What differs in some pieces is put behind it.
+    fn put_in_any_pieces(&self, found: &mut String, alloc: Global) -> Result<(), Fail> {
+        let whole = self.bytes.len();
+        let is_long = whole > 1000;
+        self.put_in_pieces(found, alloc, whole, whole)?;
+        let lengths: &[usize] = if is_long { &LONG_LENGTHS } else { &LENGTHS };
+        for length in lengths {
+            self.put_if_other(found, alloc, *length, *length)?;
         }
-        self.text.push_str(finding)?;
+        let cuts = if is_long { 0 } else { whole };
+        for cut in 0..cuts {
+            self.put_if_other(found, alloc, cut, whole)?;
+        }
         Ok(())
     }
 
-    fn add_whole(&mut self, values: &[Value], place: usize) -> Result<(), Fail> {
-        let mut finding = String::from_str(self.alloc, "whole")?;
-        for value in values {
-            match value {
-                Value::Bool(true) => finding.push_str(" t")?,
-                Value::Bool(false) => finding.push_str(" f")?,
-                Value::Num(raw) => finding.push_str(&format!(in self.alloc; " {raw}")?)?,
-            }
+    // Puts what is found in pieces, of which the first has so many bytes and each later one so many.
+    fn put_in_pieces(
+        &self,
+        found: &mut String,
+        alloc: Global,
+        first_length: usize,
+        piece_length: usize,
+    ) -> Result<(), Fail> {
+        let mut reader = Reader::make(alloc, self.slots.to_vec(alloc)?, self.decimals)?;
+        if !put_fed(found, &mut reader, &self.bytes, first_length, piece_length)? {
+            return Ok(());
         }
-        finding.push_str(&format!(in self.alloc; " at {place}")?)?;
-        self.add(&finding)
+        if self.is_open {
+            return Ok(write!(found, "{}needs", apart(found))?);
+        }
+        put_end(found, &mut reader, self.bytes.len())
     }
 
-    fn add_malformed(&mut self, fault: ValueFault, place: usize) -> Result<(), Fail> {
-        let finding = format!(in self.alloc; "malformed {fault:?} {place}")?;
-        self.add(&finding)
-    }
-
-    fn add_short(&mut self, count: usize) -> Result<(), Fail> {
-        let finding = format!(in self.alloc; "short {count}")?;
-        self.add(&finding)
+    // Puts that too, if it isn't what stands there.
+    fn put_if_other(
+        &self,
+        found: &mut String,
+        alloc: Global,
+        first_length: usize,
+        piece_length: usize,
+    ) -> Result<(), Fail> {
+        let mut other = String::new(alloc);
+        self.put_in_pieces(&mut other, alloc, first_length, piece_length)?;
+        if other != *found {
+            write!(
+                found,
+                " but in pieces of {first_length} and {piece_length}: {other}"
+            )?;
+        }
+        Ok(())
     }
 }
 
-// Feeds a stream in pieces, the first of which has so many bytes and each later one so many, and ends it if it is
-// closed. What a whole reply leaves of its piece is fed again.
-fn found_in(
-    alloc: Global,
-    slots: &[Slot],
-    decimals: u32,
+// Feeds a stream in such pieces, puts what is found, and answers whether a reply may go on. What a whole reply leaves of its
+// piece is fed again.
+fn put_fed(
+    found: &mut String,
+    reader: &mut Reader,
     stream: &[u8],
-    is_closed: bool,
     first_length: usize,
     piece_length: usize,
-) -> Result<String, Fail>
-    requires decimals { decimals ≤ most_decimals }
+) -> Result<bool, Fail>
+    requires begins { given (reading reader.old) ≡ 0 }
     requires stream { length stream.now ≤ 1_000_000 }
+    ensures { result ≡ Ok true → given (reading reader.new) ≤ 1_000_000 }
 {
-    let mut findings = Findings {
-        alloc,
-        text: String::new(alloc),
-    };
-    let mut reader = Reader::make(alloc, slots.to_vec(alloc)?, decimals)?;
     let mut place = 0;
     let mut end = first_length.min(stream.len());
     'pieces: for _ in 0..100_000 {
@@ -332,135 +365,70 @@ fn found_in(
             }
             Fed::Whole(count) => {
                 place += count;
-                findings.add_whole(reader.values(), place)?;
+                put_whole(found, reader.values(), place)?;
             }
             Fed::Malformed(fault, at) => {
-                findings.add_malformed(fault, at)?;
-                return Ok(findings.text);
+                write!(found, "{}malformed {fault:?} {at}", apart(found))?;
+                return Ok(false);
             }
         }
     }
-    if !is_closed {
-        findings.add("needs")?;
-        return Ok(findings.text);
-    }
-    'ends: for _ in 0..2 {
-        match reader.finish() {
-            Closing::Whole => findings.add_whole(reader.values(), place)?,
-            Closing::Short(count) => {
-                findings.add_short(count)?;
-                break;
-            }
-            Closing::Malformed(fault, at) => {
-                findings.add_malformed(fault, at)?;
-                break;
-            }
-        }
-    }
-    Ok(findings.text)
+    Ok(true)
 }
 
-// The lengths of pieces that a stream is cut into, and those of a long one.
-const LENGTHS: [usize; 7] = [1, 2, 3, 4, 5, 7, 11];
-
-const LONG_LENGTHS: [usize; 5] = [1, 7, 4096, 65_535, 100_000];
-
-// Sees what is found in a stream in pieces, the first of which has so many bytes and each later one so many. A stream
-// that needs more is open.
-fn check_pieces(
-    rt: &impl Abort,
-    alloc: Global,
-    slots: &[Slot],
-    decimals: u32,
-    stream: &[u8],
-    wanted: &str,
-    first_length: usize,
-    piece_length: usize,
-) -> Result<(), Fail>
-    requires { decimals ≤ most_decimals }
+// Puts what the end of a stream of so many bytes makes of the reply at hand, and of the next one if that is whole.
+fn put_end(found: &mut String, reader: &mut Reader, place: usize) -> Result<(), Fail>
+    requires { given (reading reader.old) ≤ 1_000_000 }
 {
-    // What `found_in` asks of a stream.
-    assert!(rt; stream.len() <= 1_000_000);
-    let is_closed = !wanted.ends_with("needs");
-    let found = found_in(
-        alloc,
-        slots,
+    let mut closing = reader.finish();
+    if closing == Closing::Whole {
+        put_whole(found, reader.values(), place)?;
+        closing = reader.finish();
+    }
+    match closing {
+        Closing::Whole => put_whole(found, reader.values(), place),
+        Closing::Short(count) => Ok(write!(found, "{}short {count}", apart(found))?),
+        Closing::Malformed(fault, at) => {
+            Ok(write!(found, "{}malformed {fault:?} {at}", apart(found))?)
+        }
+    }
+}
+
+// Puts the values of a reply that is whole at a place.
+fn put_whole(found: &mut String, values: &[Value], place: usize) -> Result<(), Fail> {
+    write!(found, "{}whole", apart(found))?;
+    for value in values {
+        match value {
+            Value::Bool(true) => found.push_str(" t")?,
+            Value::Bool(false) => found.push_str(" f")?,
+            Value::Num(raw) => write!(found, " {raw}")?,
+        }
+    }
+    Ok(write!(found, " at {place}")?)
+}
+
+// What stands between a finding and those before it.
+fn apart(found: &str) -> &'static str {
+    if found.is_empty() { "" } else { "; " }
+}
+
+// The slots, decimals and bytes that a row gives.
+fn stream_of(alloc: Global, given: &str) -> Result<Stream, Fail> {
+    let (form, text) = halves(given, ": ")?;
+    let (slots, decimals) = halves(form, " at ")?;
+    let decimals = decimals.parse()?;
+    let closed = text.strip_suffix(" and more");
+    let bytes = bytes_of(alloc, closed.unwrap_or(text))?;
+    // What a reader asks of its decimals and of its stream.
+    if decimals > 6 || bytes.len() > 1_000_000 {
+        return Err(Fail::new("0 to 6 decimals, and a million bytes at most"));
+    }
+    Ok(Stream {
+        slots: slots_of(alloc, slots)?,
         decimals,
-        stream,
-        is_closed,
-        first_length,
-        piece_length,
-    )?;
-    assert_eq!(rt;
-        found.as_str(),
-        wanted,
-        "in pieces of {first_length} and {piece_length}"
-    );
-    Ok(())
-}
-
-// The same in pieces of each length, and for a stream that is not long in two pieces that are cut at each place.
-fn check(
-    rt: &impl Abort,
-    alloc: Global,
-    slots: &[Slot],
-    decimals: u32,
-    stream: &[u8],
-    wanted: &str,
-) -> Result<(), Fail>
-    requires { decimals ≤ most_decimals }
-{
-    let is_long = stream.len() > 1000;
-    let lengths: &[usize] = if is_long { &LONG_LENGTHS } else { &LENGTHS };
-    for length in lengths {
-        check_pieces(rt, alloc, slots, decimals, stream, wanted, *length, *length)?;
-    }
-    let cuts = if is_long { 0 } else { stream.len() + 1 };
-    for cut in 0..cuts {
-        check_pieces(
-            rt,
-            alloc,
-            slots,
-            decimals,
-            stream,
-            wanted,
-            cut,
-            stream.len(),
-        )?;
-    }
-    Ok(())
-}
-
-// The kind that a word names.
-fn kind_of(word: &str) -> Result<Kind, Fail> {
-    match word {
-        "bool" => Ok(Kind::Bool),
-        "int" => Ok(Kind::Int),
-        "real" => Ok(Kind::Real),
-        _ => Err(Fail::new("a kind")),
-    }
-}
-
-// A kind and a range, where there is one, as `int [-9;9]`.
-fn kind_and_range(text: &str) -> Result<(Kind, Option<Range>), Fail> {
-    let Some((word, ends)) = text.split_once(" [") else {
-        return Ok((kind_of(text)?, None));
-    };
-    let (low, high) = ends.split_once(';').ok_or("two ends")?;
-    let high = high.strip_suffix(']').ok_or("a bracket")?;
-    let range = Range {
-        low: low.parse()?,
-        high: high.parse()?,
-    };
-    Ok((kind_of(word)?, Some(range)))
-}
-
-// The slot that words name.
-fn slot_of(text: &str) -> Result<Slot, Fail> {
-    let kept = text.strip_prefix("skipped ");
-    let (kind, range) = kind_and_range(kept.unwrap_or(text))?;
-    let keep = kept.is_none();
-    Ok(Slot { kind, range, keep })
+        bytes,
+        is_open: closed.is_some(),
+    })
 }
 
 // The slots of a reply.
@@ -472,55 +440,43 @@ fn slots_of(alloc: Global, text: &str) -> Result<Vec<Slot>, Fail> {
     Ok(slots)
 }
 
-// The same of a stream with slots and decimals.
-fn check_form(
-    rt: &impl Abort,
-    alloc: Global,
-    form: &str,
-    stream: &[u8],
-    wanted: &str,
-) -> Result<(), Fail> {
-    let (slots, decimals) = form.split_once(" at ").ok_or("slots at decimals")?;
-    let decimals = decimals.parse()?;
-    // What a reader asks of its decimals.
-    assert!(rt; decimals <= 6);
-    let slots = slots_of(alloc, slots)?;
-    check(rt, alloc, &slots, decimals, stream, wanted)
+// The slot that words name.
+fn slot_of(text: &str) -> Result<Slot, Fail> {
+    let kept = text.strip_prefix("skipped ");
+    let (word, range) = match kept.unwrap_or(text).split_once(" [") {
+        Some((word, ends)) => (word, Some(range_of(ends)?)),
+        None => (kept.unwrap_or(text), None),
+    };
+    Ok(Slot {
+        kind: kind_of(word)?,
+        range,
+        keep: kept.is_none(),
+    })
 }
 
-// The same of a row.
-fn check_row(rt: &impl Abort, alloc: Global, row: &str) -> Result<(), Fail> {
-    let (given, wanted) = halves(row)?;
-    let (form, stream) = given.split_once(": ").ok_or("a stream")?;
-    let stream = bytes_of(alloc, stream)?;
-    check_form(rt, alloc, form, &stream, wanted)
-}
-
-// The same of each row of a table, which has so many.
-fn check_all(rt: &impl Abort, alloc: Global, table: &str, count: usize) -> Result<(), Fail> {
-    for row in rows(rt, table, count) {
-        check_row(rt, alloc, row)?;
-    }
-    Ok(())
+// The range between ends, as `-9;9]`.
+fn range_of(ends: &str) -> Result<Range, Fail> {
+    let (low, high) = halves(ends, ";")?;
+    let high = high.strip_suffix(']').ok_or("a bracket")?;
+    Ok(Range {
+        low: low.parse()?,
+        high: high.parse()?,
+    })
 }
 
 #[test]
-fn words_write_truths_and_numbers(rt: HostRuntime) -> Result<(), Fail> {
-    check_all(&rt, rt.alloc(), TRUTHS, 13)?;
-    check_all(&rt, rt.alloc(), INTS, 29)?;
-    check_all(&rt, rt.alloc(), REALS, 60)
-}
-
-#[test]
-fn comments_and_blanks_stand_between_words(rt: HostRuntime) -> Result<(), Fail> {
-    check_all(&rt, rt.alloc(), WORDS, 48)?;
-    check_all(&rt, rt.alloc(), STEPS, 12)?;
-    check_all(&rt, rt.alloc(), STREAMS, 25)
+fn replies_are_found_in_any_pieces(rt: HostRuntime) -> Result<(), Fail> {
+    check(&rt, rt.alloc(), &Subject::Replies, TRUTHS, 13)?;
+    check(&rt, rt.alloc(), &Subject::Replies, INTS, 29)?;
+    check(&rt, rt.alloc(), &Subject::Replies, REALS, 60)?;
+    check(&rt, rt.alloc(), &Subject::Replies, WORDS, 48)?;
+    check(&rt, rt.alloc(), &Subject::Replies, STEPS, 12)?;
+    check(&rt, rt.alloc(), &Subject::Replies, STREAMS, 25)
 }
 
 #[test]
 fn a_reply_takes_so_many_bytes(rt: HostRuntime) -> Result<(), Fail> {
-    check_all(&rt, rt.alloc(), LONG, 29)
+    check(&rt, rt.alloc(), &Subject::Replies, LONG, 29)
 }
 
 #[test]

@@ -1,53 +1,118 @@
 //! Traces: what is written of each kind of value and of each end.
 
-ghost use Rattle.std.specs.Prelude.{◌≡◌, ◌≤◌, ◌+◌, [], true, length, map, sum_by, unwrap_or};
+ghost use Rattle.std.specs.Prelude.{◌≡◌, ◌≤◌, ◌+◌, [], IfOk, length, map, sum_by, unwrap_or};
 ghost use Rattle.std.specs.Option.{option_copied, option_map};
 ghost use Rattle.std.specs.String.{string_bytes};
 ghost use Rattle.lt_num.specs.Bounds.{most_decimals};
 ghost use Rattle.lt_rif.specs.Enough.{AreLocalsSized, AreSized, IsEndSized, names_length};
 ghost use Rattle.lt_rif.specs.Trace.{declared_variable, IsNamed};
 
+use crate::rows::check;
+use crate::subject::Subject;
 use lt_num::{Arith, Kind, Value};
 use lt_rif::{
     Declared, End, ValueFault, Who, room_for, room_is_enough, write_end, write_header, write_line,
     write_step,
 };
 use std::alloc::Global;
-use std::process::Abort;
+use std::str;
 use std::test::Fail;
 
-// The ends of a run, with their lines.
-const ENDS: [(End, &str); 11] = [
-    (End::Normal, "#end normal 3\n"),
-    (End::Limit, "#end limit 3\n"),
-    (End::Oracle, "#end oracle 3\n"),
-    (End::Deadlock, "#end deadlock 3\n"),
-    (End::Raise { exception: 1 }, "#end raise Jam 3\n"),
-    (End::Fault(Arith::NoPrevious), "#end fault NoPrevious 3\n"),
-    (End::TooLarge, "#end toolarge 3\n"),
-    (
-        End::Malformed {
-            who: Who::Controller,
-            fault: ValueFault::NotAValue,
-            place: 40,
-        },
-        "#end malformed controller NotAValue 3\n",
-    ),
-    (
-        End::Ended {
-            who: Who::Oracle,
-            taken: 40,
-        },
-        "#end ended oracle 3\n",
-    ),
-    (End::Device(Who::Controller), "#end device controller 3\n"),
-    (
-        End::Budget {
-            need: 170141183460469231731687303715884105728,
-        },
-        "#end budget 170141183460469231731687303715884105728 3\n",
-    ),
+// What is written of values, variables and ends, by what it is.
+const TEXTS: &str = r##"
+values stand by their kinds
+a line at 2 ==> "-0.05 t 0.00 -150 f\n"
+a line at 0 ==> "-5 t 0 -150 f\n"
+a line of no values at 6 ==> "\n"
+
+a header declares variables
+a header ==> "#seed 7\n#inputs \"temp\":real\n#outputs \"heat\":bool\n"
+a header with a local ==> "#seed 0\n#inputs\n#outputs \"heat\":bool\n#locals \"gust.1\":int\n"
+
+steps and ends are lines
+a step with a local ==> "#step 12\n-0.05 t #outs f #locs -12\n#end normal 12\n"
+a step with a local out of scope ==> "#step 1\n-0.05 t #outs #locs ?\n#end limit 1\n"
+a step without locals ==> "#step 1\n#outs f\n#end oracle 1\n"
+end Normal ==> "#step 3\n#outs\n#end normal 3\n"
+end Limit ==> "#step 3\n#outs\n#end limit 3\n"
+end Oracle ==> "#step 3\n#outs\n#end oracle 3\n"
+end Deadlock ==> "#step 3\n#outs\n#end deadlock 3\n"
+end Raise ==> "#step 3\n#outs\n#end raise Jam 3\n"
+end Fault ==> "#step 3\n#outs\n#end fault NoPrevious 3\n"
+end TooLarge ==> "#step 3\n#outs\n#end toolarge 3\n"
+end Malformed ==> "#step 3\n#outs\n#end malformed controller NotAValue 3\n"
+end Ended ==> "#step 3\n#outs\n#end ended oracle 3\n"
+end Device ==> "#step 3\n#outs\n#end device controller 3\n"
+end Budget ==> "#step 3\n#outs\n#end budget 170141183460469231731687303715884105728 3\n"
+"##;
+
+#[test]
+fn traces_are_written_as_lines(rt: HostRuntime) -> Result<(), Fail> {
+    check(&rt, rt.alloc(), &Subject::Traces, TEXTS, 19)
+}
+
+/// Puts the text of what a row names.
+pub fn put_text(found: &mut String, alloc: Global, given: &str) -> Result<(), Fail> {
+    let text = text_of(alloc, given)?;
+    Ok(write!(found, "{:?}", str::from_utf8(&text)?)?)
+}
+
+// The values and kinds of a line, the values of a step, and the kinds of those and of a local.
+const VALUES: [Value; 5] = [
+    Value::Num(-5),
+    Value::Bool(true),
+    Value::Num(0),
+    Value::Num(-150),
+    Value::Bool(false),
 ];
+
+const KINDS_OF_VALUES: [Kind; 5] = [Kind::Real, Kind::Bool, Kind::Real, Kind::Int, Kind::Bool];
+
+const OUTPUTS: [Value; 2] = [Value::Num(-5), Value::Bool(true)];
+
+const INPUTS: [Value; 1] = [Value::Bool(false)];
+
+const KINDS: [Kind; 4] = [Kind::Real, Kind::Bool, Kind::Bool, Kind::Int];
+
+// The text of what has this name.
+fn text_of(alloc: Global, name: &str) -> Result<Vec<u8>, Fail> {
+    match name {
+        "a line at 2" => line(alloc, &VALUES, &KINDS_OF_VALUES, 2),
+        "a line at 0" => line(alloc, &VALUES, &KINDS_OF_VALUES, 0),
+        "a line of no values at 6" => line(alloc, &[], &[], 6),
+        "a header" => header_of_output(alloc),
+        "a header with a local" => header_of_local(alloc),
+        "a step with a local" => {
+            let locals = [Some(Value::Num(-12))];
+            step_and_end(
+                alloc,
+                12,
+                &OUTPUTS,
+                &INPUTS,
+                Some(&locals),
+                &KINDS,
+                End::Normal,
+                &[],
+            )
+        }
+        "a step with a local out of scope" => {
+            step_and_end(
+                alloc,
+                1,
+                &OUTPUTS,
+                &[],
+                Some(&[None]),
+                &KINDS,
+                End::Limit,
+                &[],
+            )
+        }
+        "a step without locals" => {
+            step_and_end(alloc, 1, &[], &INPUTS, None, &KINDS, End::Oracle, &[])
+        }
+        _ => ending(alloc, name),
+    }
+}
 
 // The line of values, in the room that is enough for it.
 fn line(alloc: Global, values: &[Value], kinds: &[Kind], decimals: u32) -> Result<Vec<u8>, Fail>
@@ -60,35 +125,6 @@ fn line(alloc: Global, values: &[Value], kinds: &[Kind], decimals: u32) -> Resul
     let mut into = Vec::with_capacity(alloc, room_for(values.len(), 0))?;
     write_line(&mut into, values, kinds, decimals);
     Ok(into)
-}
-
-// That a text is the one that is wanted.
-fn check(rt: &impl Abort, found: Vec<u8>, wanted: &str) {
-    assert_eq!(rt; found.as_slice(), wanted.as_bytes());
-}
-
-#[test]
-fn lines_have_values_by_their_kinds(rt: HostRuntime) -> Result<(), Fail> {
-    let values = [
-        Value::Num(-5),
-        Value::Bool(true),
-        Value::Num(0),
-        Value::Num(-150),
-        Value::Bool(false),
-    ];
-    let kinds = [Kind::Real, Kind::Bool, Kind::Real, Kind::Int, Kind::Bool];
-    check(
-        &rt,
-        line(rt.alloc(), &values, &kinds, 2)?,
-        "-0.05 t 0.00 -150 f\n",
-    );
-    check(
-        &rt,
-        line(rt.alloc(), &values, &kinds, 0)?,
-        "-5 t 0 -150 f\n",
-    );
-    check(&rt, line(rt.alloc(), &[], &[], 6)?, "\n");
-    Ok(())
 }
 
 // A header, in the room that is enough for it.
@@ -108,14 +144,30 @@ fn header(
     Ok(into)
 }
 
-// Whether an exception that is raised has one of so many names.
-fn is_named(end: End, names: usize) -> bool
-    ensures { result ≡ true → IsNamed end names }
-{
-    match end {
-        End::Raise { exception } => (exception as usize) < names,
-        _ => true,
-    }
+// A header with an output of the scenario and an input.
+fn header_of_output(alloc: Global) -> Result<Vec<u8>, Fail> {
+    let outputs = [Declared {
+        name: String::from_str(alloc, "temp")?,
+        kind: Kind::Real,
+    }];
+    let inputs = [Declared {
+        name: String::from_str(alloc, "heat")?,
+        kind: Kind::Bool,
+    }];
+    header(alloc, 7, &outputs, &inputs, None)
+}
+
+// A header with an input of the scenario and a local.
+fn header_of_local(alloc: Global) -> Result<Vec<u8>, Fail> {
+    let inputs = [Declared {
+        name: String::from_str(alloc, "heat")?,
+        kind: Kind::Bool,
+    }];
+    let locals = [Declared {
+        name: String::from_str(alloc, "gust.1")?,
+        kind: Kind::Int,
+    }];
+    header(alloc, 0, &[], &inputs, Some(&locals))
 }
 
 // A step, and the end line behind it with the same number, in the room that is enough for both.
@@ -144,73 +196,42 @@ fn step_and_end(
     Ok(into)
 }
 
-const KINDS: [Kind; 4] = [Kind::Real, Kind::Bool, Kind::Bool, Kind::Int];
-
-#[test]
-fn a_header_declares_variables(rt: HostRuntime) -> Result<(), Fail> {
-    let alloc = rt.alloc();
-    let outputs = [Declared {
-        name: String::from_str(alloc, "temp")?,
-        kind: Kind::Real,
-    }];
-    let inputs = [Declared {
-        name: String::from_str(alloc, "heat")?,
-        kind: Kind::Bool,
-    }];
-    let locals = [Declared {
-        name: String::from_str(alloc, "gust.1")?,
-        kind: Kind::Int,
-    }];
-    check(
-        &rt,
-        header(alloc, 7, &outputs, &inputs, None)?,
-        "#seed 7\n#inputs \"temp\":real\n#outputs \"heat\":bool\n",
-    );
-    check(
-        &rt,
-        header(alloc, 0, &[], &inputs, Some(&locals))?,
-        "#seed 0\n#inputs\n#outputs \"heat\":bool\n#locals \"gust.1\":int\n",
-    );
-    Ok(())
-}
-
-#[test]
-fn steps_and_ends_are_lines(rt: HostRuntime) -> Result<(), Fail> {
-    let alloc = rt.alloc();
-    let x = [Value::Num(-5), Value::Bool(true)];
-    let y = [Value::Bool(false)];
-    check(
-        &rt,
-        step_and_end(
-            alloc,
-            12,
-            &x,
-            &y,
-            Some(&[Some(Value::Num(-12))]),
-            &KINDS,
-            End::Normal,
-            &[],
-        )?,
-        "#step 12\n-0.05 t #outs f #locs -12\n#end normal 12\n",
-    );
-    check(
-        &rt,
-        step_and_end(alloc, 1, &x, &[], Some(&[None]), &KINDS, End::Limit, &[])?,
-        "#step 1\n-0.05 t #outs #locs ?\n#end limit 1\n",
-    );
-    check(
-        &rt,
-        step_and_end(alloc, 1, &[], &y, None, &KINDS, End::Oracle, &[])?,
-        "#step 1\n#outs f\n#end oracle 1\n",
-    );
+// A step of no values, with the end of this name behind it. It may raise the second of two exceptions.
+fn ending(alloc: Global, name: &str) -> Result<Vec<u8>, Fail> {
+    let end = end_of(name)?;
     let names = [
         String::from_str(alloc, "Crash")?,
         String::from_str(alloc, "Jam")?,
     ];
-    for (end, wanted) in ENDS {
-        assert!(rt; is_named(end, names.len()));
-        let text = step_and_end(alloc, 3, &[], &[], None, &[], end, &names)?;
-        assert!(rt; text.ends_with(wanted.as_bytes()), "{wanted}");
+    step_and_end(alloc, 3, &[], &[], None, &[], end, &names)
+}
+
+// The end of this name.
+fn end_of(name: &str) -> Result<End, Fail>
+    ensures named { IfOk result (λ end. IsNamed end 2) }
+    ensures sized { IfOk result (λ end. IsEndSized end) }
+{
+    match name {
+        "end Normal" => Ok(End::Normal),
+        "end Limit" => Ok(End::Limit),
+        "end Oracle" => Ok(End::Oracle),
+        "end Deadlock" => Ok(End::Deadlock),
+        "end Raise" => Ok(End::Raise { exception: 1 }),
+        "end Fault" => Ok(End::Fault(Arith::NoPrevious)),
+        "end TooLarge" => Ok(End::TooLarge),
+        "end Malformed" => Ok(End::Malformed {
+            who: Who::Controller,
+            fault: ValueFault::NotAValue,
+            place: 40,
+        }),
+        "end Ended" => Ok(End::Ended {
+            who: Who::Oracle,
+            taken: 40,
+        }),
+        "end Device" => Ok(End::Device(Who::Controller)),
+        "end Budget" => Ok(End::Budget {
+            need: 170141183460469231731687303715884105728,
+        }),
+        _ => Err(Fail::new("an end")),
     }
-    Ok(())
 }

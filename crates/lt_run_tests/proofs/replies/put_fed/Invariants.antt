@@ -1,6 +1,6 @@
 use Rattle.std.proofs.Common.{◌≡◌, ◌≤◌, length}
 use Rattle.lt_rif.specs.Reading.{reading, given}
-use Rattle.lt_run_tests.proofs.replies.found_in.Given as goal
+use Rattle.lt_run_tests.proofs.replies.put_fed.Given as goal
 
 -- the reader was given all up to this place, and the piece goes on up to its end
 abbrev pub invariant-pieces : goal.invariant-pieces
@@ -9,6 +9,3 @@ invariant-pieces l = record {
   piece : l.place ≤ l.end;
   stream : l.end ≤ length l.stream;
 }
-
-abbrev pub invariant-ends : goal.invariant-ends
-invariant-ends l = given (reading l.reader) ≤ 1_000_000
