@@ -1,6 +1,7 @@
 //! What each construct stands for.
 
-use crate::row::{NODE, stand_for};
+use crate::found::Asked;
+use crate::rows::{NODE, check};
 use std::test::Fail;
 
 const ROWS: &str = "\
@@ -51,5 +52,5 @@ b => c => b ==> (b => (c => b))
 
 #[test]
 fn each_construct_stands_for_a_term(rt: HostRuntime) -> Result<(), Fail> {
-    stand_for(&rt, rt.alloc(), NODE, 2, ROWS)
+    check(&rt, rt.alloc(), Asked::Scenario, NODE, ROWS)
 }

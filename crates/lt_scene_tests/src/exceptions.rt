@@ -1,13 +1,12 @@
 //! Which exceptions an expansion has, and their order: those that are raised by their first `raise`, and then those that
 //! are only caught by their first `catch`.
 
-use crate::row::{Head, stand_for};
+use crate::found::Asked;
+use crate::rows::check;
 use std::test::Fail;
 
-const NODE: Head = Head {
-    text: "exception e, f node n() returns (b, c: bool) = ",
-    meaning: "n > b: bool [0;1] > c: bool [0;1]: ",
-};
+const NODE: &str =
+    "exception e, f node n() returns (b, c: bool) =  ==> n > b: bool [0;1] > c: bool [0;1]: ";
 
 const ROWS: &str = "\
 -- What raises and catches stand for.
@@ -50,5 +49,5 @@ let m(t: trace): trace = catch e in t in exception f in m({ raise e }) ==> (catc
 
 #[test]
 fn exceptions_are_numbered_by_what_raises_and_catches_them(rt: HostRuntime) -> Result<(), Fail> {
-    stand_for(&rt, rt.alloc(), NODE, 2, ROWS)
+    check(&rt, rt.alloc(), Asked::Scenario, NODE, ROWS)
 }

@@ -10,23 +10,23 @@ mod constructs;
 #[cfg(test)]
 mod exceptions;
 #[cfg(test)]
+mod found;
+#[cfg(test)]
 mod limits;
 #[cfg(test)]
 mod macros;
-#[cfg(test)]
-mod nodes;
 #[cfg(test)]
 mod numbering;
 #[cfg(test)]
 mod order;
 #[cfg(test)]
+mod parts;
+#[cfg(test)]
 mod refusals;
 #[cfg(test)]
-mod row;
+mod rows;
 #[cfg(test)]
 mod shown;
-#[cfg(test)]
-mod tables;
 #[cfg(test)]
 mod towers;
 #[cfg(test)]

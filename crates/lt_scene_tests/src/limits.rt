@@ -1,50 +1,60 @@
 //! How large a scenario may be: each limit at its value, and one past it.
 
-use crate::row::{halves, refusal_of, repeated};
-use lt_expand::{ExpandRefusal, Limit};
-use std::alloc::{AllocError, Global};
+use crate::found::Asked;
+use crate::rows::{WHOLE, check, check_row, halves};
+use std::alloc::Global;
 use std::process::Abort;
 use std::test::Fail;
 
-// What stands before the text of each row, the piece that stands many times at the sign `@`, and how often at most, where
-// nothing else counts.
+// What stands before the text of each row, the piece that stands many times at the sign `@`, how often at most, where
+// nothing else counts, and the answer where it stands more often.
 #[derive(Clone, Copy)]
-struct Room<'a> {
-    head: &'a str,
-    piece: &'a str,
+struct Room {
+    head: &'static str,
+    piece: &'static str,
     most: usize,
-    limit: Limit,
+    past: &'static str,
 }
 
 // That each text is accepted with as many pieces as there is room for, and past the limit with one more. Behind a text
 // stands how much of the room it takes itself.
-fn fill(rt: &impl Abort, alloc: Global, room: Room<'_>, rows: &str) -> Result<(), Fail> {
+fn fill(rt: &impl Abort, alloc: Global, room: Room, rows: &str) -> Result<(), Fail> {
     for row in rows.lines() {
         let (text, taken) = halves(row, " ==> ");
         let most = room.most.saturating_sub(taken.parse()?);
-        let past = Some(ExpandRefusal::TooLarge(room.limit));
-        assert_eq!(rt; refusal_with(alloc, room, most, text)?, None, "{row}");
-        assert_eq!(rt;
-            refusal_with(alloc, room, most.saturating_add(1), text)?,
-            past,
-            "{row}"
-        );
+        check_with(rt, alloc, room, text, most, "Accepted")?;
+        check_with(rt, alloc, room, text, most.saturating_add(1), room.past)?;
     }
     Ok(())
 }
 
-// Why a text with so many pieces has no scenario, if it has none.
-fn refusal_with(
+// That a text with so many pieces has this answer.
+fn check_with(
+    rt: &impl Abort,
     alloc: Global,
-    room: Room<'_>,
-    count: usize,
+    room: Room,
     text: &str,
-) -> Result<Option<ExpandRefusal>, Fail> {
+    count: usize,
+    answer: &str,
+) -> Result<(), Fail> {
     let (before, behind) = halves(text, "@");
-    let pieces = repeated(alloc, room.piece, count)?;
-    let text = format!(in alloc; "{}{before}{pieces}{behind}", room.head)?;
-    refusal_of(alloc, &text)
+    let row = format!(in alloc;
+        "{}{before}<<{count} times {}>>{behind} ==> {answer}",
+        room.head, room.piece
+    )?;
+    check_row(rt, alloc, Asked::Answer, &row)
 }
+
+// Before a trace of the rows stand 99,983 nodes and one more for each `not`. A constraint of 4,500 times `b` and 4,499
+// `and`s has 9,000 with its instant, and stands 11 times. One of 484 times `b` has 968, and the last `b` 2; 13 times stands
+// `fby`.
+const FULL: Room = Room {
+    head: "exception e node n() returns (b: bool) = \
+        let m: bool = b<<4499 times  and b>> in <<11 times m() fby >>b<<483 times  and b>> fby ",
+    piece: "not ",
+    most: 17,
+    past: "TooLarge(Nodes)",
+};
 
 // Traces, each with how many terms and expressions it stands for.
 const COUNTED: &str = "\
@@ -75,26 +85,17 @@ const COUNTED: &str = "\
 @b fby { | b } ==> 4
 @b fby { | 1 + 1: b | b | b } ==> 12";
 
-// Before a trace of the rows stand 99,983 nodes and one more for each `not`. A constraint of 4,500 times `b` and 4,499
-// `and`s has 9,000 with its instant, and stands 11 times. One of 484 times `b` has 968, and the last `b` 2; 13 times stands
-// `fby`.
 #[test]
 fn there_may_be_100000_nodes(rt: HostRuntime) -> Result<(), Fail> {
-    let alloc = rt.alloc();
-    let large = repeated(alloc, " and b", 4499)?;
-    let uses = repeated(alloc, "m() fby ", 11)?;
-    let small = repeated(alloc, " and b", 483)?;
-    let head = format!(in alloc;
-        "exception e node n() returns (b: bool) = let m: bool = b{large} in {uses}b{small} fby "
-    )?;
-    let room = Room {
-        head: &head,
-        piece: "not ",
-        most: 17,
-        limit: Limit::Nodes,
-    };
-    fill(&rt, alloc, room, COUNTED)
+    fill(&rt, rt.alloc(), FULL, COUNTED)
 }
+
+const TALL: Room = Room {
+    head: "node n() returns (b: bool) = ",
+    piece: "b fby ",
+    most: 1000,
+    past: "TooLarge(Depth)",
+};
 
 // Traces, each with how deep it is.
 const TRACES: &str = "\
@@ -110,20 +111,27 @@ const TRACES: &str = "\
 @{ b |> b |> { b &> b } } ==> 4
 @{ let t: trace = loop b in exception z in { { t } } } ==> 2";
 
+// Pieces that stand behind what they are joined to.
+const JOINED: &str = "\
+node n() returns (b: bool) = { b <<999 times |> b >>} ==> Accepted
+node n() returns (b: bool) = { b <<1000 times |> b >>} ==> TooLarge(Depth)
+node n() returns (b: bool) = { b <<999 times &> b >>} ==> Accepted
+node n() returns (b: bool) = { b <<1000 times &> b >>} ==> TooLarge(Depth)
+node n() returns (b: bool) = { b <<999 times fby b >>} ==> Accepted
+node n() returns (b: bool) = { b <<1000 times fby b >>} ==> TooLarge(Depth)";
+
 #[test]
 fn terms_may_be_1000_deep(rt: HostRuntime) -> Result<(), Fail> {
-    let room = Room {
-        head: "node n() returns (b: bool) = ",
-        piece: "b fby ",
-        most: 1000,
-        limit: Limit::Depth,
-    };
-    fill(&rt, rt.alloc(), room, TRACES)?;
-    for piece in ["|> b ", "&> b ", "fby b "] {
-        fill(&rt, rt.alloc(), Room { piece, ..room }, "{ b @} ==> 1")?;
-    }
-    Ok(())
+    fill(&rt, rt.alloc(), TALL, TRACES)?;
+    check(&rt, rt.alloc(), Asked::Answer, WHOLE, JOINED)
 }
+
+const DEEP: Room = Room {
+    head: "",
+    piece: " * 1",
+    most: 5000,
+    past: "TooLarge(Depth)",
+};
 
 // Texts, each with how deep the expression at the sign `@` is where nothing stands there.
 const CONSTRAINTS: &str = "\
@@ -145,22 +153,18 @@ node n() returns (i: int = 1@) = true ==> 1
 let m: int = 1@ node n() returns (b: bool) = { | (m): b } ==> 1
 let m(x: int): int = x node n() returns (b: bool) = { | m(1@): b } ==> 1";
 
-const DEEP: Room<'static> = Room {
-    head: "",
-    piece: " * 1",
-    most: 5000,
-    limit: Limit::Depth,
-};
-
 #[test]
-fn constraints_may_be_5000_deep(rt: HostRuntime) -> Result<(), Fail> {
-    fill(&rt, rt.alloc(), DEEP, CONSTRAINTS)
-}
-
-#[test]
-fn numbers_may_be_5000_deep(rt: HostRuntime) -> Result<(), Fail> {
+fn constraints_and_numbers_may_be_5000_deep(rt: HostRuntime) -> Result<(), Fail> {
+    fill(&rt, rt.alloc(), DEEP, CONSTRAINTS)?;
     fill(&rt, rt.alloc(), DEEP, NUMBERS)
 }
+
+const WIDE: Room = Room {
+    head: "node n() returns (b: bool) = ",
+    piece: "| b ",
+    most: 64,
+    past: "TooLarge(Children)",
+};
 
 // Choices, each with how many alternatives stand already where more may stand.
 const CHOICES: &str = "\
@@ -170,91 +174,47 @@ const CHOICES: &str = "\
 
 #[test]
 fn a_choice_may_have_64_alternatives(rt: HostRuntime) -> Result<(), Fail> {
-    let room = Room {
-        head: "node n() returns (b: bool) = ",
-        piece: "| b ",
-        most: 64,
-        limit: Limit::Children,
-    };
-    fill(&rt, rt.alloc(), room, CHOICES)
+    fill(&rt, rt.alloc(), WIDE, CHOICES)
 }
 
-// So many names with this initial, one alone and each further one behind a comma.
-fn names(alloc: Global, initial: &str, count: usize) -> Result<String, AllocError> {
-    let mut text = String::from_str(alloc, initial)?;
-    for k in 1..count {
-        write!(text, ", {initial}{k}")?;
-    }
-    Ok(text)
-}
+// A node with as many inputs as may be. Each `m` behind it is one more local.
+const NAMED: Room = Room {
+    head: "node n(i<<127 times , %>>: bool) returns (b",
+    piece: " fby m",
+    most: 128,
+    past: "TooLarge(Variables)",
+};
 
-// A node with so many inputs and outputs. Each `m` behind it is one more local.
-fn declaring(alloc: Global, inputs: usize, outputs: usize) -> Result<String, AllocError> {
-    let inputs = names(alloc, "i", inputs)?;
-    let outputs = names(alloc, "b", outputs)?;
-    format!(in alloc;
-        "node n({inputs}: bool) returns ({outputs}: bool) = let m: trace = exist l: bool in l in b"
-    )
-}
+// That there is room for outputs and locals together: there are 1, 127 and 128 outputs.
+const OUTPUTS: &str = "\
+: bool) = let m: trace = exist l: bool in l in b@ ==> 1
+<<126 times , %>>: bool) = let m: trace = exist l: bool in l in b@ ==> 127
+<<127 times , %>>: bool) = let m: trace = exist l: bool in l in b@ ==> 128";
 
-// That there is room for outputs and locals together, beside as many inputs as may be.
-fn fill_locals(rt: &impl Abort, alloc: Global, outputs: usize) -> Result<(), Fail> {
-    let head = declaring(alloc, 128, outputs)?;
-    let row = format!(in alloc; "@ ==> {outputs}")?;
-    let room = Room {
-        head: &head,
-        piece: " fby m",
-        most: 128,
-        limit: Limit::Variables,
-    };
-    fill(rt, alloc, room, &row)
-}
+// One more input, and one more output.
+const MORE: &str = "\
+node n(i<<128 times , %>>: bool) returns (b: bool) = let m: trace = exist l: bool in l in b ==> TooLarge(Variables)
+node n(i: bool) returns (b<<128 times , %>>: bool) = let m: trace = exist l: bool in l in b ==> TooLarge(Variables)";
 
 #[test]
 fn there_may_be_128_inputs_and_128_drawn_variables(rt: HostRuntime) -> Result<(), Fail> {
-    for outputs in [1, 127, 128] {
-        fill_locals(&rt, rt.alloc(), outputs)?;
-    }
-    let past = Some(ExpandRefusal::TooLarge(Limit::Variables));
-    for (inputs, outputs) in [(129, 1), (1, 129)] {
-        let text = declaring(rt.alloc(), inputs, outputs)?;
-        assert_eq!(rt; refusal_of(rt.alloc(), &text)?, past, "{inputs}");
-    }
-    Ok(())
+    fill(&rt, rt.alloc(), NAMED, OUTPUTS)?;
+    check(&rt, rt.alloc(), Asked::Answer, WHOLE, MORE)
 }
-
-// A piece, so many times, and the limit that a trace with these pieces is past.
-#[derive(Clone, Copy)]
-struct Past(&'static str, usize, Limit);
-
-const PAST: [Past; 4] = [
-    Past("l fby ", 128, Limit::Variables),
-    Past("b | ", 64, Limit::Children),
-    Past("b fby ", 1000, Limit::Depth),
-    Past("b fby ", 34_000, Limit::Nodes),
-];
 
 // A bound that may not stand there, before a trace.
 const BEFORE: &str =
     "node n() returns (b: bool) = let l: trace = exist x: bool in x in loop [2,1] b fby ";
 
-// So many pieces before a text.
-fn put_before(alloc: Global, row: Past, text: &str) -> Result<String, AllocError> {
-    let Past(piece, count, _) = row;
-    let pieces = repeated(alloc, piece, count)?;
-    format!(in alloc; "{{ {pieces} b }} fby {text}")
-}
+// Each row stands before what is past the limits of the rows above it, which come later. All come before the bound, which
+// stands first in the text.
+const PAST: &str = "\
+{ <<128 times l fby >> b } fby b ==> TooLarge(Variables)
+{ <<64 times b | >> b } fby { <<128 times l fby >> b } fby b ==> TooLarge(Children)
+{ <<1000 times b fby >> b } fby { <<64 times b | >> b } fby { <<128 times l fby >> b } fby b ==> TooLarge(Depth)
+{ <<34000 times b fby >> b } fby { <<1000 times b fby >> b } fby { <<64 times b | >> b } fby { <<128 times l fby >> b } fby b ==> TooLarge(Nodes)";
 
-// Each row stands before those above it, whose limits come later. All come before the bound, which stands first in the text.
 #[test]
 fn the_first_limit_is_told(rt: HostRuntime) -> Result<(), Fail> {
-    let mut trace = String::from_str(rt.alloc(), "b")?;
-    for row in PAST {
-        trace = put_before(rt.alloc(), row, &trace)?;
-        let text = format!(in rt.alloc(); "{BEFORE}{trace}")?;
-        let Past(piece, _, limit) = row;
-        let refusal = Some(ExpandRefusal::TooLarge(limit));
-        assert_eq!(rt; refusal_of(rt.alloc(), &text)?, refusal, "{piece}");
-    }
-    Ok(())
+    check(&rt, rt.alloc(), Asked::Answer, BEFORE, PAST)
 }

@@ -1,7 +1,8 @@
 //! That a macro is replaced by what it means, a parameter by its argument, and that a name keeps the meaning of the
 //! place where it was written.
 
-use crate::row::{NODE, WHOLE, stand_for};
+use crate::found::Asked;
+use crate::rows::{NODE, WHOLE, check};
 use std::test::Fail;
 
 const ROWS: &str = "\
@@ -67,6 +68,6 @@ let m: bool = true let l: bool = not m node n() returns () = let m: bool = l in 
 
 #[test]
 fn a_macro_is_replaced_by_what_it_means(rt: HostRuntime) -> Result<(), Fail> {
-    stand_for(&rt, rt.alloc(), NODE, 2, ROWS)?;
-    stand_for(&rt, rt.alloc(), WHOLE, 2, TEXTS)
+    check(&rt, rt.alloc(), Asked::Scenario, NODE, ROWS)?;
+    check(&rt, rt.alloc(), Asked::Scenario, WHOLE, TEXTS)
 }

@@ -1,7 +1,8 @@
 //! That locals and counted loops are numbered in the order in which they stand in the expansion, each in a sequence of
 //! its own.
 
-use crate::row::{NODE, stand_for};
+use crate::found::Asked;
+use crate::rows::{NODE, check};
 use std::test::Fail;
 
 const ROWS: &str = "\
@@ -43,5 +44,5 @@ exist x: bool in loop [1,2] exist y: bool in loop ~4:1 y ==> (exist 0 in (count 
 
 #[test]
 fn locals_and_counters_are_numbered_in_preorder(rt: HostRuntime) -> Result<(), Fail> {
-    stand_for(&rt, rt.alloc(), NODE, 2, ROWS)
+    check(&rt, rt.alloc(), Asked::Scenario, NODE, ROWS)
 }

@@ -1,6 +1,7 @@
 //! Which refusal is told where there are several: the first kind, and of that the first in the order of the expansion.
 
-use crate::row::{KINDS, judge};
+use crate::found::Asked;
+use crate::rows::{KINDS, WHOLE, check};
 use std::test::Fail;
 
 const TEXTS: &str = "\
@@ -50,6 +51,6 @@ let m(a: int; w: int): bool = b in m(x * y, if b then 1 else 2) ==> Accepted";
 
 #[test]
 fn the_first_refusal_is_told(rt: HostRuntime) -> Result<(), Fail> {
-    judge(&rt, rt.alloc(), "", TEXTS)?;
-    judge(&rt, rt.alloc(), KINDS, ROWS)
+    check(&rt, rt.alloc(), Asked::Answer, WHOLE, TEXTS)?;
+    check(&rt, rt.alloc(), Asked::Answer, KINDS, ROWS)
 }

@@ -1,6 +1,7 @@
 //! Why a text has no scenario, and what is to blame.
 
-use crate::row::{KINDS, judge};
+use crate::found::Asked;
+use crate::rows::{KINDS, check};
 use std::test::Fail;
 
 const ROWS: &str = "\
@@ -102,5 +103,5 @@ let m(w: int): trace = { | w: b } in m(i) fby m(@y@) ==> ControllableWeight";
 
 #[test]
 fn each_cause_has_its_place(rt: HostRuntime) -> Result<(), Fail> {
-    judge(&rt, rt.alloc(), KINDS, ROWS)
+    check(&rt, rt.alloc(), Asked::Answer, KINDS, ROWS)
 }

@@ -5,7 +5,7 @@
 //! is composed. Locals, counters and exceptions follow in the order of their numbers, which count from 0. A real stands
 //! in units of its last decimal: `25u` is 0.25 at two decimals.
 
-use crate::row::halves;
+use crate::rows::halves;
 use Piece::{Alternatives, Expression, Nothing, Number, Raw, Trace, Word};
 use lt_formula::{BinaryOperator, Role, Shape, UnaryOperator};
 use lt_num::{Kind, Value};
@@ -25,7 +25,6 @@ enum Piece<'a> {
 }
 
 // A text in which each sign `@` stands for a part, in order.
-#[derive(Clone, Copy)]
 struct Whole<'a>(&'static str, Piece<'a>, Piece<'a>, Piece<'a>);
 
 // More pieces than a scenario has that is within the limits.
@@ -34,13 +33,18 @@ const MOST_PIECES: usize = 1_000_000;
 /// A scenario.
 pub fn shown(alloc: Global, of: &Scenario) -> Result<String, AllocError> {
     let mut out = String::from_str(alloc, &of.name)?;
-    put_variables(&mut out, " < ", &of.inputs)?;
-    put_variables(&mut out, " > ", &of.outputs)?;
-    out.push_str(": ")?;
-    put_trace(alloc, &mut out, of)?;
-    put_variables(&mut out, "; ", &of.locals)?;
-    put_numbered(&mut out, of)?;
+    put_scenario(alloc, &mut out, of)?;
     Ok(out)
+}
+
+// A scenario behind the name of its node.
+fn put_scenario(alloc: Global, out: &mut String, of: &Scenario) -> Result<(), AllocError> {
+    put_variables(out, " < ", &of.inputs)?;
+    put_variables(out, " > ", &of.outputs)?;
+    out.push_str(": ")?;
+    put_trace(alloc, out, of)?;
+    put_variables(out, "; ", &of.locals)?;
+    put_numbered(out, of)
 }
 
 // Counters and exceptions.
@@ -93,17 +97,27 @@ fn put_trace(alloc: Global, out: &mut String, of: &Scenario) -> Result<(), Alloc
         let Some(piece) = waiting.pop() else {
             return Ok(());
         };
-        match piece {
-            Nothing => {}
-            Word(word) => out.push_str(word)?,
-            Number(number) => write!(out, "{number}")?,
-            Raw(kind, value) => put_value(out, kind, value)?,
-            Expression(number) => wait_for(&mut waiting, expression(of, number))?,
-            Trace(term) => wait_for(&mut waiting, trace(term))?,
-            Alternatives(parts) => wait_for(&mut waiting, alternatives(parts))?,
-        }
+        put_piece(out, &mut waiting, of, piece)?;
     }
     out.push_str(" ..")
+}
+
+// Writes a piece, or puts what it is composed of before what waits.
+fn put_piece<'a>(
+    out: &mut String,
+    waiting: &mut Vec<Piece<'a>>,
+    of: &'a Scenario,
+    piece: Piece<'a>,
+) -> Result<(), AllocError> {
+    match piece {
+        Nothing => Ok(()),
+        Word(word) => out.push_str(word),
+        Number(number) => write!(out, "{number}"),
+        Raw(kind, value) => put_value(out, kind, value),
+        Expression(number) => wait_for(waiting, expression(of, number)),
+        Trace(term) => wait_for(waiting, trace(term)),
+        Alternatives(parts) => wait_for(waiting, alternatives(parts)),
+    }
 }
 
 // Puts what a piece is composed of before what waits.

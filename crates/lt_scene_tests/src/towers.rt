@@ -4,38 +4,40 @@
 //! first, that of each further one, in which `#` stands for the name of the one before, and a trace, in which it stands
 //! for the name of the last.
 
-use crate::row::{NODE, halves, meaning_of, refusal_of};
-use lt_expand::{ExpandRefusal, Limit};
+use crate::found::Asked;
+use crate::rows::{NODE, check_row, halves};
 use std::alloc::{AllocError, Global};
 use std::process::Abort;
 use std::test::Fail;
 
-// A text with the name of a macro for each sign.
-fn put_named(out: &mut String, text: &str, level: usize) -> Result<(), AllocError> {
-    for sign in text.chars() {
-        if sign == '#' {
-            write!(out, "d{level}")?;
-        } else {
-            out.push(sign)?;
+// That what is asked of each tower, with so many macros above the first, has this answer, and behind it what its row says.
+fn check_towers(
+    rt: &impl Abort,
+    alloc: Global,
+    asked: Asked,
+    levels: usize,
+    answer: &str,
+    towers: &str,
+) -> Result<(), Fail> {
+    for tower in towers.lines() {
+        if !tower.starts_with("--") {
+            let row = row_of(alloc, levels, answer, tower)?;
+            check_row(rt, alloc, asked, &row)?;
         }
     }
     Ok(())
 }
 
-// The text of a tower of so many macros above the first.
-fn text_of(alloc: Global, tower: &str, levels: usize) -> Result<String, AllocError> {
+// The row of a tower.
+fn row_of(alloc: Global, levels: usize, answer: &str, tower: &str) -> Result<String, AllocError> {
+    let (node, _) = halves(NODE, " ==> ");
+    let (tower, meaning) = halves(tower, " ==> ");
     let (head, rest) = halves(tower, " = ");
     let (first, rest) = halves(rest, ", then ");
     let (next, body) = halves(rest, ", in ");
-    let mut out = format!(in alloc; "let d0{head} = {first} ")?;
-    for level in 0..levels {
-        write!(out, "let d{}{head} = ", level + 1)?;
-        put_named(&mut out, next, level)?;
-        out.push(' ')?;
-    }
-    out.push_str(NODE.text)?;
-    put_named(&mut out, body, levels)?;
-    Ok(out)
+    format!(in alloc;
+        "let d0{head} = {first} <<{levels} times let %{head} = {next} >>{node}{body} ==> {answer}{meaning}"
+    )
 }
 
 const HANDING: &str = "\
@@ -61,47 +63,16 @@ const HANDING: &str = "\
 (a: bool): bool = true, then #(a and #(a)), in #(b) ==> true
 : trace = true, then { # fby # }, in b ==> b";
 
-// That the text of each row stands for what the row says, with so many macros above the first.
-fn stand_for(rt: &impl Abort, alloc: Global, levels: usize, rows: &str) -> Result<(), Fail> {
-    for row in rows.lines() {
-        if row.starts_with("--") {
-            continue;
-        }
-        let (tower, meaning) = halves(row, " ==> ");
-        let text = text_of(alloc, tower, levels)?;
-        let found = meaning_of(alloc, &text, None, 2)?;
-        assert_eq!(rt; found.strip_prefix(NODE.meaning), Some(meaning), "{row}");
-    }
-    Ok(())
-}
-
-#[test]
-fn macros_that_hand_a_parameter_on_cost_nothing(rt: HostRuntime) -> Result<(), Fail> {
-    stand_for(&rt, rt.alloc(), 90, HANDING)
-}
-
+// The same of as many macros as a text may have.
 const CHAINS: &str = "\
 : bool = true, then #, in # and d0 and d5000 ==> ((true and true) and true)
 (t: trace): trace = t, then #(t), in #(b) fby d5000(c) ==> (b fby c)";
 
 #[test]
-fn a_text_may_have_10000_macros(rt: HostRuntime) -> Result<(), Fail> {
-    stand_for(&rt, rt.alloc(), 10_000, CHAINS)
-}
-
-// That the text of each row has this answer, with so many macros above the first.
-fn answer(
-    rt: &impl Abort,
-    alloc: Global,
-    levels: usize,
-    rows: &str,
-    refusal: Option<ExpandRefusal>,
-) -> Result<(), Fail> {
-    for tower in rows.lines() {
-        let text = text_of(alloc, tower, levels)?;
-        assert_eq!(rt; refusal_of(alloc, &text)?, refusal, "{levels} {tower}");
-    }
-    Ok(())
+fn macros_that_hand_a_parameter_on_cost_nothing(rt: HostRuntime) -> Result<(), Fail> {
+    let (_, shown) = halves(NODE, " ==> ");
+    check_towers(&rt, rt.alloc(), Asked::Scenario, 90, shown, HANDING)?;
+    check_towers(&rt, rt.alloc(), Asked::Scenario, 10_000, shown, CHAINS)
 }
 
 // One deeper at each level.
@@ -123,25 +94,25 @@ const DOUBLE: &str = "\
 // Twice as many locals, beside the two outputs of the node: 2^6 of them are fewer than 126, and 2^7 are more.
 const DOUBLE_LOCALS: &str = ": trace = exist x: bool in true, then { # fby # }, in #";
 
-// Rows with how many macros they may have above the first, and the limit that they are past with one more.
-#[derive(Clone, Copy)]
-struct Growing(&'static str, usize, Limit);
-
-const GROWING: [Growing; 4] = [
-    Growing(DEEP_EXPRESSIONS, 4999, Limit::Depth),
-    Growing(DEEP_TRACES, 999, Limit::Depth),
-    Growing(DOUBLE, 15, Limit::Nodes),
-    Growing(DOUBLE_LOCALS, 6, Limit::Variables),
-];
+// That towers may have so many macros above the first, and with one more have this answer.
+fn grow(rt: &impl Abort, alloc: Global, most: usize, past: &str, towers: &str) -> Result<(), Fail> {
+    check_towers(rt, alloc, Asked::Answer, most, "Accepted", towers)?;
+    check_towers(
+        rt,
+        alloc,
+        Asked::Answer,
+        most.saturating_add(1),
+        past,
+        towers,
+    )
+}
 
 #[test]
 fn towers_grow_to_the_limits(rt: HostRuntime) -> Result<(), Fail> {
-    for Growing(rows, most, limit) in GROWING {
-        let past = Some(ExpandRefusal::TooLarge(limit));
-        answer(&rt, rt.alloc(), most, rows, None)?;
-        answer(&rt, rt.alloc(), most.saturating_add(1), rows, past)?;
-    }
-    Ok(())
+    grow(&rt, rt.alloc(), 4999, "TooLarge(Depth)", DEEP_EXPRESSIONS)?;
+    grow(&rt, rt.alloc(), 999, "TooLarge(Depth)", DEEP_TRACES)?;
+    grow(&rt, rt.alloc(), 15, "TooLarge(Nodes)", DOUBLE)?;
+    grow(&rt, rt.alloc(), 6, "TooLarge(Variables)", DOUBLE_LOCALS)
 }
 
 const DOUBLING: &str = "\
@@ -153,6 +124,12 @@ const DOUBLING: &str = "\
 
 #[test]
 fn doubling_towers_are_too_large(rt: HostRuntime) -> Result<(), Fail> {
-    let past = Some(ExpandRefusal::TooLarge(Limit::Nodes));
-    answer(&rt, rt.alloc(), 90, DOUBLING, past)
+    check_towers(
+        &rt,
+        rt.alloc(),
+        Asked::Answer,
+        90,
+        "TooLarge(Nodes)",
+        DOUBLING,
+    )
 }

@@ -1,6 +1,7 @@
 //! The variables of a scenario, and which node it is the scenario of.
 
-use crate::row::{WHOLE, meaning_of, stand_for};
+use crate::found::Asked;
+use crate::rows::{WHOLE, check};
 use std::test::Fail;
 
 // Nodes with inputs (`<`) and outputs (`>`), at two decimals.
@@ -25,9 +26,9 @@ node n() returns (r: real [-0.5;1.4] = 2.0 / 3.0; i: int [0;5] = 7 / 2) = true =
 
 #[test]
 fn variables_have_kinds_ranges_and_first_values(rt: HostRuntime) -> Result<(), Fail> {
-    stand_for(&rt, rt.alloc(), WHOLE, 2, NODES)?;
-    stand_for(&rt, rt.alloc(), WHOLE, 0, ROUGH)?;
-    stand_for(&rt, rt.alloc(), WHOLE, 6, FINE)
+    check(&rt, rt.alloc(), Asked::Scenario, WHOLE, NODES)?;
+    check(&rt, rt.alloc(), Asked::RoughScenario, WHOLE, ROUGH)?;
+    check(&rt, rt.alloc(), Asked::FineScenario, WHOLE, FINE)
 }
 
 // A text whose second node has no scenario, and whose third one sees more macros than the first.
@@ -37,26 +38,20 @@ node bad() returns (b: bool) = loop [2,1] b
 let k: bool = not m
 node m() returns (c: bool) = k";
 
-// Names that are asked for, with what is answered.
-#[derive(Clone, Copy)]
-struct Asked(Option<&'static str>, &'static str);
-
-const ASKED: [Asked; 8] = [
-    Asked(None, "n > b: bool [0;1]: b"),
-    Asked(Some("n"), "n > b: bool [0;1]: b"),
-    Asked(Some("m"), "m > c: bool [0;1]: (not true)"),
-    Asked(Some("k"), "UnknownNode"),
-    Asked(Some(""), "UnknownNode"),
-    Asked(Some("N"), "UnknownNode"),
-    Asked(Some("nn"), "UnknownNode"),
-    Asked(Some("b"), "UnknownNode"),
-];
+// The first node, and nodes that are asked for by their names.
+const ASKED: &str = "\
+-- No name is asked for.
+ ==> n > b: bool [0;1]: b
+-- One is.
+ asked for n ==> n > b: bool [0;1]: b
+ asked for m ==> m > c: bool [0;1]: (not true)
+ asked for k ==> UnknownNode
+ asked for  ==> UnknownNode
+ asked for N ==> UnknownNode
+ asked for nn ==> UnknownNode
+ asked for b ==> UnknownNode";
 
 #[test]
 fn the_node_that_is_asked_for_is_answered(rt: HostRuntime) -> Result<(), Fail> {
-    for Asked(name, answer) in ASKED {
-        let found = meaning_of(rt.alloc(), SEVERAL, name, 2)?;
-        assert_eq!(rt; found.as_str(), answer, "{name:?}");
-    }
-    Ok(())
+    check(&rt, rt.alloc(), Asked::Scenario, SEVERAL, ASKED)
 }
