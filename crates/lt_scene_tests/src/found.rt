@@ -5,7 +5,7 @@ ghost use Rattle.lt_num.specs.Bounds.{most_decimals};
 
 use crate::shown::shown;
 use lt_expand::{ExpandRefusal, expand};
-use lt_macros::{Expanded, Node, NodeRefusal, expanded_node};
+use lt_macros::{Expanded, Node, expanded_node};
 use lt_parser::parse;
 use lt_term::Scenario;
 use lt_types::{Typed, check};
@@ -94,17 +94,23 @@ fn told_scenario(alloc: Global, asked: Asked, of: &Scenario) -> Result<String, A
 
 // The place of what a node holds in an instant.
 fn place_of(alloc: Global, text: &str, name: Option<&str>) -> Result<String, Fail> {
-    let typed = typed_of(alloc, text, 2)?;
-    told_place(alloc, &expanded_node(alloc, &typed, name))
+    let node = node_of(alloc, text, name)?;
+    Ok(told_place(alloc, &node.body)?)
 }
 
-// The same of its tree; nothing where that is something else.
-fn told_place(alloc: Global, answer: &Result<Node, NodeRefusal>) -> Result<String, Fail> {
-    if let Ok(node) = answer
-        && let Expanded::Con(constraint) = &node.body
-    {
-        let place = constraint.place();
-        return Ok(format!(in alloc; "{}-{}", place.start, place.end)?);
+// The tree of a node.
+fn node_of(alloc: Global, text: &str, name: Option<&str>) -> Result<Node, Fail> {
+    let typed = typed_of(alloc, text, 2)?;
+    Ok(expanded_node(alloc, &typed, name)?)
+}
+
+// The place of what a trace holds in an instant; nothing where it stands for something else.
+fn told_place(alloc: Global, body: &Expanded) -> Result<String, AllocError> {
+    match body {
+        Expanded::Con(constraint) => {
+            let place = constraint.place();
+            format!(in alloc; "{}-{}", place.start, place.end)
+        }
+        _ => Ok(String::new(alloc)),
     }
-    Ok(String::new(alloc))
 }

@@ -26,16 +26,12 @@ let m(x: bool): bool = not x in m(b) fby m(b) fby not b ==> 2
 let m: trace = exist x: bool in not x in m fby m ==> 4
 if b then c else if b then c else c ==> 4";
 
-#[test]
-fn equal_expressions_are_one(rt: HostRuntime) -> Result<(), Fail> {
-    check(&rt, rt.alloc(), Asked::Count, NODE, EXPRESSIONS)
-}
-
-// That is the place of `not x` in the macro.
+// The place of `not x` in the macro.
 const PLACE: &str =
     "let m(x: bool): bool = not x node n() returns (b: bool) = m(b) asked for n ==> 23-28";
 
 #[test]
-fn a_node_is_expanded_to_a_tree(rt: HostRuntime) -> Result<(), Fail> {
+fn equal_expressions_are_one_and_parts_have_their_places(rt: HostRuntime) -> Result<(), Fail> {
+    check(&rt, rt.alloc(), Asked::Count, NODE, EXPRESSIONS)?;
     check(&rt, rt.alloc(), Asked::Place, WHOLE, PLACE)
 }

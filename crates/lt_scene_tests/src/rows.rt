@@ -76,28 +76,27 @@ fn found_in(alloc: Global, asked: Asked, written: &str) -> Result<String, Fail> 
     found_of(alloc, asked, &text)
 }
 
-// Puts what stands behind a sign `<<`, and counts the pieces.
+// Puts what stands behind a sign `<<`, or before the first one, and counts the pieces.
 fn put_part(text: &mut String, pieces: &mut usize, part: &str) -> Result<(), Fail> {
-    let Some((repeated, rest)) = part.split_once(">>") else {
-        return Ok(put_piece(text, *pieces, part)?);
-    };
-    let (times, piece) = repeated.split_once(" times ").ok_or("no `times`")?;
+    let (repeated, rest) = part.split_once(">>").unwrap_or(("0 times ", part));
+    let (times, piece) = halves(repeated, " times ");
     for _ in 0..times.parse::<usize>()? {
         put_piece(text, *pieces, piece)?;
         *pieces = pieces.saturating_add(1);
     }
-    Ok(put_piece(text, *pieces, rest)?)
+    put_piece(text, *pieces, rest)
 }
 
 // Puts a text before which so many pieces stand.
-fn put_piece(text: &mut String, pieces: usize, piece: &str) -> Result<(), AllocError> {
+fn put_piece(text: &mut String, pieces: usize, piece: &str) -> Result<(), Fail> {
     for sign in piece.chars() {
-        match sign {
-            '@' => {}
-            '%' => write!(text, "d{}", pieces.saturating_add(1))?,
-            '#' => write!(text, "d{pieces}")?,
-            other => text.push(other)?,
-        }
+        let put = match sign {
+            '@' => Ok(()),
+            '%' => write!(text, "d{}", pieces.saturating_add(1)),
+            '#' => write!(text, "d{pieces}"),
+            other => text.push(other),
+        };
+        put?;
     }
     Ok(())
 }

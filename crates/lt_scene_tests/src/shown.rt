@@ -61,15 +61,24 @@ fn put_numbered(out: &mut String, of: &Scenario) -> Result<(), AllocError> {
 // Variables, each behind a text.
 fn put_variables(out: &mut String, before: &str, variables: &[Var]) -> Result<(), AllocError> {
     for variable in variables {
-        let kind = kind_word(variable.kind);
-        let (low, high) = (variable.range.low, variable.range.high);
-        write!(out, "{before}{}: {kind} [{low};{high}]", variable.name)?;
-        if let Some(first) = variable.first {
-            out.push_str(" = ")?;
-            put_value(out, variable.kind, first)?;
-        }
+        out.push_str(before)?;
+        put_variable(out, variable)?;
     }
     Ok(())
+}
+
+// A variable, with its raw range and its first value, where it has one.
+fn put_variable(out: &mut String, variable: &Var) -> Result<(), AllocError> {
+    let kind = kind_word(variable.kind);
+    let (low, high) = (variable.range.low, variable.range.high);
+    write!(out, "{}: {kind} [{low};{high}]", variable.name)?;
+    match variable.first {
+        Some(first) => {
+            out.push_str(" = ")?;
+            put_value(out, variable.kind, first)
+        }
+        None => Ok(()),
+    }
 }
 
 // The word of a kind.
@@ -93,11 +102,20 @@ fn put_value(out: &mut String, kind: Kind, value: Value) -> Result<(), AllocErro
 // What a scenario does. The pieces that are still to be written wait in a list, the next one last.
 fn put_trace(alloc: Global, out: &mut String, of: &Scenario) -> Result<(), AllocError> {
     let mut waiting = vec![in alloc; Trace(&of.body)]?;
+    put_waiting(out, &mut waiting, of)
+}
+
+// Writes what waits.
+fn put_waiting<'a>(
+    out: &mut String,
+    waiting: &mut Vec<Piece<'a>>,
+    of: &'a Scenario,
+) -> Result<(), AllocError> {
     for _ in 0..MOST_PIECES {
         let Some(piece) = waiting.pop() else {
             return Ok(());
         };
-        put_piece(out, &mut waiting, of, piece)?;
+        put_piece(out, waiting, of, piece)?;
     }
     out.push_str(" ..")
 }
