@@ -1,6 +1,6 @@
 //! Formulas with ample memory, which no clause can promise, and that they mean what the rules say.
 
-use crate::rows::{Topic, check};
+use crate::rows::{Told, Topic, check};
 use crate::sheet::{Sheet, known};
 use crate::shown::put_formula_or_refusal;
 use lt_linear::{Form, form_compare};
@@ -52,7 +52,13 @@ pub(crate) fn put_stated(found: &mut String, alloc: Global, sheet: &Sheet) -> Re
 
 #[test]
 fn formulas_of_expressions(rt: HostRuntime) -> Result<(), Fail> {
-    check(&rt, rt.alloc(), Topic::Formula, FORMULAS, 20)
+    check(
+        &rt,
+        rt.alloc(),
+        Topic::Expressions(Told::Formula),
+        FORMULAS,
+        20,
+    )
 }
 
 #[test]

@@ -1,6 +1,6 @@
 //! Parts of constraints, and what a load says of their atoms. What is expected was worked out by hand from the rules.
 
-use crate::rows::{Topic, check};
+use crate::rows::{Told, Topic, check};
 use crate::sheet::{Sheet, known};
 use crate::shown::{put_formula, put_loaded};
 use lt_num::Arith;
@@ -104,7 +104,13 @@ fn put_atom_or_fault(
 
 #[test]
 fn parts_and_their_atoms(rt: HostRuntime) -> Result<(), Fail> {
-    check(&rt, rt.alloc(), Topic::Parts, PARTS, 4)?;
-    check(&rt, rt.alloc(), Topic::MostAtoms, COUNTS, 3)?;
-    check(&rt, rt.alloc(), Topic::Atom, ATOMS, 13)
+    check(&rt, rt.alloc(), Topic::Expressions(Told::Parts), PARTS, 4)?;
+    check(
+        &rt,
+        rt.alloc(),
+        Topic::Expressions(Told::MostAtoms),
+        COUNTS,
+        3,
+    )?;
+    check(&rt, rt.alloc(), Topic::Expressions(Told::Atom), ATOMS, 13)
 }

@@ -22,19 +22,26 @@ pub(crate) enum Topic {
     /// An operation on a form: what it makes of it, or why there is nothing.
     Operation,
 
-    /// An expression: the formula that it stands for, or its fault.
+    /// Expressions, in the words of [`Sheet::of`], and behind them what else a search is given.
+    Expressions(Told),
+}
+
+/// What is told of expressions.
+#[derive(Clone, Copy)]
+pub(crate) enum Told {
+    /// Of an expression: the formula that it stands for, or its fault.
     Formula,
 
-    /// A constraint: its parts.
+    /// Of a constraint: its parts.
     Parts,
 
-    /// A constraint: how many atoms one of its parts has at most.
+    /// Of a constraint: how many atoms one of its parts has at most.
     MostAtoms,
 
-    /// A constraint, and an atom of it: what a load of the constraint says of the atom, or the fault that it meets.
+    /// Of a constraint, and an atom of it: what a load of the constraint says of the atom, or the fault that it meets.
     Atom,
 
-    /// Constraints, and what else a search is given: what it finds.
+    /// Of constraints, and of what else a search is given: what it finds.
     Search,
 
     /// The same, where two small ints are in scope.
@@ -79,7 +86,7 @@ fn put_told(found: &mut String, alloc: Global, topic: Topic, given: &str) -> Res
     match topic {
         Topic::Spelling => put_spelled(found, alloc, given),
         Topic::Operation => put_operated(found, alloc, given),
-        _ => put_told_of_expressions(found, alloc, topic, given),
+        Topic::Expressions(told) => put_told_of_expressions(found, alloc, told, given),
     }
 }
 
@@ -87,29 +94,29 @@ fn put_told(found: &mut String, alloc: Global, topic: Topic, given: &str) -> Res
 fn put_told_of_expressions(
     found: &mut String,
     alloc: Global,
-    topic: Topic,
+    told: Told,
     given: &str,
 ) -> Result<(), Fail> {
     let (expressions, rest) = halves(given, " in ");
     let sheet = Sheet::of(alloc, expressions)?;
-    put_told_of_sheet(found, alloc, topic, &sheet, rest)
+    put_told_of_sheet(found, alloc, told, &sheet, rest)
 }
 
 // Puts what is told of the expressions of a sheet.
 fn put_told_of_sheet(
     found: &mut String,
     alloc: Global,
-    topic: Topic,
+    told: Told,
     sheet: &Sheet,
     rest: &str,
 ) -> Result<(), Fail> {
-    match topic {
-        Topic::Formula => put_stated(found, alloc, sheet),
-        Topic::Parts => put_parts(found, alloc, sheet),
-        Topic::MostAtoms => put_most(found, alloc, sheet),
-        Topic::Atom => put_atom(found, alloc, sheet),
-        Topic::SearchOfInts => put_found(found, alloc, sheet, &TWO_INTS, question_of(rest)?),
-        _ => put_found(found, alloc, sheet, &RANGES, question_of(rest)?),
+    match told {
+        Told::Formula => put_stated(found, alloc, sheet),
+        Told::Parts => put_parts(found, alloc, sheet),
+        Told::MostAtoms => put_most(found, alloc, sheet),
+        Told::Atom => put_atom(found, alloc, sheet),
+        Told::Search => put_found(found, alloc, sheet, &RANGES, question_of(rest)?),
+        Told::SearchOfInts => put_found(found, alloc, sheet, &TWO_INTS, question_of(rest)?),
     }
 }
 

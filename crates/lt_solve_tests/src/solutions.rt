@@ -1,7 +1,7 @@
 //! First solutions, compared with those that a plain enumeration of all points finds.
 
 use crate::problems::{Problem, RANGES};
-use crate::rows::{Topic, check, check_found};
+use crate::rows::{Told, Topic, check, check_found};
 use crate::searching::put_found;
 use lt_num::Range;
 use std::alloc::Global;
@@ -53,8 +53,20 @@ j + k = 7 , j + k = 7 in -j--k- from 0 0 0 0 0 0 within 31 ==> [4, 4] at 2 decim
 
 #[test]
 fn searches(rt: HostRuntime) -> Result<(), Fail> {
-    check(&rt, rt.alloc(), Topic::Search, SEARCHES, 5)?;
-    check(&rt, rt.alloc(), Topic::SearchOfInts, TARGETS, 4)
+    check(
+        &rt,
+        rt.alloc(),
+        Topic::Expressions(Told::Search),
+        SEARCHES,
+        5,
+    )?;
+    check(
+        &rt,
+        rt.alloc(),
+        Topic::Expressions(Told::SearchOfInts),
+        TARGETS,
+        4,
+    )
 }
 
 // What is found for the problem of a number is what going through all points finds. The answer is whether it has a solution.
