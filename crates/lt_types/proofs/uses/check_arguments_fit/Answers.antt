@@ -12,3 +12,9 @@ returns c = grind (arith, leads, arguments_misfit_none)
 
 pub loop-params-preserved : goal.loop-params-preserved
 loop-params-preserved c = grind (arith, common_steps)
+
+pub returns-in_default-2 : goal.returns-in_default-2
+returns-in_default-2 c = grind (arith, common_steps)
+
+pub returns-in_default-2-2 : goal.returns-in_default-2-2
+returns-in_default-2-2 c = grind (arith, common_steps)
