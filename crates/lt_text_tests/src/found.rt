@@ -163,16 +163,18 @@ fn told_operands(alloc: Global, program: &Program) -> Result<String, AllocError>
     Ok(String::new(alloc))
 }
 
-// The programs of a text that stands 200 times where a trace begins, and one time more.
+// The programs of a text that stands 200 and 201 times where a trace begins.
 fn levels_of(alloc: Global, opener: &str) -> Result<String, AllocError> {
-    let mut text = String::from_str(alloc, NODE)?;
-    for _ in 0..200 {
-        text.push_str(opener)?;
-    }
-    let fewer = program_of(alloc, &text)?;
-    text.push_str(opener)?;
-    let more = program_of(alloc, &text)?;
+    let fewer = level_of(alloc, opener, 200)?;
+    let more = level_of(alloc, opener, 201)?;
     format!(in alloc; "{fewer}{more}")
+}
+
+// The program of a text that stands so many times where a trace begins.
+fn level_of(alloc: Global, opener: &str, times: usize) -> Result<String, AllocError> {
+    let trace = opener.repeat(alloc, times)?;
+    let text = format!(in alloc; "{NODE}{trace}")?;
+    program_of(alloc, &text)
 }
 
 // Whether a text keeps to the rules of types, where a real has so many decimals.

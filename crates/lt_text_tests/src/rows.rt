@@ -23,17 +23,23 @@ pub fn check(
 ) -> Result<(), Fail> {
     for line in table.lines() {
         if !line.starts_with("## ") {
-            let row = written(alloc, head, line)?;
-            check_row(rt, alloc, asked, &row)?;
+            check_row(rt, alloc, asked, head, line)?;
         }
     }
     Ok(())
 }
 
 // The same of a row.
-fn check_row(rt: &impl Abort, alloc: Global, asked: Asked, row: &str) -> Result<(), Fail> {
-    let due = due_of(alloc, row)?;
-    let found = found_in(alloc, asked, row)?;
+fn check_row(
+    rt: &impl Abort,
+    alloc: Global,
+    asked: Asked,
+    head: &str,
+    line: &str,
+) -> Result<(), Fail> {
+    let row = written(alloc, head, line)?;
+    let due = due_of(alloc, &row)?;
+    let found = found_in(alloc, asked, &row)?;
     assert!(rt; found == due, "{found}\nin {row}");
     Ok(())
 }
