@@ -95,7 +95,7 @@ fn told_scenario(alloc: Global, asked: Asked, of: &Scenario) -> Result<String, A
 // The place of what a node holds in an instant.
 fn place_of(alloc: Global, text: &str, name: Option<&str>) -> Result<String, Fail> {
     let node = node_of(alloc, text, name)?;
-    Ok(told_place(alloc, &node.body)?)
+    told_place(alloc, &node.body)
 }
 
 // The tree of a node.
@@ -105,11 +105,11 @@ fn node_of(alloc: Global, text: &str, name: Option<&str>) -> Result<Node, Fail> 
 }
 
 // The place of what a trace holds in an instant; nothing where it stands for something else.
-fn told_place(alloc: Global, body: &Expanded) -> Result<String, AllocError> {
+fn told_place(alloc: Global, body: &Expanded) -> Result<String, Fail> {
     match body {
         Expanded::Con(constraint) => {
             let place = constraint.place();
-            format!(in alloc; "{}-{}", place.start, place.end)
+            Ok(format!(in alloc; "{}-{}", place.start, place.end)?)
         }
         _ => Ok(String::new(alloc)),
     }
