@@ -10,7 +10,7 @@ use Rattle.lt_num.specs.declared.range.Range.{Range}
 count_is : (n k width : ℕ) → 0 < width → n ≡ k * width → n / width ≡ k
 count_is n k width some e = ap (λ m. m / width) (let f : n ≡ k * width + 0 = omega arith in f) ∙ div-mul-add k width 0 some
 
--- the first row, and those behind it
+-- the first row, and those after it
 pub rows_more : (width : ℕ) (cells : List ℤ) (k : ℕ) → 0 < width → length cells ≡ suc k * width → rows_in width cells ≡ take width cells ∷ rows_in width (drop width cells)
 rows_more width cells k some e =
     let rest : length (drop width cells) ≡ k * width = omega (arith, length-drop width cells) in
@@ -26,7 +26,7 @@ pub one_more : (cells : List ℤ) (count width : ℕ) → length cells ≡ count
 one_more cells zero width e h = absurd (omega arith)
 one_more cells (suc k) width e h = (k, refl)
 
--- so many rows, with one behind them
+-- so many rows, with one after them
 rows_from_more : (width k : ℕ) (cells row : List ℤ) → length cells ≡ k * width → length row ≡ width → rows_from width (suc k) (cells ++ row) ≡ rows_from width k cells ++ row ∷ []
 rows_from_more width zero [] row e f = ap (λ r. r ∷ []) (take_all width row (omega arith))
 rows_from_more width zero (c ∷ cs) row e f = absurd (omega (arith, e))
@@ -36,7 +36,7 @@ rows_from_more width (suc k) cells row e f =
     ∙ ap (λ cs. take width cells ∷ rows_from width (suc k) cs) (drop-append-le width cells row first)
     ∙ ap (λ rs. take width cells ∷ rs) (rows_from_more width k (drop width cells) row (omega (arith, length-drop width cells)) f)
 
--- a row behind others
+-- a row after others
 pub rows_pushed : (width count : ℕ) (cells row : List ℤ) → 0 < width → length cells ≡ count * width → length row ≡ width → rows_in width (cells ++ row) ≡ rows_in width cells ++ row ∷ []
 rows_pushed width count cells row some e f =
     let more : length (cells ++ row) ≡ suc count * width = omega (arith, length-append cells row) in
@@ -50,7 +50,7 @@ unfolding passes
 passes_kept zero rows ranges e = refl
 passes_kept (suc more) rows ranges e = ap (λ o. and_then o (passes more rows)) e ∙ passes_kept more rows ranges e
 
--- one pass, and those behind it
+-- one pass, and those after it
 pub passes_more : (n more : ℕ) (rows : List (List ℤ)) (ranges : List Range) (o : Outcome) → n ≡ suc more → rows_taken rows ranges ≡ o → passes n rows ranges ≡ and_then o (passes more rows)
 unfolding passes
 passes_more n more rows ranges o e h = ap (λ m. passes m rows ranges) e ∙ ap (λ o. and_then o (passes more rows)) h
@@ -72,7 +72,7 @@ first_row width cells ranges w h = by_count (one_more cells w.count width w.cell
     by_count : (k : ℕ) × (w.count ≡ suc k) → rows_in width cells ≡ take width cells ∷ rows_in width (drop width cells)
     by_count k = let is = w.width_is in rows_more width cells k.0 (omega arith) (w.cells_are ∙ ap (λ n. n * width) k.1)
 
--- the cells behind it are whole rows too
+-- the cells after it are whole rows too
 pub whole_rest : (width : ℕ) (cells after : List ℤ) (ranges new : List Range) → AreWhole width cells ranges → 0 < length cells → after ≡ drop width cells → length new ≡ length ranges → AreWhole width after new
 whole_rest width cells after ranges new w h a e = by_count (one_more cells w.count width w.cells_are h)
   where
@@ -82,7 +82,7 @@ whole_rest width cells after ranges new w h a e = by_count (one_more cells w.cou
         let all : length cells ≡ suc k.0 * width = w.cells_are ∙ ap (λ n. n * width) k.1 in
         record { width_is = omega arith; count = k.0; cells_are = ap length a ∙ omega (arith, length-drop width cells) }
 
--- one row is taken, and those behind it are left
+-- one row is taken, and those after it are left
 pub turn : (width : ℕ) (cells front after : List ℤ) (ranges : List Range) (o whole : Outcome) → AreWhole width cells ranges → 0 < length cells → front ≡ take width cells → after ≡ drop width cells → o ≡ row_taken front ranges
     → whole ≡ rows_taken (rows_in width cells) ranges → whole ≡ and_then o (rows_taken (rows_in width after))
 turn width cells front after ranges o whole w h f a is left =
@@ -91,7 +91,7 @@ turn width cells front after ranges o whole w h f a is left =
     ∙ ap (λ cs. and_then (row_taken front ranges) (rows_taken (rows_in width cs))) (sym a)
     ∙ ap (λ z. and_then z (rows_taken (rows_in width after))) (sym is)
 
--- how far the first row reaches, and those behind it
+-- how far the first row reaches, and those after it
 pub reach_first : (width : ℕ) (cells front after : List ℤ) (ranges : List Range) → AreWhole width cells ranges → 0 < length cells → front ≡ take width cells → after ≡ drop width cells → ReachesAll (rows_in width cells) ranges
     → (reach front ranges < 2 ^ 126) × ReachesAll (rows_in width after) ranges
 reach_first width cells front after ranges w h f a r =

@@ -53,6 +53,6 @@ whole_same = passes.whole_same
 pub rows_none : (width : ℕ) (cells : List ℤ) → 0 < width → length cells ≡ 0 → rows_in width cells ≡ []
 rows_none = passes.rows_none
 
--- a row behind others
+-- a row after others
 pub rows_pushed : (width count : ℕ) (cells row : List ℤ) → 0 < width → length cells ≡ count * width → length row ≡ width → rows_in width (cells ++ row) ≡ rows_in width cells ++ row ∷ []
 rows_pushed = passes.rows_pushed

@@ -29,7 +29,7 @@ reach_parts [] ranges h = absurd (omega arith)
 reach_parts (c ∷ cs) [] h = omega arith
 reach_parts (a ∷ cs) (r ∷ rs) h = let e = reach_parts cs rs (omega (arith, h)) in omega arith
 
--- the term at a place, and those behind it
+-- the term at a place, and those after it
 terms_more : (row : List ℤ) (ranges : List Range) (i : ℕ) → i < length row → i < length ranges → terms_least (drop i row) (drop i ranges) ≡ least_of (get_or row i (pos 0)) (range_at ranges i) +ℤ terms_least (drop (suc i) row) (drop (suc i) ranges)
 terms_more [] ranges i h l = absurd (omega (arith, h))
 terms_more (c ∷ cs) [] i h l = absurd (omega (arith, l))

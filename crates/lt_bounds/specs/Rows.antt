@@ -17,7 +17,7 @@ rows_in width cells = rows_from width (length cells / width) cells
 abbrev pub rows_of : Rows → List (List ℤ)
 rows_of rows = rows_in rows.width rows.cells.items
 
--- what a row is at a point: each coefficient times its number, and the constant behind them
+-- what a row is at a point: each coefficient times its number, and the constant after them
 abbrev pub row_at : List ℤ → List ℤ → ℤ
 row_at [] point = pos 0
 row_at (c ∷ cs) [] = c

@@ -36,7 +36,7 @@ abbrev pub with_first : ℤ → Option (List ℤ) → Option (List ℤ)
 with_first v None = None
 with_first v (Some vs) = Some (v ∷ vs)
 
--- a test of the numbers behind one
+-- a test of the numbers after one
 abbrev pub behind : (List ℤ → Bool) → ℤ → List ℤ → Bool
 behind holds v values = holds (v ∷ values)
 

@@ -66,7 +66,7 @@ one_variable a b k v t u =
     ∙ sym (sum_times (a *ℤ v -ℤ b *ℤ v) (t -ℤ u) k)
     ∙ ap (λ (z : ℤ). z *ℤ k) (let e : (a *ℤ v -ℤ b *ℤ v) +ℤ (t -ℤ u) ≡ (a *ℤ v +ℤ t) -ℤ (b *ℤ v +ℤ u) = omega (arith, ints) in e)
 
--- the same where one of the two lacks it
+-- one more variable, which one of the two forms lacks
 first_alone : (a k v t u : ℤ) → ((a -ℤ pos 0) *ℤ k) *ℤ v +ℤ (t -ℤ u) *ℤ k ≡ ((a *ℤ v +ℤ t) -ℤ u) *ℤ k
 first_alone a k v t u = one_variable a (pos 0) k v t u ∙ ap (λ (z : ℤ). ((a *ℤ v +ℤ t) -ℤ z) *ℤ k) (let e : pos 0 *ℤ v +ℤ u ≡ u = omega (arith, ints, zero-*ℤ v) in e)
 

@@ -73,7 +73,7 @@ front_right u us =
       pass = λ test z l r. (z, left_of _ _ r, l, right_of (test u.1) _ r);
     }
 
--- the same of lists that are known to begin so
+-- the fronts of lists that are known to begin with these terms
 pub second_is_front : (left right ts us : List Term) (t u : Term) → left ≡ t ∷ ts → right ≡ u ∷ us → u.0 < t.0 → IsFront left right u.0 (pos 0) u.1 left us
 second_is_front left right ts us t u l r h =
     subst (λ (xs : List Term). IsFront xs right u.0 (pos 0) u.1 xs us) (sym l) (subst (λ (ys : List Term). IsFront (t ∷ ts) ys u.0 (pos 0) u.1 (t ∷ ts) us) (sym r) (front_second t u ts us h))

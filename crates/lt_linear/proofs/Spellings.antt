@@ -103,7 +103,7 @@ one_form text a b d g = let e = one_sum text a.terms b.terms a.constant b.consta
 
 -- ---- a text by its first term
 
--- what is spelled by a text with a blank, by its first word and what is behind it
+-- what is spelled by a text with a blank, by its first word and what is after it
 pub record IsOpened (word behind : List ℕ) (least : ℕ) : Type 0 where
   pub term : Term
   pub rest : List ℕ
@@ -267,7 +267,7 @@ is_cut byte text before behind i e f g =
     let h = first_place byte text i p.0 p.1 in
     rw (f, g, add-one) (h.0, h.1)
 
--- what stands behind a place, as a slice up to the end
+-- what stands after a place, as a slice up to the end
 pub behind_place : (text : List ℕ) (k : ℕ) → take (length text - k) (drop k text) ≡ drop k text
 behind_place text k = grind (arith, common_steps)
 

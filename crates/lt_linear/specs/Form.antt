@@ -24,7 +24,7 @@ one i c = if int_eq c (pos 0) then [] else (i, c) ∷ []
 abbrev pub with_term : ℕ → ℤ → List Term → List Term
 with_term i c terms = if int_eq c (pos 0) then terms else (i, c) ∷ terms
 
--- the same of a coefficient and of others that may be past their bounds: then there are none
+-- a term before others, whose coefficients may be past their bounds: then there are none
 abbrev pub before : ℕ → Option ℤ → Option (List Term) → Option (List Term)
 before i None terms = None
 before i (Some c) None = None
@@ -35,7 +35,7 @@ abbrev pub alone : (ℤ → ℤ → Option ℤ) → List Term → Option (List T
 alone f [] = Some []
 alone f (u ∷ us) = before u.0 (f (pos 0) u.1) (alone f us)
 
--- the same of a term, others behind it, for which `rest` stands, and these second ones
+-- what f gives on a term and others after it, for which `rest` stands, and on second terms
 abbrev pub beside : (ℤ → ℤ → Option ℤ) → Term → (List Term → Option (List Term)) → List Term → Option (List Term)
 beside f t rest [] = before t.0 (f t.1 (pos 0)) (rest [])
 beside f t rest (u ∷ us) =

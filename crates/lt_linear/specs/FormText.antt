@@ -1,4 +1,4 @@
--- The texts of forms: terms, and behind them a constant, joined by ` + `. So `2*v0 + -1*v3 + 7` is twice the variable 0, less the
+-- The texts of forms: terms, and after them a constant, joined by ` + `. So `2*v0 + -1*v3 + 7` is twice the variable 0, less the
 -- variable 3, and 7. Of the bytes, 32 is a blank, 42 the `*`, 43 the `+`, and 118 the `v`.
 use Rattle.std.specs.Prelude.{◌≡◌, ℕ, ◌^◌, Bool, true, false, IsTrue, List, [], ◌∷◌, ◌++◌, ℤ, Ok, Err}
 use Rattle.std.specs.Char.{is_ascii_digit}
@@ -34,7 +34,7 @@ SpellsWhole text whole = IsTrue (are_digits (without_minus text)) × (whole_valu
 abbrev pub SpellsTerm : List ℕ → Term → Type 0
 SpellsTerm text term = (coefficient : List ℕ) × (variable : List ℕ) × (text ≡ coefficient ++ 42 ∷ 118 ∷ variable) × SpellsWhole coefficient term.1 × SpellsNumber variable term.0
 
--- A text spells terms and a constant behind them, joined by ` + `.
+-- A text spells terms and a constant after them, joined by ` + `.
 abbrev pub SpellsSum : List ℕ → List Term → ℤ → Type 0
 SpellsSum text [] constant = SpellsWhole text constant
 SpellsSum text (t ∷ ts) constant = (term : List ℕ) × (rest : List ℕ) × (text ≡ term ++ 32 ∷ 43 ∷ 32 ∷ rest) × SpellsTerm term t × SpellsSum rest ts constant

@@ -26,7 +26,7 @@ pub(crate) enum Operation {
     Compared(i64),
 }
 
-// The first variable of two lists of terms, its coefficient in both, and what is behind it in both.
+// The first variable of two lists of terms, its coefficient in both, and what is after it in both.
 #[derive(Clone, Copy)]
 struct Front<'a> {
     variable: u32,
@@ -151,7 +151,7 @@ fn raw_in(answer: Result<Fixed, Arith>) -> Option<i64>
     }
 }
 
-/// Puts a term behind others, unless its coefficient is 0, into reserved room.
+/// Puts a term after others, unless its coefficient is 0, into reserved room.
 pub(crate) fn put(terms: &mut Vec<(u32, i64)>, variable: u32, coefficient: i64)
     requires { vec_len terms.old + 1 ≤ vec_capacity terms.old }
     ensures items { terms.new.items ≡ terms.old.items ++ one variable coefficient }

@@ -10,7 +10,7 @@ use crate::refusal::NumRefusal;
 use crate::spelling::{MOST_RAW, first_term, read_whole, split_at_byte};
 use std::alloc::Global;
 
-/// The form that a text spells: terms, each a coefficient, `*v` and a variable, and behind them a constant,
+/// The form that a text spells: terms, each a coefficient, `*v` and a variable, and after them a constant,
 /// joined by ` + `, as in `2*v0 + -1*v3 + 7`. The terms are in rising order of variable, and no coefficient
 /// is 0.
 ///

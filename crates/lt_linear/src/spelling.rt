@@ -14,7 +14,7 @@ pub(crate) const MOST_RAW: u64 = 1_000_000_000_000;
 // What a greater one is cut to.
 const LEAST_PAST: u64 = MOST_RAW + 1;
 
-/// The first term of a text, and what stands behind the plus after it.
+/// The first term of a text, and what stands after the plus that follows it.
 #[derive(Clone, Copy)]
 pub(crate) struct FirstTerm<'a> {
     /// The term's variable.
@@ -23,11 +23,11 @@ pub(crate) struct FirstTerm<'a> {
     /// Its coefficient, cut.
     pub(crate) coefficient: i64,
 
-    /// What stands behind the plus.
+    /// What stands after the plus.
     pub(crate) rest: &'a [u8],
 }
 
-/// The first term of a text, from its first word and what stands behind the blank after it. There is none
+/// The first term of a text, from its first word and what stands after the blank that follows it. There is none
 /// where its variable is below `least`, or its coefficient is 0.
 pub(crate) fn first_term<'a>(word: &[u8], behind: &'a [u8], least: u64) -> Option<FirstTerm<'a>>
     requires { IsTrue (lacks 32 word.now) }
@@ -50,7 +50,7 @@ pub(crate) fn first_term<'a>(word: &[u8], behind: &'a [u8], least: u64) -> Optio
     })
 }
 
-/// What stands before the first byte of a kind, and what stands behind it.
+/// What stands before the first byte of a kind, and what stands after it.
 pub(crate) fn split_at_byte(text: &[u8], byte: u8) -> Option<(&[u8], &[u8])>
     ensures { MatchOption result
         (IsTrue (lacks byte text.now))
@@ -88,7 +88,7 @@ fn read_term(word: &[u8]) -> Option<(u32, i64)>
     Some((read_variable(number)?, read_whole(coefficient)?))
 }
 
-// What stands behind a plus and a blank.
+// What stands after a plus and a blank.
 fn after_plus(text: &[u8]) -> Option<&[u8]>
     ensures { MatchOption result
         ((rest : List ℕ) → text.now ≢ 43 ∷ 32 ∷ rest)
@@ -100,7 +100,7 @@ fn after_plus(text: &[u8]) -> Option<&[u8]>
     }
 }
 
-// What stands behind a byte.
+// What stands after a byte.
 fn after(text: &[u8], byte: u8) -> Option<&[u8]>
     ensures { MatchOption result
         ((rest : List ℕ) → text.now ≢ byte ∷ rest)

@@ -72,7 +72,7 @@ count_by-digits (b ∷ bs) h =
 
 -- ---- from the form to the parts
 
--- the parts before and behind the point
+-- the parts before and after the point
 pub record HasParts (bs : List ℕ) : Type 0 where
   pub whole : all_ascii_digits (before_first is_point bs) ≡ true
   pub decimals : all_ascii_digits (after_first is_point bs) ≡ true

@@ -18,7 +18,7 @@ first-next : (n decimals : ℕ) (slots : List Slot) (s : Stream) → first_of n 
 first-next zero decimals slots s = refl
 first-next (suc n) decimals slots s = refl
 
--- one call, where those behind it find the replies of what it left
+-- one call, where those after it find the replies of what it left
 found-by : (call : Fed) (old after : Reading) (piece rest : List ℕ) (values : List Value) (closed : Bool) (decimals : ℕ) (slots : List Slot) (more : List Finding)
     → old.begun.decimals ≡ decimals → old.slots ≡ slots → FedTells old piece call after values
     → more ≡ first_of (length more) decimals slots (answer after (left_of piece call rest) closed)

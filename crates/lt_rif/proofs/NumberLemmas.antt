@@ -53,7 +53,7 @@ quotient-none n digits small many =
     let least = ten-rising 37 digits (omega arith) in
     div-eq_of_lt (omega arith)
 
--- zeros behind a number that isn't 0
+-- zeros after a number that isn't 0
 pub enlarged-past : (n zeros : ℕ) → 0 < n → 12 < zeros → 1_000_000_000_000 < n * 10 ^ zeros
 enlarged-past n zeros some many =
     let least = ten-rising 13 zeros (omega arith) in

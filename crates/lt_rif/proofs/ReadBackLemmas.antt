@@ -27,12 +27,12 @@ use Rattle.lt_rif.proofs.WordLemmas.{own, no-digit, feed-digit, part-at, part-no
 
 -- ---- fields of words
 
--- with a space behind each
+-- with a space after each
 abbrev head_fields : List (List ℕ) → List Field
 head_fields [] = []
 head_fields (w ∷ words) = record { gap = []; word = w; blank = 32 } ∷ head_fields words
 
--- with a space between two, and a blank behind the last
+-- with a space between two, and a blank after the last
 abbrev tail_fields : List (List ℕ) → ℕ → List Field
 tail_fields [] last = []
 tail_fields (w ∷ []) last = record { gap = []; word = w; blank = last } ∷ []
@@ -188,7 +188,7 @@ locals-none decimals (k ∷ kinds) (None ∷ locals) sized = locals-none decimal
 locals-none decimals (k ∷ kinds) (Some v ∷ locals) sized =
     none-append (codes " " ++ value_text decimals k v) (behind_space (local_words decimals kinds locals)) (value-none decimals k v sized.0) (locals-none decimals kinds locals sized.1)
 
--- a first word, and what stands behind a space
+-- a first word, and what stands after a space
 word-then : (w : List ℕ) (words : List (List ℕ)) → list_any is_blank w ≡ false → before_first is_blank (w ++ behind_space words) ≡ w
 word-then w [] none = ap (before_first is_blank) (append-nil w) ∙ (part-none is_blank w none).0
 word-then w (v ∷ words) none =
@@ -201,7 +201,7 @@ unfolding class_of
 locals-comment decimals kinds locals sized =
     (ap class_of (word-then (codes "#locs") (local_words decimals kinds locals) refl), locals-none decimals kinds locals sized)
 
--- what stands behind the values: a blank, and what may stand between values
+-- what stands after the values: a blank, and what may stand between values
 pub record Tail (decimals : ℕ) (kinds : List Kind) (locals : Option (List (Option Value))) : Type 0 where
   pub blank : ℕ
   pub parts : List Filler
@@ -385,7 +385,7 @@ step_reads_back decimals place outputs_slots inputs_slots step kinds before rest
     let left : Stream = record { place = place + read.count; bytes = gap_text read.behind ++ rest; is_closed = closed } in
     (read.count, read.behind, read.are, read.short, read.is_read ∙ ap (λ (vs : List Value). whole vs left) (kept-append outputs_slots inputs_slots step.outputs step.inputs is.outputs))
 
--- ---- steps, one behind another
+-- ---- steps, one after another
 
 steps-read : (decimals : ℕ) (outputs_slots inputs_slots : List Slot) (kinds : List Kind) (steps : List WrittenStep) (place : ℕ) (before : List Filler) (rest : List ℕ) (closed : Bool)
     → decimals ≤ 6 → 0 < length (outputs_slots ++ inputs_slots) → AreSteps decimals outputs_slots inputs_slots kinds steps → AreFillers before → length (gap_text before) ≤ half_longest
@@ -426,7 +426,7 @@ declared-none (d ∷ ds) are =
     (kind-none d.kind))
     (declared-none ds are.1)
 
--- a first word, and what is declared behind it
+-- a first word, and what is declared after it
 declared-then : (w : List ℕ) (ds : List DeclaredVariable) → list_any is_blank w ≡ false → before_first is_blank (w ++ flat_map declared_text ds) ≡ w
 declared-then w [] none = ap (before_first is_blank) (append-nil w) ∙ (part-none is_blank w none).0
 declared-then w (d ∷ ds) none = (part-at is_blank w 32 _ none refl).0

@@ -31,7 +31,7 @@ full_in closed r text (b ∷ bs) full =
     (λ e. rw (lt-ltb longest (r.taken + length text + 1) (omega arith)) refl)
     (λ e. full_in closed r (text ++ b ∷ []) bs (omega (arith, length-append text (b ∷ []))))
 
--- the same of a reader
+-- with as many bytes as may be taken, a reader finds that its reply is too long
 full_found : (slots : List Slot) (r : Begun) (text bytes : List ℕ) (closed : Bool) → 0 < length slots → longest ≤ r.taken + length text
     → found slots None r text bytes closed ≡ malformed fault.TooLong r.place
 full_found [] r text bytes closed some full = absurd (omega arith)
@@ -133,7 +133,7 @@ effect_refused (refused g place) d new f left go e = cc
 same_found : (a b : Reading) (bytes : List ℕ) (closed : Bool) → a ≡ b → found a.slots a.refusal a.begun a.text bytes closed ≡ found b.slots b.refusal b.begun b.text bytes closed
 same_found a b bytes closed e = ap (λ (r : Reading). found r.slots r.refusal r.begun r.text bytes closed) e
 
--- a blank behind which the reply goes on
+-- a blank after which the reply goes on
 pub blank_more : (d new : Draft) (b : ℕ) (r : Reading) (values : List Value) → 0 < length d.slots.items → is_blank b ≡ true → d.taken + length d.word.items < longest
     → HasEffect (after_word (begun d) d.word.items (b == 10)) d effect.More new → new.taken + length new.word.items < longest → r ≡ open_at new
     → FedTells (open_at d) (b ∷ []) fed.More r values
@@ -149,7 +149,7 @@ blank_more d new b r values some blank small e room is =
       sym (behind [] false) ∙ needs_found d.slots.items (begun new) [] some (omega arith),
     )
 
--- a blank behind which the reply is too long
+-- a blank after which the reply is too long
 pub blank_full : (d new : Draft) (b : ℕ) (r : Reading) (values : List Value) → 0 < length d.slots.items → is_blank b ≡ true → d.taken + length d.word.items < longest
     → HasEffect (after_word (begun d) d.word.items (b == 10)) d effect.More new → longest ≤ new.taken + length new.word.items → new.place ≡ d.place
     → r.refusal ≡ Some (record { fault = fault.TooLong; place = new.place })
@@ -181,7 +181,7 @@ blank_done d new b r values some blank small e kept is =
       is ∙ cc,
     )
 
--- a blank behind a word that is refused
+-- a blank after a word that is refused
 pub blank_refused : (d new : Draft) (b : ℕ) (f : ValueFault) (r : Reading) (values : List Value) → 0 < length d.slots.items → is_blank b ≡ true → d.taken + length d.word.items < longest
     → HasEffect (after_word (begun d) d.word.items (b == 10)) d (effect.Refused f) new
     → r.refusal ≡ Some (record { fault = f; place = new.place + new.taken })
@@ -234,7 +234,7 @@ none_closing d old new values none was empty is =
     let at : new.begun.place ≡ d.place = ap (λ (r : Reading). r.begun.place) is in
     rw was (none_found d.slots.items (begun d) d.word.items [] true none ∙ cc, is ∙ cc)
 
--- a chunk at a place of a piece, and what stands behind it
+-- a chunk at a place of a piece, and what stands after it
 pub chunk_front : (piece : List ℕ) (used m : ℕ) → drop used piece ≡ take (used + m - used) (drop used piece) ++ drop (used + m) piece
 chunk_front piece used m =
     let count : used + m - used ≡ m = omega arith in
@@ -309,7 +309,7 @@ end_found : (slots : List Slot) (r : Begun) (text : List ℕ) → 0 < length slo
 end_found [] r text some small = absurd (omega arith)
 end_found (slot ∷ slots) r text some small = rw (lt-leb longest (r.taken + length text) small) refl
 
--- the stream ends behind a word that is passed
+-- the stream ends after a word that is passed
 pub pass_closing : (d : Draft) (old : Reading) (is_comment : Bool) (n : ℕ) (values : List Value) → n ≡ d.taken + length d.word.items → 0 < length d.slots.items → d.taken + length d.word.items < longest
     → after_word (begun d) d.word.items true ≡ looked d (look.Pass is_comment) → old ≡ open_at d
     → ClosingTells old (closing.Short n) old values
@@ -317,7 +317,7 @@ unfolding answer
 pass_closing d old is_comment n values count some small seen was =
     (rw (was, count, end_found d.slots.items (begun d) d.word.items some small, seen) refl, refl)
 
--- it ends behind a word that is refused
+-- it ends after a word that is refused
 pub refused_at_end : (d : Draft) (old new : Reading) (f : ValueFault) (values : List Value) → 0 < length d.slots.items → d.taken + length d.word.items < longest
     → after_word (begun d) d.word.items true ≡ looked d (look.Refused f) → old ≡ open_at d → new.refusal ≡ Some (record { fault = f; place = d.place + d.taken })
     → ClosingTells old (closing.Malformed f (d.place + d.taken)) new values
@@ -325,7 +325,7 @@ unfolding answer
 refused_at_end d old new f values some small seen was is =
     (rw (was, end_found d.slots.items (begun d) d.word.items some small, seen) refl, λ bytes closed. refused_answer new (record { fault = f; place = d.place + d.taken }) bytes closed is)
 
--- slots are left behind a value
+-- slots are left after a value
 left_stop : (r : Begun) (text : List ℕ) (left : List Slot) (values : List Value) (taken : ℕ) (s : Stream) → 0 < length left → stop (filled r text left values) taken s ≡ short taken
 left_stop r text [] values taken s some = absurd (omega arith)
 left_stop r text (slot ∷ left) values taken s some = refl
@@ -335,7 +335,7 @@ full_stop : (r : Begun) (text : List ℕ) (left : List Slot) (values : List Valu
 full_stop r text [] values taken s none = refl
 full_stop r text (slot ∷ left) values taken s none = absurd (omega arith)
 
--- it ends behind a value that isn't the last one
+-- it ends after a value that isn't the last one
 pub short_closing : (d : Draft) (old : Reading) (value : Value) (keep : Bool) (n : ℕ) (values : List Value) → n ≡ d.taken + length d.word.items → 0 < length d.slots.items → d.taken + length d.word.items < longest
     → after_word (begun d) d.word.items true ≡ filled_with d value keep → d.filled + 1 < length d.slots.items
     → old ≡ open_at d → ClosingTells (open_at d) (closing.Short n) old values
@@ -345,7 +345,7 @@ short_closing d old value keep n values count some small seen few was = (
   was,
 )
 
--- it ends behind the last value
+-- it ends after the last value
 pub done_closing : (d : Draft) (value : Value) (keep : Bool) (new : Reading) (values : List Value) → 0 < length d.slots.items → d.taken + length d.word.items < longest
     → after_word (begun d) d.word.items true ≡ filled_with d value keep → length d.slots.items ≤ d.filled + 1
     → values ≡ (if keep then d.values.items ++ value ∷ [] else d.values.items) → new ≡ between d.decimals d.slots.items (d.place + d.taken + length d.word.items)

@@ -18,7 +18,7 @@ use Rattle.lt_rif.proofs.ReadingLemmas.{neither, words_run}
 abbrev at : ℕ → List Slot → List Value → ℕ → Bool → ℕ → Begun
 at decimals slots values place is_comment taken = record { decimals = decimals; slots = slots; values = values; is_comment = is_comment; taken = taken; place = place }
 
--- a word with the blank behind it, where the reply goes on
+-- a word with the blank after it, where the reply goes on
 word-on : (closed : Bool) (r : Begun) (text : List ℕ) (b : ℕ) (bytes : List ℕ) → is_blank b ≡ true → r.taken + length text + 1 ≤ longest
     → reply_in closed r (words_of text (b ∷ bytes))
     ≡ go_on (after_word r text (b == 10)) (record { place = r.place + r.taken + length text + 1; bytes = bytes; is_closed = closed }) (λ q. reply_in closed q (words_of [] bytes))
@@ -59,7 +59,7 @@ comment-rest closed decimals slots values place (b ∷ text) taken front bytes n
     rw e (comment-rest closed decimals slots values place text taken (front ++ b ∷ []) bytes split.1 (omega arith))
     ∙ ap (λ (n : ℕ). reply_in closed (at decimals slots values place false n) (words_of [] bytes)) {x = taken + length (front ++ b ∷ []) + length text + 1} {y = taken + length front + length (b ∷ text) + 1} (omega arith))
 
--- its first word, and what stands behind that
+-- its first word, and what stands after that
 comment-first : (closed : Bool) (decimals : ℕ) (slots : List Slot) (values : List Value) (place : ℕ) (text : List ℕ) (taken : ℕ) (front bytes : List ℕ)
     → class_of (front ++ before_first is_blank text) ≡ class.Comment → list_any (λ b. b == 10) text ≡ false → taken + length front + length text + 1 ≤ longest
     → reply_in closed (at decimals slots values place false taken) (words_of front (text ++ 10 ∷ bytes))

@@ -19,7 +19,7 @@ behind-middle : (xs : List (List ℕ)) (m : List ℕ) (ys : List (List ℕ)) →
 behind-middle [] m ys = behind-spaced m ys
 behind-middle (x ∷ xs) m ys = behind-spaced x (xs ++ m ∷ ys)
 
--- words in the middle of a line, with spaces behind those before them and before those behind them
+-- words in the middle of a line, with spaces after those before them and before those after them
 spaced-middle : (xs : List (List ℕ)) (m : List ℕ) (ys : List (List ℕ)) → spaced (xs ++ m ∷ ys) ≡ before_space xs ++ (m ++ behind_space ys)
 spaced-middle [] m ys = refl
 spaced-middle (x ∷ xs) m ys =
@@ -41,7 +41,7 @@ step_lays_out decimals kinds outputs inputs locals =
     ∙ sym (append_assoc (before_space before) outs (behind_space behind ++ behind_space part))
     ∙ sym (append_assoc (before_space before ++ outs) (behind_space behind) (behind_space part)))
 
--- ---- one text behind another
+-- ---- one text after another
 
 pub appends-both : (a b c : Vec ℕ Global) (s t : List ℕ) → AddsText a b s → AddsText b c t → AddsText a c (s ++ t)
 appends-both a b c s t first second =

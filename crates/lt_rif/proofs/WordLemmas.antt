@@ -127,7 +127,7 @@ part-none p xs none =
 
 -- ---- the text of a size
 
--- what stands before the point and behind it, and that no other byte is in it
+-- what stands before the point and after it, and that no other byte is in it
 pub record IsText (k size : ℕ) (text : List ℕ) : Type 0 where
   pub before : before_first is_point text ≡ decimal (size / 10 ^ k)
   pub behind : after_first is_point text ≡ last_digits k size

@@ -17,7 +17,7 @@ pub record Call : Type 0 where
   -- its piece and its answer
   pub piece : List ℕ
   pub fed : Fed
-  -- where the reader stands behind it, and the values of the last whole reply then
+  -- where the reader stands after it, and the values of the last whole reply then
   pub after : Reading
   pub values : List Value
 
@@ -27,7 +27,7 @@ pub record IsCall (old : Reading) (call : Call) : Type 0 where
   pub slots : call.after.slots ≡ old.slots
   pub decimals : call.after.begun.decimals ≡ old.begun.decimals
 
--- what is left of the bytes of a stream behind a piece and the rest
+-- what is left of the bytes of a stream after a piece and the rest
 abbrev pub left_of : List ℕ → Fed → List ℕ → List ℕ
 left_of piece (fed.Whole n) rest = drop n piece ++ rest
 left_of piece fed.More rest = rest
@@ -40,12 +40,12 @@ Feeds r bytes (call ∷ calls) = (rest : List ℕ) × IsCall r call × (bytes �
 
 -- what is found in a stream
 pub data Finding : Type 0 where
-  -- a reply's values, and the place behind it
+  -- a reply's values, and the place after it
   reply : List Value → ℕ → Finding
   -- why and where a reply is refused
   refusal : ValueFault → ℕ → Finding
 
--- what a call finds, and those behind it
+-- what a call finds, and those after it
 abbrev pub found_then : Fed → List Value → ℕ → List Finding → List Finding
 found_then fed.More values place more = more
 found_then (fed.Whole n) values place more = reply values place ∷ more
@@ -56,7 +56,7 @@ abbrev pub findings_of : List Call → List Finding
 findings_of [] = []
 findings_of (call ∷ calls) = found_then call.fed call.values call.after.begun.place (findings_of calls)
 
--- a reply of a stream, and those behind it
+-- a reply of a stream, and those after it
 abbrev pub reply_then : Reply → (Stream → List Finding) → List Finding
 reply_then (whole values left) go = reply values left.place ∷ go left
 reply_then (malformed f place) go = refusal f place ∷ []

@@ -44,7 +44,7 @@ HeaderFits =
 abbrev pub LineFits : Type 0
 LineFits = (decimals : ℕ) (kinds : List Kind) (values : List Value) → decimals ≤ most_decimals → AreSized values → length (line_text decimals kinds values) ≤ room_for (length values) 0
 
--- a step fits of which so many values have kinds, with an end line behind it
+-- a step fits of which so many values have kinds, with an end line after it
 abbrev pub StepFits : Type 0
 StepFits =
     (decimals step number : ℕ) (kinds : List Kind) (outputs inputs : List Value) (locals : Option (List (Option Value))) (e : End) (names : List (List ℕ)) →

@@ -3,7 +3,7 @@ use Rattle.std.specs.Prelude.{◌≡◌, ℕ, Bool, false, List, ◌++◌}
 use Rattle.lt_rif.specs.Reply.{Stream, Reply, whole, needs, short, malformed, reply_of}
 use Rattle.lt_rif.specs.declared.slot.Slot.{Slot}
 
--- what is left of an open stream, once these bytes came behind it, and its end or not
+-- what is left of an open stream, once these bytes came after it, and its end or not
 abbrev pub grown : Stream → List ℕ → Bool → Stream
 grown s more closed = record { place = s.place; bytes = s.bytes ++ more; is_closed = closed }
 

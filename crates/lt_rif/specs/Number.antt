@@ -28,7 +28,7 @@ is_digits least most text = all_ascii_digits text && nat_le least (length text) 
 abbrev pub number_of : List ℕ → ℕ
 number_of digits = digits_value 10 digits
 
--- the most digits of an int, and of a real before its point and behind it
+-- the most digits of an int, and of a real before its point and after it
 abbrev pub most_digits_in_a_row : ℕ
 most_digits_in_a_row = 18
 
@@ -50,11 +50,11 @@ is_point byte = byte == 46
 abbrev pub is_mark : ℕ → Bool
 is_mark byte = byte == 101 || byte == 69
 
--- The parts of a real behind its sign: digits before the point ..
+-- The parts of a real after its sign: digits before the point ..
 abbrev pub whole_part : List ℕ → List ℕ
 whole_part number = before_first is_point (before_first is_mark number)
 
--- .. digits behind it ..
+-- .. digits after it ..
 abbrev pub decimal_part : List ℕ → List ℕ
 decimal_part number = after_first is_point (before_first is_mark number)
 
@@ -66,7 +66,7 @@ exponent_part number = after_first is_mark number
 abbrev pub is_exponent : List ℕ → Bool
 is_exponent number = is_none (position is_mark number) || is_digits 1 most_exponent_digits (without_leading_sign (exponent_part number))
 
--- a real behind its sign: at least one digit before the point or behind it
+-- a real after its sign: at least one digit before the point or after it
 abbrev pub is_real : List ℕ → Bool
 is_real number =
     is_digits 0 most_digits_in_a_row (whole_part number)
@@ -90,7 +90,7 @@ places_left number = if starts_with_minus (exponent_part number) then exponent_s
 abbrev pub real_numerator : List ℕ → ℕ
 real_numerator number = (number_of (whole_part number) * 10 ^ length (decimal_part number) + number_of (decimal_part number)) * 10 ^ places_right number
 
--- .. over ten for each digit behind the point and each place to the left.
+-- .. over ten for each digit after the point and each place to the left.
 abbrev pub real_denominator : List ℕ → ℕ
 real_denominator number = 10 ^ (length (decimal_part number) + places_left number)
 

@@ -19,7 +19,7 @@ pub record Reading : Type 0 where
   pub slots : List Slot
   -- what has come of the reply at hand, up to the last blank
   pub begun : Begun
-  -- what has come behind that
+  -- what has come after that
   pub text : List ℕ
   -- why and where the reply at hand was refused
   pub refusal : Option Refusal
@@ -69,7 +69,7 @@ FedTells old piece (fed.Malformed f place) new values =
 
 -- Where the reply at hand begins after a piece, and how many bytes were given then.
 abbrev pub FedMoves : Reading → List ℕ → Fed → Reading → Type 0
--- the next reply begins behind the bytes that end this one, which took no more than it may
+-- the next reply begins after the bytes that end this one, which took no more than it may
 FedMoves old piece (fed.Whole n) new = (new.begun.place ≡ given old + n) × (new.begun.place ≤ old.begun.place + longest)
 FedMoves old piece fed.More new = (new.begun.place ≡ old.begun.place) × (given new ≡ given old + length piece)
 FedMoves old piece (fed.Malformed f place) new = new.begun.place ≡ old.begun.place
@@ -90,7 +90,7 @@ ClosingTells old (closing.Short n) new values = (answer old [] true ≡ short n)
 -- the reply is refused
 ClosingTells old (closing.Malformed f place) new values = (answer old [] true ≡ malformed f place) × ((bytes : List ℕ) (closed : Bool) → answer new bytes closed ≡ malformed f place)
 
--- where the reply at hand begins behind the end
+-- where the reply at hand begins after the end
 abbrev pub ClosingMoves : Reading → Closing → Reading → Type 0
 ClosingMoves old closing.Whole new = (new.begun.place ≡ given old) × (new.begun.place ≤ old.begun.place + longest)
 ClosingMoves old (closing.Short n) new = new.begun.place ≡ old.begun.place

@@ -19,12 +19,12 @@ pub record Stream : Type 0 where
   -- how many bytes of the stream stand before these
   pub place : ℕ
   pub bytes : List ℕ
-  -- no byte comes behind them
+  -- no byte comes after them
   pub is_closed : Bool
 
 -- what a stream has for a reply
 pub data Reply : Type 0 where
-  -- the values that are kept, and what is left of the stream behind the reply
+  -- the values that are kept, and what is left of the stream after the reply
   whole : List Value → Stream → Reply
   -- the reply isn't whole yet, and nothing in it is refused
   needs : Reply
@@ -57,7 +57,7 @@ pub data Progress : Type 0 where
   -- it is refused, and the place
   refused : ValueFault → ℕ → Progress
 
--- a word was passed, with the byte behind it; a comment goes on behind it or not
+-- a word was passed, with the byte after it; a comment goes on after it or not
 abbrev pub past : Begun → List ℕ → Bool → Begun
 past r text is_comment = record r { is_comment = is_comment; taken = r.taken + length text + 1 }
 
@@ -65,12 +65,12 @@ past r text is_comment = record r { is_comment = is_comment; taken = r.taken + l
 abbrev pub with_value : List Value → Slot → Value → List Value
 with_value values slot v = if slot.keep then values ++ v ∷ [] else values
 
--- a slot got a value by a word; these slots and values are there behind it
+-- a slot got a value by a word; these slots and values are there after it
 abbrev pub filled : Begun → List ℕ → List Slot → List Value → Progress
 filled r text [] values = done values
 filled r text (slot ∷ slots) values = more (record r { slots = slot ∷ slots; values = values; is_comment = false; taken = r.taken + length text + 1 })
 
--- a word was judged for a slot; these slots are left behind it
+-- a word was judged for a slot; these slots are left after it
 abbrev pub with_judged : Begun → List ℕ → Slot → List Slot → Result Value ValueFault → Progress
 with_judged r text slot slots (Ok v) = filled r text slots (with_value r.values slot v)
 with_judged r text slot slots (Err f) = refused f (r.place + r.taken)
@@ -80,17 +80,17 @@ abbrev pub with_word : Begun → List ℕ → List Slot → Progress
 with_word r text [] = done r.values
 with_word r text (slot ∷ slots) = with_judged r text slot slots (judged r.decimals slot text)
 
--- a word outside comments, and whether its line ends behind it
+-- a word outside comments, and whether its line ends after it
 abbrev pub with_class : Begun → List ℕ → Bool → WordClass → Progress
 with_class r text ends_line class.Passed = more (past r text false)
 with_class r text ends_line class.Comment = more (past r text (not ends_line))
 with_class r text ends_line class.Value = with_word r text r.slots
 
--- a word, and whether its line ends behind it
+-- a word, and whether its line ends after it
 abbrev pub after_word : Begun → List ℕ → Bool → Progress
 after_word r text ends_line = if r.is_comment then more (past r text (not ends_line)) else with_class r text ends_line (class_of text)
 
--- a word with the blank behind it, what is left of the stream, and what to do where the reply goes on
+-- a word with the blank after it, what is left of the stream, and what to do where the reply goes on
 abbrev pub go_on : Progress → Stream → (Begun → Reply) → Reply
 go_on (more r) left go = go r
 go_on (done values) left go = whole values left
@@ -102,7 +102,7 @@ stop (more r) taken left = short taken
 stop (done values) taken left = whole values left
 stop (refused f place) taken left = malformed f place
 
--- What a reply is that has begun, with these words behind it. It is too long where a word ends past the longest reply, or
+-- What a reply is that has begun, with these words after it. It is too long where a word ends past the longest reply, or
 -- hasn't ended there.
 abbrev pub reply_in : Bool → Begun → Words → Reply
 reply_in closed r (last text) =

@@ -12,7 +12,7 @@ pub record AddsText (old new : Vec ℕ Global) (text : List ℕ) : Type 0 where
   pub items : new.items ≡ old.items ++ text
   pub capacity : vec_capacity old ≤ vec_capacity new
 
--- the bytes that are enough for a header, a line, or a step with an end line behind it, of so many variables, whose names
+-- the bytes that are enough for a header, a line, or a step with an end line after it, of so many variables, whose names
 -- and those of the exceptions have so many bytes together
 abbrev pub room_for : ℕ → ℕ → ℕ
 room_for variables names = 256 + 32 * variables + names

@@ -11,7 +11,7 @@ use Rattle.lt_rif.specs.declared.word.WordClass.TheVariants as class
 -- what may stand between values
 pub data Filler : Type 0 where
   blank : ℕ → Filler
-  -- the word #outs, and the blank behind it
+  -- the word #outs, and the blank after it
   outs : ℕ → Filler
   -- a comment, up to the end of its line
   comment : List ℕ → Filler
@@ -21,7 +21,7 @@ filler_text (blank b) = b ∷ []
 filler_text (outs b) = codes "#outs" ++ b ∷ []
 filler_text (comment text) = text ++ 10 ∷ []
 
--- A comment begins with a word that begins one, and its line ends behind it.
+-- A comment begins with a word that begins one, and its line ends after it.
 abbrev pub IsFiller : Filler → Type 0
 IsFiller (blank b) = is_blank b ≡ true
 IsFiller (outs b) = is_blank b ≡ true
@@ -35,7 +35,7 @@ AreFillers (part ∷ gap) = IsFiller part × AreFillers gap
 abbrev pub gap_text : List Filler → List ℕ
 gap_text gap = flat_map filler_text gap
 
--- a value as it stands in a reply: what stands before it, its word, and the blank behind that
+-- a value as it stands in a reply: what stands before it, its word, and the blank after that
 pub record Field : Type 0 where
   pub gap : List Filler
   pub word : List ℕ

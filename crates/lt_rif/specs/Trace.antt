@@ -100,7 +100,7 @@ line_text decimals kinds values = line (spaced (value_words decimals kinds value
 
 -- ---- steps
 
--- the words of the locals behind their mark, where they are written
+-- the words of the locals after their mark, where they are written
 abbrev pub locals_part : ℕ → List Kind → Option (List (Option Value)) → List (List ℕ)
 locals_part decimals kinds None = []
 locals_part decimals kinds (Some locals) = codes "#locs" ∷ local_words decimals kinds locals

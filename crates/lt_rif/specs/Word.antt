@@ -11,12 +11,12 @@ is_blank byte = byte == 9 || byte == 10 || byte == 13 || byte == 32
 
 -- The words of some bytes. Between two blanks that stand side by side is the empty word.
 pub data Words : Type 0 where
-  -- what stands behind the last blank
+  -- what stands after the last blank
   last : (text : List ℕ) → Words
-  -- a word, the blank behind it, the bytes behind that, and the words of these
+  -- a word, the blank after it, the bytes after that, and the words of these
   word : (text : List ℕ) (blank : ℕ) (behind : List ℕ) → Words → Words
 
--- the words of a text without blanks and the bytes behind it
+-- the words of a text without blanks and the bytes after it
 abbrev pub words_of : List ℕ → List ℕ → Words
 words_of text [] = last text
 words_of text (b ∷ bs) = if is_blank b then word text b bs (words_of [] bs) else words_of (text ++ b ∷ []) bs

@@ -41,7 +41,7 @@ pub fn rounded(size: u128, right: u32, left: u32) -> Option<u128>
     }
 }
 
-// A number with so many zeros behind it, or none where that is past the bound.
+// A number with so many zeros after it, or none where that is past the bound.
 fn enlarged(size: u128, zeros: u32) -> Option<u128>
     ensures { MatchOption result (most_raw < size * 10 ^ zeros) (λ r. r ≡ size * 10 ^ zeros) }
 {

@@ -17,7 +17,7 @@ pub const LONGEST: usize = 65_536;
 /// What a word is to a reply.
 #[derive(Clone, Copy, PartialEq, Eq)]
 pub enum Look {
-    /// It is passed. A comment goes on behind it or not.
+    /// It is passed. A comment goes on after it or not.
     Pass { is_comment: bool },
 
     /// It writes the value of the next slot, which keeps it or not.
@@ -40,7 +40,7 @@ pub enum Effect {
     Refused(ValueFault),
 }
 
-/// What has come of a reply: its values so far, and what stands behind the last blank.
+/// What has come of a reply: its values so far, and what stands after the last blank.
 #[derive(Drop)]
 pub struct Draft {
     /// How many decimals its reals have.
@@ -64,7 +64,7 @@ pub struct Draft {
     /// The place of its first byte in the stream.
     pub place: usize,
 
-    /// What stands behind the last blank.
+    /// What stands after the last blank.
     pub word: Vec<u8>,
 
     ghost few_decimals: { decimals ≤ most_decimals },
@@ -79,7 +79,7 @@ impl Draft {
     ghost use Rattle.lt_rif.specs.inner.Draft.{filled_with, looked, HasEffect};
     ghost use Rattle.lt_rif.specs.View.{begun};
 
-    // Passes the word, with the byte behind it. A comment goes on behind it or not.
+    // Passes the word, with the byte after it. A comment goes on after it or not.
     fn pass(&mut self, is_comment: bool)
         requires { self.old.taken + vec_len self.old.word < longest }
         ensures decimals { self.new.decimals ≡ self.old.decimals }
@@ -134,7 +134,7 @@ impl Draft {
         }
     }
 
-    /// What the word is, where a blank or the end of the stream stands behind it.
+    /// What the word is, where a blank or the end of the stream stands after it.
     pub fn look(&self, ends_line: bool) -> Look
         requires open { self.now.filled < vec_len self.now.slots }
         ensures { after_word (begun self.now) self.now.word.items ends_line ≡ looked self.now result }

@@ -32,7 +32,7 @@ pub fn step_reads_back()
     ensures { StepReadsBack }
 {}
 
-/// A trace, a header and steps behind it, is read back as the values of its steps, one reply a step.
+/// A trace, a header and steps after it, is read back as the values of its steps, one reply a step.
 #[tactic(auto, using(crate::proofs::ReadBackLemmas::trace_reads_back))]
 pub fn trace_reads_back()
     ensures { TraceReadsBack }
@@ -44,7 +44,7 @@ pub fn replies_grow()
     ensures { RepliesGrow }
 {}
 
-/// What `room_for` answers is enough for a header, for a line, and for a step with an end line behind it. A step is
+/// What `room_for` answers is enough for a header, for a line, and for a step with an end line after it. A step is
 /// counted by the kinds that it is written with.
 #[tactic(auto, using(crate::proofs::EnoughLemmas::room_is_enough))]
 pub fn room_is_enough()

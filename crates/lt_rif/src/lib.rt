@@ -1,7 +1,7 @@
 //! Replies, read from a stream that comes in pieces, and the text of a trace.
 //!
 //! `docs/TRACE.md` has the form of both. What a reply is on a whole stream is said in `specs/Reply.antt`. A
-//! [`Reader`] takes the stream in pieces, and its clauses say what it makes of each, whatever comes behind it.
+//! [`Reader`] takes the stream in pieces, and its clauses say what it makes of each, whatever comes after it.
 #![tactic(auto)]
 
 mod decimal;

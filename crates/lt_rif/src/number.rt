@@ -14,7 +14,7 @@ use crate::decimal::{MOST, digits_of, rounded};
 use crate::fault::ValueFault;
 use lt_num::Kind;
 
-// The most digits of an int, and of a real before its point and behind it.
+// The most digits of an int, and of a real before its point and after it.
 const MOST_DIGITS: usize = 18;
 
 // The most digits of an exponent.
@@ -115,7 +115,7 @@ fn places_of(exponent: Option<&[u8]>) -> Option<(u32, u32)>
     Some(if negative { (0, places) } else { (places, 0) })
 }
 
-// Whether a minus stands first, and what stands behind a sign.
+// Whether a minus stands first, and what stands after a sign.
 fn split_sign(word: &[u8]) -> (bool, &[u8])
     ensures minus { result.0 ≡ starts_with_minus word.now }
     ensures behind { result.1.now ≡ without_leading_sign word.now }
@@ -127,7 +127,7 @@ fn split_sign(word: &[u8]) -> (bool, &[u8])
     }
 }
 
-// What stands before the mark of an exponent, and what stands behind it, where there is one.
+// What stands before the mark of an exponent, and what stands after it, where there is one.
 fn split_at_mark(number: &[u8]) -> (&[u8], Option<&[u8]>)
     ensures before { result.0.now ≡ before_first is_mark number.now }
     ensures behind { option_copied result.1 ≡ behind_mark number.now }
@@ -147,7 +147,7 @@ fn mark_in(number: &[u8]) -> Option<usize>
         .position(|byte| *byte == b'e' || *byte == b'E')
 }
 
-// What stands before the point, and what stands behind it.
+// What stands before the point, and what stands after it.
 fn split_at_point(mantissa: &[u8]) -> (&[u8], &[u8])
     ensures before { result.0.now ≡ before_first is_point mantissa.now }
     ensures behind { result.1.now ≡ after_first is_point mantissa.now }

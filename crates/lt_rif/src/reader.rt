@@ -184,7 +184,7 @@ impl Reader {
         self.draft.restart(&mut self.values, place);
     }
 
-    // Ends the stream behind the word of a value.
+    // Ends the stream after the word of a value.
     fn finish_with(&mut self, value: Value, keep: bool) -> Closing
         requires goes_on { self.old.refusal ≡ None }
         requires some { 0 < vec_len self.old.draft.slots }

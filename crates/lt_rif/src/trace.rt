@@ -13,7 +13,7 @@ use crate::values::{append_before_space, append_behind_space, append_locals, app
 use crate::writing::{append, append_number};
 use lt_num::{Kind, Value};
 
-/// The bytes that are enough for a header, a line, or a step with an end line behind it. The header, the line and
+/// The bytes that are enough for a header, a line, or a step with an end line after it. The header, the line and
 /// the step have so many variables in all, and their names and those of exceptions so many bytes together.
 pub fn room_for(variables: usize, names: usize) -> usize
     requires variables { variables < 2 ^ 32 }
@@ -130,7 +130,7 @@ fn append_step_values(
     append(into, b"\n");
 }
 
-// The kinds behind the first so many.
+// The kinds after the first so many.
 #[tactic(auto, using(std::proofs::lemmas::List::drop_all))]
 fn kinds_behind(kinds: &[Kind], count: usize) -> &[Kind]
     ensures { result.now ≡ drop count kinds.now }

@@ -10,7 +10,7 @@ ghost use Rattle.lt_rif.specs.inner.Spaced.{before_space, behind_space};
 use crate::writing::append;
 use lt_num::{Fixed, Kind, Value, print};
 
-/// Appends the words of values of these kinds, with a space behind each.
+/// Appends the words of values of these kinds, with a space after each.
 pub fn append_before_space(into: &mut Vec<u8>, values: &[Value], kinds: &[Kind], decimals: u32)
     requires decimals { decimals ≤ most_decimals }
     requires room { HasRoom into.old (before_space (value_words decimals kinds.now values.now)) }

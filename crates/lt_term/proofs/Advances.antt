@@ -1,4 +1,4 @@
--- Terms behind an instant.
+-- Terms after an instant.
 use Rattle.std.proofs.Common.{◌≡◌, ◌≤◌, ℕ, Bool, true, false, ◌&&◌, ◌||◌, List, [], ◌∷◌, length, map, take, refl, ap, ◌∙◌}
 use Rattle.std.proofs.lemmas.List.{take_all}
 use Rattle.lt_num.specs.declared.value.Value.{Value}

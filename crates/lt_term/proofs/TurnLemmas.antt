@@ -81,7 +81,7 @@ module _ {C N : Type 0} (P : Leaf C N → Type 0) where
     branches_with_local-all l no_branch h = tt
     branches_with_local-all l (branch w t bs) h = (with_local-all l t h.0, branches_with_local-all l bs h.1)
 
--- what comes next behind a leaf, or behind each leaf of a tree, has no more turns done than so many
+-- what comes next after a leaf, or after each leaf of a tree, has no more turns done than so many
 abbrev LeafDoneTo : {C : Type 0} → ℕ → TermLeaf C → Type 0
 LeafDoneTo k l = NextIsDoneTo k (leaf_node l)
 

@@ -1,4 +1,4 @@
--- The last values of locals behind an instant.
+-- The last values of locals after an instant.
 use Rattle.std.specs.Prelude.{ℕ, nat_eq, List, [], ◌∷◌, if◌then◌else◌}
 use Rattle.lt_num.specs.declared.value.Value.{Value}
 use Rattle.lt_term.specs.declared.last.Last.{Last}
@@ -10,7 +10,7 @@ abbrev pub value_among : List (ℕ × Value) → ℕ → Value → Value
 value_among [] x v = v
 value_among (l ∷ ls) x v = if nat_eq l.0 x then l.1 else value_among ls x v
 
--- The last value of a local behind an instant with these values. A scope that isn't entered stays so.
+-- The last value of a local after an instant with these values. A scope that isn't entered stays so.
 abbrev pub next_last : List (ℕ × Value) → ℕ → Last → Last
 next_last values x last.First = last.First
 next_last values x (last.Kept v) = last.Kept (value_among values x v)

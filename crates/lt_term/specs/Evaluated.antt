@@ -63,7 +63,7 @@ outlook worth t.nothing = nothing
 outlook worth (t.raised z) = raised z
 outlook worth (t.go cs ls n) = going (worth.formula ls cs) ls n
 
--- one more part of a choice: its weight, its tree, and the parts behind it, where none of these weights has a fault
+-- one more part of a choice: its weight, its tree, and the parts after it, where none of these weights has a fault
 abbrev pub with_part : {F N : Type 0} → Result ℕ Arith → Evaluated F N → Result (Parts F N) Arith → Result (Parts F N) Arith
 with_part (Ok w) t (Ok ps) = Ok (part w t ps)
 with_part (Ok w) t (Err fault) = Err fault

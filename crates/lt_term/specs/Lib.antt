@@ -26,7 +26,7 @@ pub mod Offers
 pub mod Replaced
 -- Trees with other constraints, and trees whose numbers pass a test.
 pub mod Mapped
--- The last values of locals behind an instant.
+-- The last values of locals after an instant.
 pub mod Advanced
 -- Trees whose constraints and weights are evaluated.
 pub mod Evaluated

@@ -15,9 +15,9 @@ mutual
     raise : ℕ → Process C
     -- the first, and then the second
     seq : Process C → Process C → Process C
-    -- the same over and over, for as long as it takes instants
+    -- one part over and over, for as long as it takes instants
     loop : Process C → Process C
-    -- the same for each turn of a counter, of which so many are done
+    -- one part for each turn of a counter, of which so many are done
     count : ℕ → ℕ → Process C → Process C
     -- one of these
     any : Choices C → Process C
@@ -39,7 +39,7 @@ mutual
     no_choice : Choices C
     choice : C → Process C → Choices C → Choices C
 
--- the same with other constraints
+-- a term with other constraints in place of its own
 abbrev mutual
   pub with_constraints : {C D : Type 0} → (C → D) → Process C → Process D
   with_constraints f eps = eps

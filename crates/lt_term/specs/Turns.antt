@@ -6,7 +6,7 @@ use Rattle.lt_term.specs.Offers.{offers_of}
 use Rattle.lt_term.specs.Process.{Process}
 use Rattle.lt_term.specs.Tree.{vanish, nothing, raised, go, Node, leaf_node, ordered_node, weighted_node, flattened}
 
--- what comes next behind a node has no more turns done than so many
+-- what comes next after a node has no more turns done than so many
 abbrev pub NextIsDoneTo : {C : Type 0} → ℕ → Node C (Process C) → Type 0
 NextIsDoneTo k (leaf_node (go cs ls n)) = IsDoneTo k n
 NextIsDoneTo k (leaf_node vanish) = Unit {0}

@@ -6,5 +6,5 @@ pub mod Alike
 pub mod TallyView
 -- Which scopes are entered.
 pub mod Entered
--- What stands for a term behind an instant.
+-- What stands for a term after an instant.
 pub mod Renewed

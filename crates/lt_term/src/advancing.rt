@@ -30,7 +30,7 @@ struct Both {
 /// entered are shared with the term.
 pub fn advance(alloc: Global, term: &Term, values: &[(u32, Value)]) -> Result<Term, Memory>
     ensures numbers { IfOk result (λ t. process t ≡ advanced values.now (process term.now)) }
-    // The same with whatever stands behind the numbers of constraints.
+    // It is the one of the rules, too, with whatever the numbers of constraints stand for.
     ensures expressions { IfOk result (λ t. (meaning : ℕ → Expression) → with_constraints meaning (process t) ≡ advanced values.now (with_constraints meaning (process term.now))) }
     ensures passes { IfOk result (λ t. (tests : Tests ℕ) → passes tests (process t) ≡ passes tests (process term.now)) }
     ensures done { IfOk result (λ t. (k : ℕ) → IsDoneTo k (process term.now) → IsDoneTo k (process t)) }
@@ -250,7 +250,7 @@ fn has_value(last: Last) -> bool
     }
 }
 
-// The last value of a local behind the instant.
+// The last value of a local after the instant.
 fn next_last(last: Last, local: u32, values: &[(u32, Value)]) -> Last
     ensures { result ≡ next_last values.now local last }
 {

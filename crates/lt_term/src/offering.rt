@@ -30,7 +30,7 @@ pub fn offers(alloc: Global, scenario: &Scenario, term: &Term) -> Result<Tree, M
     requires { IsCounted (process term.now) }
     // The tree of the rules, with the numbers of the constraints ..
     ensures numbers { IfOk result (λ t. tree_nodes t.nodes.items ≡ flattened (offers_of (kinds_of scenario.now.locals.items) (process term.now))) }
-    // .. and so with whatever stands behind these numbers.
+    // .. and so with whatever these numbers stand for.
     ensures expressions { IfOk result (λ t. (meaning : ℕ → Expression) →
         map (node_with_constraints meaning) (tree_nodes t.nodes.items) ≡ flattened (offers_of (kinds_of scenario.now.locals.items) (with_constraints meaning (process term.now)))) }
     // Its numbers are those of the term.
@@ -195,7 +195,7 @@ fn put_loop(
     put(out, TreeNode::Vanish)
 }
 
-// The nodes of a counted loop, likewise.
+// The nodes of a counted loop, by those of its part: one more turn, or the end.
 fn put_counted(
     alloc: Global,
     out: &mut Vec<TreeNode>,

@@ -228,7 +228,7 @@ fn preceded<T: Copy>(mut list: Vec<T>, first: T) -> Result<Vec<T>, AllocError>
     Ok(list)
 }
 
-// One list behind another.
+// One list after another.
 fn appended<T: Copy>(first: &Vec<T>, second: &Vec<T>) -> Result<Vec<T>, AllocError>
     ensures { IfOk result (λ v. v.items ≡ first.now.items ++ second.now.items) }
 {

@@ -48,7 +48,7 @@ fn sum(a: u64, b: u64) -> u64
     a.saturating_add(b).min(MOST)
 }
 
-// A product, likewise.
+// A product, up to the greatest number that counts.
 fn product(a: u64, b: u64) -> u64
     ensures { result ≡ capped (a * b) }
 {
@@ -129,7 +129,7 @@ fn with_copies(rest: Tally, copies: u64, part: &Tally) -> Result<Tally, AllocErr
     })
 }
 
-// So many copies of some leaves that raise exceptions, behind others.
+// So many copies of some leaves that raise exceptions, after others.
 fn with_more_raises(
     mut raises: Vec<(u32, u64)>,
     copies: u64,

@@ -31,7 +31,7 @@ is_usable other raw = true
 abbrev pub are_usable : Operation → List Term → Bool
 are_usable operation terms = all_pass (is_usable operation) terms
 
--- The front of two lists of terms: their first variable, its coefficients in both, and what is behind it in both.
+-- The front of two lists of terms: their first variable, its coefficients in both, and what is after it in both.
 pub record IsFront (left right : List Term) (variable : ℕ) (first second : ℤ) (behind_left behind_right : List Term) : Type 0 where
   pub merges : (f : ℤ → ℤ → Option ℤ) → merged f left right ≡ before variable (f first second) (merged f behind_left behind_right)
   pub fewer : length behind_left + length behind_right < length left + length right

@@ -46,7 +46,7 @@ abbrev pub SizeTells : List ℕ → Option ℕ → Type 0
 SizeTells text None = are_digits text ≡ false
 SizeTells text (Some size) = IsTrue (are_digits text) × (size ≡ cut (digits_value 10 text))
 
--- the same of a whole number
+-- what a whole number is cut to, or that the text is none
 abbrev pub WholeTells : List ℕ → Option ℤ → Type 0
 WholeTells text None = are_digits (without_minus text) ≡ false
 WholeTells text (Some whole) = IsTrue (are_digits (without_minus text)) × (whole ≡ capped (whole_value text))
@@ -64,7 +64,7 @@ SpellsCapped text variable coefficient = (whole : ℤ) × SpellsTerm text (varia
 abbrev pub SpellsNoTerm : List ℕ → Type 0
 SpellsNoTerm text = (term : Term) → SpellsTerm text term → term.0 < 2 ^ 32 → ⊥
 
--- A text spells terms, in order and over variables from `least` on, and a constant behind them.
+-- A text spells terms, in order and over variables from `least` on, and a constant after them.
 abbrev pub SpellsFrom : ℕ → List ℕ → List Term → ℤ → Type 0
 SpellsFrom least text terms constant = SpellsSum text terms constant × IsTrue (are_in_order any_number least (2 ^ 32) terms)
 

@@ -15,7 +15,7 @@ digits_written least most text = if is_digits least most text then Some (number_
 abbrev pub rounded_quotient : ℕ → ℕ → ℕ
 rounded_quotient n d = (2 * n + d) / (2 * d)
 
--- What a real behind its sign is: a whole number whose point moves.
+-- What a real after its sign is: a whole number whose point moves.
 abbrev pub IsScaled : List ℕ → Option Scaled → Type 0
 IsScaled number None = is_real number ≡ false
 IsScaled number (Some scaled) =
@@ -26,7 +26,7 @@ IsScaled number (Some scaled) =
     × (scaled.right ≤ 999)
     × (scaled.left ≤ 1017)
 
--- what stands behind the mark of an exponent, where there is one
+-- what stands after the mark of an exponent, where there is one
 abbrev pub behind_mark : List ℕ → Option (List ℕ)
 behind_mark number = option_map (λ _. after_first is_mark number) (position is_mark number)
 

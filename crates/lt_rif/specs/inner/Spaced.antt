@@ -6,7 +6,7 @@ use Rattle.lt_num.specs.declared.kind.Kind.{Kind}
 use Rattle.lt_num.specs.declared.value.Value.{Value}
 use Rattle.lt_rif.specs.Trace.{value_words, locals_part}
 
--- a space behind each
+-- a space after each
 abbrev pub before_space : List (List ℕ) → List ℕ
 before_space words = flat_map (λ word. word ++ codes " ") words
 

@@ -1,4 +1,4 @@
--- What stands for a term behind an instant: a new one, if there is one, or else the old one.
+-- What stands for a term after an instant: a new one, if there is one, or else the old one.
 use Rattle.std.specs.Prelude.{ℕ, List, None, Some}
 use Rattle.std.specs.declared.alloc.Global.{Global}
 use Rattle.std.specs.declared.option.Option.{Option}
