@@ -4,6 +4,8 @@ pub mod Choice
 pub mod Branches
 -- What contracts see of a diagram.
 pub mod DiagramView
+-- The greatest numbers that the rules allow.
+pub mod Limits
 -- What formulas of flags say.
 pub mod Flags
 -- Laws.

@@ -4,6 +4,7 @@ ghost use Rattle.std.specs.Prelude.{◌≡◌, ◌<◌, ◌≤◌, ℕ, Bool, Er
 ghost use Rattle.lt_diagram.specs.Choice.{truth_of};
 ghost use Rattle.lt_diagram.specs.DiagramView.{IsReduced, NamesBelow, diagram_choice};
 ghost use Rattle.lt_diagram.specs.Flags.{are_flags, says};
+ghost use Rattle.lt_diagram.specs.Limits.{most_flags};
 ghost use Rattle.lt_diagram.specs.declared.refusal.DiagramRefusal.TheVariants.{TooManyAtoms};
 ghost use Rattle.lt_space.specs.FormulaView.{formula_view};
 
@@ -14,8 +15,8 @@ use lt_formula::Memory;
 use lt_space::Formula;
 use std::alloc::Global;
 
-// How many atoms a diagram may have.
-const MOST_ATOMS: u32 = 16;
+// How many flags a diagram may be over.
+const MOST_FLAGS: u32 = 16;
 
 /// The diagram of a formula whose atoms are flags, with numbers below `flags`.
 ///
@@ -28,12 +29,12 @@ const MOST_ATOMS: u32 = 16;
 /// `TooManyAtoms` exactly where `flags` is more than 16; else only want of memory.
 pub fn build(alloc: Global, formula: &Formula, flags: u32) -> Result<Diagram, DiagramRefusal>
     requires { IsTrue (are_flags flags (formula_view formula.now)) }
-    ensures too_many { (result ≡ Err TooManyAtoms) ↔ (16 < flags) }
+    ensures too_many { (result ≡ Err TooManyAtoms) ↔ (most_flags < flags) }
     ensures names { IfOk result (NamesBelow flags) }
     ensures reduced { IfOk result IsReduced }
     ensures says { IfOk result (λ diagram. (truths : ℕ → Bool) → truth_of truths (diagram_choice diagram) ≡ says truths (formula_view formula.now)) }
 {
-    if flags > MOST_ATOMS {
+    if flags > MOST_FLAGS {
         return Err(DiagramRefusal::TooManyAtoms);
     }
     match build_few(alloc, formula, flags) {
@@ -44,7 +45,7 @@ pub fn build(alloc: Global, formula: &Formula, flags: u32) -> Result<Diagram, Di
 
 // The diagram of a formula of few flags.
 fn build_few(alloc: Global, formula: &Formula, flags: u32) -> Result<Diagram, Memory>
-    requires few { flags ≤ 16 }
+    requires few { flags ≤ most_flags }
     requires flags { IsTrue (are_flags flags (formula_view formula.now)) }
     ensures names { IfOk result (NamesBelow flags) }
     ensures says { IfOk result (λ diagram. (truths : ℕ → Bool) → truth_of truths (diagram_choice diagram) ≡ says truths (formula_view formula.now)) }

@@ -2,6 +2,7 @@
 
 ghost use Rattle.std.specs.Prelude.{◌≡◌, ◌+◌, ◌<◌, ◌≤◌, ◌^◌, [], IfOk, IsTrue, OnOk, length};
 ghost use Rattle.lt_diagram.specs.Branches.{AreBelow, AreSound};
+ghost use Rattle.lt_diagram.specs.Limits.{most_flags};
 
 use crate::branch::Branch;
 use crate::trio::{Trio, picked};
@@ -18,7 +19,7 @@ const MOST_BRANCHES: usize = 1 << 31;
 pub(crate) struct Growing {
     flags: usize,
     branches: IndexSet<Branch>,
-    ghost few_flags: { flags ≤ 16 },
+    ghost few_flags: { flags ≤ most_flags },
     ghost few: { length branches.keys ≤ 2 ^ 31 },
     ghost sound: { AreSound branches.keys },
     ghost below: { AreBelow flags branches.keys },
@@ -34,7 +35,7 @@ impl Growing {
 
     /// No branches, over at most 16 flags.
     pub(crate) fn new(alloc: Global, flags: usize) -> Growing
-        requires { flags ≤ 16 }
+        requires { flags ≤ most_flags }
         ensures none { grown result ≡ [] }
         ensures flags { result.flags ≡ flags }
     {

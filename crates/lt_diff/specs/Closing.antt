@@ -1,6 +1,7 @@
 -- Cells that stated bounds leave, and those that say all that follows from them.
 use Rattle.std.specs.Prelude.{◌≡◌, ◌≢◌, ℕ, ◌<◌, ℤ, pos, neg_ℤ, ◌+ℤ◌, ◌≤ℤ◌}
 use Rattle.lt_diff.specs.Bounds.{AreLess, unstated}
+use Rattle.lt_diff.specs.Limits.{most_bound, most_sum}
 use Rattle.lt_diff.specs.Walks.{HasWalk}
 
 -- a bound, where it is stated, is at most so far from 0
@@ -11,19 +12,19 @@ IsWithin most bound = bound ≢ unstated → (neg_ℤ (pos most) ≤ℤ bound) �
 abbrev pub AreWithin : ℕ → ℕ → (ℕ → ℕ → ℤ) → Type 0
 AreWithin most size cell = (a b : ℕ) → a < size → b < size → IsWithin most (cell a b)
 
--- Cells come of bounds, each within 4 * 10^12: none is greater than its bound, and each that is stated follows from a walk over
+-- Cells come of bounds, each as small as one may be: none is greater than its bound, and each that is stated follows from a walk over
 -- bounds.
 pub record ComesOf (size : ℕ) (bounds cell : ℕ → ℕ → ℤ) : Type 0 where
-  pub within : AreWithin 4000000000000 size bounds
+  pub within : AreWithin most_bound size bounds
   pub less : AreLess size bounds cell
   pub follows : (a b : ℕ) → a < size → b < size → cell a b ≢ unstated → HasWalk size bounds a b (cell a b)
 
--- What stating bounds leaves, and closing them without a contradiction: the cells come of bounds, each is at most as far from 0
--- as 130 of these, and variable 0 is at most 0 over itself.
+-- What stating bounds leaves, and closing them without a contradiction: the cells come of bounds, each is within the largest that
+-- follows from such, and variable 0 is at most 0 over itself.
 pub record AreStated (size : ℕ) (cell : ℕ → ℕ → ℤ) : Type 0 where
   pub bounds : ℕ → ℕ → ℤ
   pub comes : ComesOf size bounds cell
-  pub within : AreWithin 520000000000000 size cell
+  pub within : AreWithin most_sum size cell
   pub origin : cell 0 0 ≤ℤ pos 0
 
 -- two bounds through this variable say no more than the bound of their ends
@@ -35,4 +36,4 @@ IsClosedAt size cell p =
 pub record IsClosed (size : ℕ) (cell : ℕ → ℕ → ℤ) : Type 0 where
   pub at : (p : ℕ) → p < size → IsClosedAt size cell p
   pub origin : cell 0 0 ≡ pos 0
-  pub within : AreWithin 520000000000000 size cell
+  pub within : AreWithin most_sum size cell

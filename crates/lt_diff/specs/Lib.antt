@@ -1,5 +1,7 @@
 -- Bounds, their solutions, and stating one.
 pub mod Bounds
+-- The greatest numbers that the rules allow.
+pub mod Limits
 -- Walks over bounds.
 pub mod Walks
 -- What stating bounds and closing them leaves.

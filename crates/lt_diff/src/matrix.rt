@@ -1,5 +1,6 @@
 //! Bounds on differences of variables, by a cell for each two of them.
 
+ghost use Rattle.lt_diff.specs.Limits.{most_bound, most_variables};
 ghost use Rattle.std.specs.Prelude.{◌≡◌, ◌≢◌, ◌*◌, ◌<◌, ◌≤◌, ℕ, ℤ, pos, ◌≤ℤ◌, length, get_or};
 
 use crate::relaxing::close;
@@ -16,7 +17,7 @@ pub struct Matrix {
     size: usize,
     cells: Vec<i64>,
     ghost some: { 0 < size },
-    ghost few: { size ≤ 129 },
+    ghost few: { size ≤ most_variables },
     ghost square: { length cells.items ≡ size * size },
 }
 
@@ -34,7 +35,7 @@ impl Matrix {
     /// Want of memory.
     pub fn make(alloc: Global, size: usize) -> Result<Matrix, Memory>
         requires some { 0 < size }
-        requires few { size ≤ 129 }
+        requires few { size ≤ most_variables }
         ensures size { IfOk result (λ m. matrix_size m ≡ size) }
         ensures cells { IfOk result (λ m. AreUnstated size (matrix_cell m)) }
         ensures stated { IfOk result (λ m. AreStated size (matrix_cell m)) }
@@ -62,8 +63,8 @@ impl Matrix {
     pub fn bound(&mut self, a: usize, b: usize, most: i64)
         requires a { a < matrix_size self.old }
         requires b { b < matrix_size self.old }
-        requires low { neg_ℤ (pos 4000000000000) ≤ℤ most }
-        requires high { most ≤ℤ pos 4000000000000 }
+        requires low { neg_ℤ (pos most_bound) ≤ℤ most }
+        requires high { most ≤ℤ pos most_bound }
         requires stated { AreStated (matrix_size self.old) (matrix_cell self.old) }
         ensures size { matrix_size self.new ≡ matrix_size self.old }
         ensures cells { IsBounded (matrix_size self.old) a b most (matrix_cell self.old) (matrix_cell self.new) }

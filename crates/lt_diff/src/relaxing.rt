@@ -2,6 +2,7 @@
 
 ghost use Rattle.std.specs.Prelude.{◌≡◌, ◌≢◌, ◌*◌, ◌<◌, ◌≤◌, ◌↔◌, ℕ, ℤ, Bool, true, false, pos, ◌≤ℤ◌, length};
 ghost use Rattle.lt_diff.specs.Bounds.{AreLess, HasSameSolutions, StaysStated, cell_of};
+ghost use Rattle.lt_diff.specs.Limits.{most_variables};
 ghost use Rattle.lt_diff.specs.Closing.{AreStated, AreWithin, IsClosed, IsWithin};
 ghost use Rattle.lt_diff.specs.Walks.{HasNegativeCycle};
 ghost use Rattle.lt_diff.specs.inner.Pivots.{HasNegative, IsFlat, IsPivoted, IsRelaxed};
@@ -12,7 +13,7 @@ use crate::square::UNSTATED;
 pub(crate) fn close(cells: &mut [i64], size: usize) -> bool
     requires square { length cells.old ≡ size * size }
     requires some { 0 < size }
-    requires few { size ≤ 129 }
+    requires few { size ≤ most_variables }
     requires stated { AreStated size (cell_of size cells.old) }
     ensures cycle { result ≡ false ↔ HasNegativeCycle size (cell_of size cells.old) }
     ensures closed { result ≡ true → IsClosed size (cell_of size cells.new) }
@@ -36,7 +37,7 @@ pub(crate) fn close(cells: &mut [i64], size: usize) -> bool
 // Whether no variable is to be under itself.
 fn is_flat(cells: &[i64], size: usize) -> bool
     requires square { length cells.now ≡ size * size }
-    requires few { size ≤ 129 }
+    requires few { size ≤ most_variables }
     ensures flat { result ≡ true → IsFlat size (cell_of size cells.now) }
     ensures negative { result ≡ false → HasNegative size (cell_of size cells.now) }
 {
@@ -51,7 +52,7 @@ fn is_flat(cells: &[i64], size: usize) -> bool
 // Relaxes each cell by way of `pivot`: the bound that follows from two bounds through it is stated too.
 fn relax(cells: &mut [i64], size: usize, pivot: usize)
     requires square { length cells.old ≡ size * size }
-    requires few { size ≤ 129 }
+    requires few { size ≤ most_variables }
     requires pivot { pivot < size }
     requires within { AreWithin 67600000000000000 size (cell_of size cells.old) }
     requires flat { pos 0 ≤ℤ cell_of size cells.old pivot pivot }
@@ -67,7 +68,7 @@ fn relax(cells: &mut [i64], size: usize, pivot: usize)
 // Relaxes the cells of a row.
 fn relax_row(cells: &mut [i64], size: usize, pivot: usize, row: usize)
     requires square { length cells.old ≡ size * size }
-    requires few { size ≤ 129 }
+    requires few { size ≤ most_variables }
     requires pivot { pivot < size }
     requires row { row < size }
     requires apart { row ≢ pivot }

@@ -2,6 +2,7 @@
 
 ghost use Rattle.std.specs.Prelude.{◌≡◌, ◌≢◌, ◌*◌, ◌<◌, ◌≤◌, ℕ, ℤ, pos, neg_ℤ, ◌≤ℤ◌, length, get_or};
 ghost use Rattle.lt_diff.specs.Bounds.{AreUnstated, IsBounded, StaysStated, cell_of, unstated};
+ghost use Rattle.lt_diff.specs.Limits.{most_bound, most_variables};
 ghost use Rattle.lt_diff.specs.Closing.{AreStated};
 
 /// The cell of two variables for which no bound is stated.
@@ -10,7 +11,7 @@ pub(crate) const UNSTATED: i64 = i64::MAX;
 /// Takes all bounds back.
 pub(crate) fn unstate(cells: &mut [i64], size: usize)
     requires square { length cells.old ≡ size * size }
-    requires few { size ≤ 129 }
+    requires few { size ≤ most_variables }
     ensures { AreUnstated size (cell_of size cells.new) }
 {
     cells.fill(UNSTATED);
@@ -22,11 +23,11 @@ pub(crate) fn unstate(cells: &mut [i64], size: usize)
 /// States a bound of `a` over `b`.
 pub(crate) fn state(cells: &mut [i64], size: usize, a: usize, b: usize, most: i64)
     requires square { length cells.old ≡ size * size }
-    requires few { size ≤ 129 }
+    requires few { size ≤ most_variables }
     requires a { a < size }
     requires b { b < size }
-    requires low { neg_ℤ (pos 4000000000000) ≤ℤ most }
-    requires high { most ≤ℤ pos 4000000000000 }
+    requires low { neg_ℤ (pos most_bound) ≤ℤ most }
+    requires high { most ≤ℤ pos most_bound }
     requires stated { AreStated size (cell_of size cells.old) }
     ensures cells { IsBounded size a b most (cell_of size cells.old) (cell_of size cells.new) }
     ensures stated { AreStated size (cell_of size cells.new) }
@@ -41,7 +42,7 @@ pub(crate) fn state(cells: &mut [i64], size: usize, a: usize, b: usize, most: i6
 pub(crate) fn negate_row(cells: &[i64], size: usize, into: &mut [i64])
     requires some { 0 < size }
     requires square { length cells.now ≡ size * size }
-    requires few { size ≤ 129 }
+    requires few { size ≤ most_variables }
     requires len { length into.old ≡ size }
     requires low { (a : ℕ) → a < size → neg_ℤ (pos 9223372036854775807) ≤ℤ cell_of size cells.now 0 a }
     ensures { (a : ℕ) → a < size → get_or into.new a (pos 0) ≡ neg_ℤ (cell_of size cells.now 0 a) }
