@@ -1,0 +1,194 @@
+"""Runs every command that the documents and the examples print, and compares what comes of it.
+
+    python3 scripts/check_docs.py [--program PATH] [--plant PATH]
+
+The programs are those that `rt ci` leaves in the checkout, where no option names others. A command
+stands after `$ ` in a block of a document, or after `-- $ ` in the comment of an example. What it
+writes, standard error among it, stands below, where a line `..` stands for any lines. A command in
+a sentence has to end well, or by an end of its run. Those with --unproved are left out, since each
+takes a minute or more. So are those that have a word in capitals, which stands for others.
+"""
+
+import argparse
+import os
+import re
+import shutil
+import subprocess
+import sys
+import tempfile
+from collections import namedtuple
+
+TOP = os.path.dirname(os.path.dirname(os.path.abspath(__file__)))
+DOCUMENTS = ("README.md", "docs/LANGUAGE.md", "docs/COMMAND.md", "docs/TRACE.md")
+
+# A command, with the file and the line where it stands, and the lines that are to come of it; or
+# None in their place, where nothing is printed.
+Shown = namedtuple("Shown", "file line command wanted")
+
+# Where a program stands that runs from a sentence: what names a file or a word by capitals is none.
+INLINE = re.compile(r"`(\./(?:lurette|lt_plant) [^`]*)`")
+PLACEHOLDER = re.compile(r"\b[A-Z]{2,}\b|(^| )N( |$)| \.\.( |$)")
+
+# The statuses of a run that ended in one of its ways, and of a call that went well.
+ENDED = (0, 1, 4, 5, 6, 7, 8, 10, 14)
+
+# What stands for the script `lurette` where commands are run.
+CALLED = """#!/bin/sh
+if [ "${1-}" = --explain ]; then
+    shift
+    exec python3 scripts/explain.py "PROGRAM" "$@"
+fi
+exec "PROGRAM" "$@"
+"""
+
+
+def sessions(file, lines):
+    """The commands of a block, with what comes of each. `lines` are pairs of number and text."""
+    found, lines = [], list(lines)
+    while lines:
+        number, text = lines.pop(0)
+        if not text.startswith("$ "):
+            continue
+        command = text[2:]
+        while command.endswith("\\") and lines:
+            command = command[:-1] + lines.pop(0)[1].strip()
+        wanted = []
+        while lines and not lines[0][1].startswith("$ "):
+            wanted.append(lines.pop(0)[1])
+        found.append(Shown(file, number, command, wanted))
+    return found
+
+
+def blocks(text):
+    """The blocks of a document between fences, and its other lines, each with its number."""
+    inside, outside, block = [], [], None
+    for number, line in enumerate(text.splitlines(), 1):
+        if line.startswith("```"):
+            if block is not None:
+                inside.append(block)
+            block = [] if block is None else None
+        elif block is None:
+            outside.append((number, line))
+        else:
+            block.append((number, line))
+    return inside, outside
+
+
+def is_run(command):
+    return "--unproved" not in command and "--is-proved" not in command
+
+
+def commands_of_document(file, text):
+    inside, outside = blocks(text)
+    found = [it for block in inside for it in sessions(file, block)]
+    for number, line in outside:
+        for command in INLINE.findall(line):
+            if not PLACEHOLDER.search(command):
+                found.append(Shown(file, number, command.replace("\\|", "|"), None))
+    return [it for it in found if is_run(it.command)]
+
+
+def commands_of_example(file, text):
+    """The commands of an example's comments. What comes of one ends with its comment."""
+    block, found = [], []
+    for number, line in [*enumerate(text.splitlines(), 1), (0, "")]:
+        if line.startswith("-- "):
+            block.append((number, line[3:]))
+        else:
+            found += sessions(file, block)
+            block = []
+    return found
+
+
+def read(path):
+    with open(os.path.join(TOP, path), encoding="utf-8") as file:
+        return file.read()
+
+
+def all_commands():
+    """The commands of each file, in turn."""
+    for file in DOCUMENTS:
+        yield commands_of_document(file, read(file))
+    for name in sorted(os.listdir(os.path.join(TOP, "examples"))):
+        if name.endswith(".lut"):
+            yield commands_of_example(f"examples/{name}", read(f"examples/{name}"))
+
+
+def furnish(room, program, plant):
+    """Puts into a folder what commands at the top of the repository find there."""
+    for name in ("docs", "examples", "scripts"):
+        shutil.copytree(os.path.join(TOP, name), os.path.join(room, name))
+    for name, path in (("lurette", program), ("lt_plant", plant)):
+        with open(os.path.join(room, name), "w", encoding="utf-8") as file:
+            file.write(CALLED.replace("PROGRAM", os.path.abspath(path)))
+        os.chmod(os.path.join(room, name), 0o755)
+
+
+def outcome(command, room):
+    """The status of a command, and the lines that it writes."""
+    how = {"stdout": subprocess.PIPE, "stderr": subprocess.STDOUT, "stdin": subprocess.DEVNULL}
+    try:
+        run = subprocess.run(["sh", "-c", command], cwd=room, timeout=120, check=False, **how)
+    except subprocess.TimeoutExpired:
+        return None, ["(it had not ended after 120 seconds)"]
+    return run.returncode, run.stdout.decode("utf-8", "replace").splitlines()
+
+
+def fits(found, wanted):
+    """Whether lines are those that are wanted, in which `..` stands for any lines."""
+    if ".." not in wanted:
+        return found == wanted
+    at = wanted.index("..")
+    rest, places = wanted[at + 1 :], range(at, len(found) + 1)
+    return found[:at] == wanted[:at] and any(fits(found[it:], rest) for it in places)
+
+
+def fault_of(shown, room):
+    """What is wrong with a command, in lines; none where it gives what is printed."""
+    status, found = outcome(shown.command, room)
+    if shown.wanted is None:
+        is_well = status in ENDED
+        wanted = ["(a status of a run that ended)"]
+        found = [f"(the status {status})", *found]
+    else:
+        is_well = fits(found, shown.wanted)
+        wanted = shown.wanted
+    if is_well:
+        return []
+    indented = lambda lines: [f"    {it}" for it in lines]
+    head = f"{shown.file}:{shown.line}: $ {shown.command}"
+    return [head, "  printed:", *indented(wanted), "  found:", *indented(found)]
+
+
+def check(program, plant):
+    """How many commands were run, and what is wrong with them."""
+    count, faults = 0, []
+    for commands in all_commands():
+        with tempfile.TemporaryDirectory(prefix="check-docs-") as room:
+            furnish(room, program, plant)
+            for shown in commands:
+                count += 1
+                faults += fault_of(shown, room)
+    return count, faults
+
+
+def main(words):
+    built = lambda name: os.path.join(TOP, "crates", name, "out", name)
+    parser = argparse.ArgumentParser(prog="check_docs.py")
+    parser.add_argument("--program", default=built("lurette"))
+    parser.add_argument("--plant", default=built("lt_plant"))
+    given = parser.parse_args(words)
+    for path in (given.program, given.plant):
+        if not os.access(path, os.X_OK):
+            print(f"check_docs: {path} is not there, so no command can be run", file=sys.stderr)
+            return 2
+    count, faults = check(given.program, given.plant)
+    for line in faults:
+        print(line)
+    wrong = sum(not it.startswith(" ") for it in faults)
+    print(f"check_docs: {count - wrong} of {count} commands give what is printed")
+    return 1 if faults else 0
+
+
+if __name__ == "__main__":
+    sys.exit(main(sys.argv[1:]))

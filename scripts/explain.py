@@ -1,0 +1,183 @@
+"""Runs a program of lurette, and says below the line that it ends with what that line means.
+
+    python3 scripts/explain.py PROGRAM WORD ..
+
+Standard output, standard error and the status are the program's own. What is said more comes behind
+its last line, on standard error: a sentence, and the line of the file with a caret at the place.
+"""
+
+import os
+import signal
+import subprocess
+import sys
+import threading
+
+import call_words
+
+# Each code of a refusal.
+CODES = {
+    "file.TooLong": "The file is larger than lurette reads: 1 MiB of scenario, 64 MiB of trace.",
+    "lex.BadByte": "This byte begins no word, number, symbol or comment of the language.",
+    "lex.OpenComment": "This comment isn't closed: a `*)` is missing.",
+    "lex.NumberTooLong": "This number has more than 18 digits.",
+    "parse.Unexpected": "No program goes on with this: something before it is missing or too much.",
+    "parse.TooDeep": "Here more than 200 constructs are open in one another.",
+    "type.Unknown": "Nothing of this name is known here: it is misspelled, or declared further on.",
+    "type.Twice": "This name is declared a second time.",
+    "type.Mismatch": "This has another type than its place wants. `1` is an int, `1.0` is a real.",
+    "type.Arity": "The name takes another number of arguments than are given here.",
+    "type.PreOfExpression": "`pre` takes the name of a variable, and this name is none.",
+    "type.EmptyRange": "The low end of this range is over its high end.",
+    "type.RangeTooLarge": "This end of a range is past 10^12 units of the last decimal.",
+    "type.NoNode": "The text declares no node, so there is nothing to run.",
+    "expand.UnknownNode": "The text has no node of the name that --node gives.",
+    "expand.TooLarge": "With its macros replaced the node is past a limit of size or depth.",
+    "expand.BadStatic": "A bound or a first value is a fixed value, and one that may stand here.",
+    "expand.NonLinear": "Of two values that are multiplied or divided, one has to be known before.",
+    "expand.ControllableCondition": "An `if` between numbers can't depend on what is drawn now.",
+    "expand.ControllableWeight": "A weight can't depend on what is drawn in the same instant.",
+    "run.NeedsController": "The scenario has inputs: name their giver by --sut or by --replay.",
+}
+
+# Each kind of a fault of the words.
+USAGES = {
+    "words": "An option is unknown, given twice or without its word, or MODE or FILE is missing.",
+    "mode": "The first word is none of the modes run, print and stress.",
+    "number": "After stress stands a number from 0 to 999999, in digits alone.",
+    "both": "A run takes its inputs from --sut or from --replay, and not from both.",
+}
+
+# Each kind of an arithmetic fault.
+FAULTS = {
+    "NoPrevious": "`pre` of a variable has no value yet: give it a first value, as in `x: int = 0`",
+    "DivisionByZero": "A constraint or a weight divides by 0.",
+    "Overflow": "A result is past 10^12 units of the last decimal.",
+    "NegativeWeight": "The weight of an alternative is below 0.",
+}
+
+# Each kind of a refused reply.
+REPLIES = {
+    "NotAValue": "It answered a word that is no value of the kind that is due.",
+    "OutOfRange": "It answered a number that is outside the range which the scenario declares.",
+    "TooLong": "It wrote 65,536 bytes without a whole answer.",
+}
+
+# What failed of each device.
+DEVICES = {
+    "file": "A file couldn't be read: is its name right, and may it be read?",
+    "controller": "The connection to the controller failed; with the number 0 it wasn't started.",
+    "oracle": "The connection to the oracle failed; with the number 0 it wasn't started.",
+    "trace": "What was to be written to standard output couldn't be written.",
+}
+
+# What the first word of any other line says.
+ENDS = {
+    "oracle": "The oracle found this step wrong: it is the last one of the trace.",
+    "deadlock": "No values do for this instant. Look at what its constraints and ranges leave.",
+    "raise": "The scenario raised this exception, and no `catch` is for it.",
+    "ended": "It closed its output, or ended, where an answer was due.",
+    "budget": "The search would be over the budget: give each number a smaller range.",
+    "memory": "Memory ran out.",
+    "toolarge": "This instant offers more than 65,536 alternatives.",
+}
+
+# First words of a line, each with the table that has the sentence of a word after it.
+TABLES = {
+    "usage": USAGES,
+    "refused": CODES,
+    "fault": FAULTS,
+    "malformed": REPLIES,
+    "device": DEVICES,
+}
+
+
+def sentence(line):
+    """What a line of the program means, which is given without its name; or None."""
+    words = line.replace(":", " ", 1).split()
+    if not words:
+        return None
+    table = TABLES.get(words[0])
+    if table is None:
+        return ENDS.get(words[0])
+    return next((table[it] for it in words[1:3] if it in table), None)
+
+
+def place_in(line):
+    """The place that a line tells, or None."""
+    words = line.split()
+    told = words[-2:-1] == ["at"] and words[-1].isdigit()
+    return int(words[-1]) if told else None
+
+
+def file_of(line, words):
+    """The file that the place of a line is in, or None."""
+    if line.startswith("refused"):
+        return call_words.text_of(words, "file")
+    if line.startswith("malformed controller"):
+        return call_words.text_of(words, "--replay")
+    return None
+
+
+def shown_place(text, place):
+    """The number of a line and of a column, both from 1, of a place in a text, with the line."""
+    before = text[:place].decode("utf-8", "replace")
+    line = text.split(b"\n")[before.count("\n")].decode("utf-8", "replace").rstrip("\r")
+    return before.count("\n") + 1, len(before) - (before.rfind("\n") + 1) + 1, line
+
+
+def caret_below(line, column):
+    """The blanks up to a column, with the tabs of the line above, and a caret."""
+    return "".join("\t" if it == "\t" else " " for it in line[: column - 1].ljust(column - 1)) + "^"
+
+
+def explanation(line, words):
+    """The lines that explain a line of the program."""
+    meant, place, name = sentence(line), place_in(line), file_of(line, words)
+    if meant is None:
+        return []
+    try:
+        with open(name or "", "rb") as file:
+            text = file.read()
+    except OSError:
+        return [meant]
+    if place is None or place > len(text):
+        return [meant]
+    number, column, shown = shown_place(text, place)
+    head = f"{name}:{number}:{column}: {meant}"
+    return [head, f"    {shown}", f"    {caret_below(shown, column)}"]
+
+
+def line_of(said):
+    """The line that the program ended with, without its name, from the end of standard error."""
+    name = "lurette: "
+    lines = said.decode("utf-8", "replace").splitlines()
+    own = [it[len(name) :] for it in lines if it.startswith(name)]
+    return own[-1] if own else ""
+
+
+def copied(stream, kept):
+    """Hands standard error on as it comes, and keeps the end of it."""
+    for chunk in iter(lambda: os.read(stream.fileno(), 65536), b""):
+        sys.stderr.buffer.write(chunk)
+        sys.stderr.flush()
+        kept[:] = (kept + chunk)[-65536:]
+
+
+def main(program, *words):
+    # What the terminal sends goes to the program too. It ends by it, and this with it.
+    signal.signal(signal.SIGINT, lambda *_: None)
+    run = subprocess.Popen([program, *words], stderr=subprocess.PIPE)
+    kept = bytearray()
+    copier = threading.Thread(target=copied, args=(run.stderr, kept), daemon=True)
+    copier.start()
+    status = run.wait()
+    # A program that still runs may hold standard error open.
+    copier.join(1)
+    if status > 0:
+        for line in explanation(line_of(bytes(kept)), words):
+            print(line, file=sys.stderr)
+    return status if status >= 0 else 128 - status
+
+
+if __name__ == "__main__":
+    sys.exit(main(*sys.argv[1:]))

@@ -1,0 +1,115 @@
+"""That each line that the program may end with has its sentence, and that places are shown."""
+
+import os
+import re
+import tempfile
+import unittest
+
+import explain
+
+TOP = os.path.dirname(os.path.dirname(os.path.abspath(__file__)))
+
+# What stands in COMMAND's table of lines for what a call puts there.
+PUT_IN = {
+    "usage: KIND": ["usage: " + it for it in ("words", "mode", "number", "both")],
+    "fault KIND K": [
+        f"fault {it} 3" for it in ("NoPrevious", "DivisionByZero", "Overflow", "NegativeWeight")
+    ],
+    "malformed WHO KIND K at PLACE": [
+        f"malformed controller {it} 3 at 9" for it in ("NotAValue", "OutOfRange", "TooLong")
+    ],
+    "device WHAT K": [f"device {it} 0" for it in ("file", "controller", "oracle", "trace")],
+    "refused CODE": [],
+    "refused CODE at PLACE": [],
+}
+
+
+def command_page():
+    with open(os.path.join(TOP, "docs", "COMMAND.md"), encoding="utf-8") as file:
+        return file.read()
+
+
+def section(title):
+    return command_page().partition(f"\n## {title}\n")[2].partition("\n## ")[0]
+
+
+class Sentences(unittest.TestCase):
+    def test_each_line_of_a_status_has_one(self):
+        rows = re.findall(r"^\| \d+ \|.*\| (`.*`[^|]*) \|$", section("Statuses and messages"), re.M)
+        lines = [it for row in rows for it in re.findall(r"`([^`]*)`", row)]
+        self.assertGreaterEqual(len(lines), 12)
+        for line in lines:
+            for told in PUT_IN.get(line, [line]):
+                self.assertIsNotNone(explain.sentence(told), told)
+
+    def test_each_code_has_one_and_no_other(self):
+        found = re.findall(r"^\| `(\w+\.\w+)` \|", section("Statuses and messages"), re.M)
+        self.assertEqual(sorted(explain.CODES), sorted(found))
+        for code in found:
+            self.assertEqual(explain.sentence(f"refused {code} at 3"), explain.CODES[code])
+
+    def test_each_kind_is_named_by_the_page(self):
+        kinds = [explain.USAGES, explain.FAULTS, explain.REPLIES, explain.DEVICES]
+        for kind in (it for table in kinds for it in table):
+            self.assertIn(f"`{kind}`", command_page())
+
+    def test_sentences_are_short(self):
+        tables = [*explain.TABLES.values(), explain.ENDS]
+        for meant in (it for table in tables for it in table.values()):
+            self.assertLessEqual(len(meant), 90, meant)
+
+    def test_nothing_is_said_of_other_lines(self):
+        self.assertIsNone(explain.sentence("hello"))
+        self.assertIsNone(explain.sentence(""))
+
+
+class Places(unittest.TestCase):
+    def explained(self, text, line, words):
+        with tempfile.TemporaryDirectory() as room:
+            path = os.path.join(room, "f")
+            with open(path, "wb") as file:
+                file.write(text)
+            words = [path if it == "f" else it for it in words]
+            return [it.replace(path, "f") for it in explain.explanation(line, words)]
+
+    def test_a_place_is_shown_in_its_line(self):
+        text = b"node n() returns (b: bool) =\n    b and c\n"
+        found = self.explained(text, "refused type.Unknown at 39", ["run", "f"])
+        self.assertEqual(found[0], f"f:2:11: {explain.CODES['type.Unknown']}")
+        self.assertEqual(found[1:], ["        b and c", "              ^"])
+
+    def test_columns_count_letters_and_not_bytes(self):
+        text = "(* ä *) node".encode()
+        found = self.explained(text, "refused parse.Unexpected at 9", ["run", "f"])
+        self.assertEqual(found[1:], ["    (* ä *) node", "            ^"])
+
+    def test_a_place_may_be_the_end_of_the_text(self):
+        found = self.explained(b"node n()\n", "refused parse.Unexpected at 9", ["run", "f"])
+        self.assertEqual(found[1:], ["    ", "    ^"])
+
+    def test_tabs_stay(self):
+        found = self.explained(b"\tx ?", "refused lex.BadByte at 3", ["print", "f"])
+        self.assertEqual(found[1:], ["    \tx ?", "    \t  ^"])
+
+    def test_a_reply_is_shown_in_the_earlier_trace(self):
+        line = "malformed controller NotAValue 1 at 2"
+        found = self.explained(b"1 x\n", line, ["run", "g", "--replay", "f"])
+        self.assertEqual(found[0], f"f:1:3: {explain.REPLIES['NotAValue']}")
+
+    def test_where_no_file_has_the_place_the_sentence_stands_alone(self):
+        line = "malformed controller NotAValue 1 at 2"
+        found = self.explained(b"1 x\n", line, ["run", "f", "--sut", "c"])
+        self.assertEqual(found, [explain.REPLIES["NotAValue"]])
+        self.assertEqual(len(explain.explanation("refused lex.BadByte at 0", ["run", ""])), 1)
+
+
+class Programs(unittest.TestCase):
+    def test_the_last_line_of_the_program_counts(self):
+        self.assertEqual(explain.line_of(b"hum\nlurette: deadlock 4\n"), "deadlock 4")
+        usage = b"lurette: usage: words\nlurette MODE FILE [-l N]\n"
+        self.assertEqual(explain.line_of(usage), "usage: words")
+        self.assertEqual(explain.line_of(b""), "")
+
+
+if __name__ == "__main__":
+    unittest.main()

@@ -1,0 +1,137 @@
+"""That the scripts that start the program read its words, and tell how far a proof is."""
+
+import io
+import os
+import shlex
+import subprocess
+import tempfile
+import unittest
+
+import call_words
+import check_docs
+import prove
+import unproved
+
+TOP = os.path.dirname(os.path.dirname(os.path.abspath(__file__)))
+
+
+class Words(unittest.TestCase):
+    def roles(self, line):
+        return [(it.role, it.text) for it in call_words.parts_of(shlex.split(line))]
+
+    def test_files_and_commands_are_found_in_any_order(self):
+        wanted = [("-l", "5"), ("mode", "run"), ("--sut", "a b"), ("file", "f"), ("--replay", "t")]
+        self.assertEqual(self.roles("-l5 run --sut 'a b' --locals f --replay=t"), wanted)
+
+    def test_what_stands_behind_two_dashes_is_plain(self):
+        self.assertEqual(self.roles("run -- -f"), [("mode", "run"), ("file", "-f")])
+        self.assertEqual(self.roles("run -"), [("mode", "run"), ("file", "-")])
+
+    def test_a_missing_word_is_none(self):
+        self.assertEqual(self.roles("run f --sut"), [("mode", "run"), ("file", "f")])
+
+    def test_texts_are_changed_where_they_stand(self):
+        words = ["--seed=3", "run", "f", "--replay=g=h", "-l", "4"]
+        marked = call_words.with_texts(words, lambda part: f"<{part.text}>")
+        self.assertEqual(marked, ["--seed=<3>", "<run>", "<f>", "--replay=<g=h>", "-l", "<4>"])
+
+
+class Unproved(unittest.TestCase):
+    def elsewhere(self, *words):
+        with tempfile.TemporaryDirectory() as room:
+            found = unproved.words_from_elsewhere(words, room)
+            commands = {}
+            for name in os.listdir(room):
+                run = subprocess.run([os.path.join(room, name)], stdout=subprocess.PIPE, check=True)
+                commands[name] = run.stdout.decode()
+            return [it.replace(room, "ROOM") for it in found], commands
+
+    def test_files_have_whole_paths(self):
+        here = os.getcwd()
+        words, _ = self.elsewhere("-l", "3", "run", "a/f", "--replay=t")
+        self.assertEqual(words, ["-l", "3", "run", f"{here}/a/f", f"--replay={here}/t"])
+        self.assertEqual(self.elsewhere("run", "/f")[0], ["run", "/f"])
+        self.assertEqual(self.elsewhere("run", "")[0], ["run", ""])
+        self.assertEqual(self.elsewhere("stress", "6")[0], ["stress", "6"])
+
+    def test_commands_run_as_the_caller_would_run_them(self):
+        os.environ["LURETTE_TEST"] = "it's\nthere"
+        named = "printenv LURETTE_TEST"
+        words, said = self.elsewhere("run", "/f", "--sut", "pwd -P", f"--oracle={named}")
+        self.assertEqual(words, ["run", "/f", "--sut", "ROOM/sut", "--oracle=ROOM/oracle"])
+        self.assertEqual(said["sut"].strip(), os.path.realpath(os.getcwd()))
+        self.assertEqual(said["oracle"], "it's\nthere\n")
+
+    def test_what_cannot_be_started_stays(self):
+        for command in ("no-such-program x", "  ", ""):
+            words = ["run", "/f", "--sut", command]
+            self.assertEqual(self.elsewhere(*words)[0], words)
+
+    def test_a_plant_without_a_proof_is_refused(self):
+        with self.assertRaises(unproved.Refused):
+            self.elsewhere("run", "/f", "--sut", f"{TOP}/lt_plant --unproved gate")
+
+
+class Proving(unittest.TestCase):
+    CRATES = "# low\na:\nb: a std # a comment\n\nc: b a\nd: a\n"
+
+    def test_crates_are_listed_lowest_first(self):
+        crates = prove.listed(self.CRATES)
+        self.assertEqual(crates, {"a": [], "b": ["a", "std"], "c": ["b", "a"], "d": ["a"]})
+        self.assertEqual(prove.with_those_below("c", crates), ["a", "b", "c"])
+
+    def test_a_copy_has_the_crates_and_their_lines(self):
+        with tempfile.TemporaryDirectory() as room:
+            top, to = os.path.join(room, "top"), os.path.join(room, "to")
+            for path in ("a/src/lib.rt", "a/out/a", "a/must-fail/x.edit", "d/src/lib.rt"):
+                os.makedirs(os.path.dirname(f"{top}/crates/{path}"), exist_ok=True)
+                with open(f"{top}/crates/{path}", "w", encoding="utf-8") as file:
+                    file.write(path)
+            with open(f"{top}/crates.txt", "w", encoding="utf-8") as file:
+                file.write(self.CRATES)
+            os.mkdir(to)
+            prove.copy_crates(["a"], top, to)
+            self.assertEqual(os.listdir(f"{to}/crates"), ["a"])
+            self.assertEqual(os.listdir(f"{to}/crates/a"), ["src"])
+            with open(f"{to}/crates.txt", encoding="utf-8") as file:
+                self.assertEqual(file.read(), "a:\n")
+
+    def test_progress_is_told_by_the_text_that_is_proved(self):
+        time = iter([0, 120, 120, 600, 600, 600])
+        out = io.StringIO()
+        progress = prove.Progress("p", {"a": 100, "b": 300, "c": 100}, lambda: next(time), out)
+        self.assertFalse(progress.take("rt: e proved\n"))
+        self.assertTrue(progress.take("rt: a proved\n"))
+        self.assertEqual(progress.line(), "1 of 3 crates proved, 2 min gone, about 8 min left")
+        progress.take("rt: b is kept: an earlier run on this machine proved the same files\n")
+        progress.take("rt: c NOT PROVED\n")
+        self.assertEqual(progress.done, {"a", "b"})
+        progress.tell(True)
+        self.assertEqual(
+            out.getvalue(), "p: 2 of 3 crates proved, 10 min gone, about 10 min left\n"
+        )
+
+
+class Documents(unittest.TestCase):
+    def test_commands_of_a_block(self):
+        text = "a\n```\n$ one \\\n  two\nx\n$ three\n```\n`./lurette run f` `./lurette run FILE`\n"
+        found = check_docs.commands_of_document("d", text)
+        told = [(it.line, it.command, it.wanted) for it in found]
+        self.assertEqual(
+            told, [(3, "one two", ["x"]), (6, "three", []), (8, "./lurette run f", None)]
+        )
+
+    def test_commands_of_an_example(self):
+        text = "-- Words.\n-- $ one\n-- x\n\n-- $ two\nnode\n"
+        found = check_docs.commands_of_example("e", text)
+        self.assertEqual([(it.command, it.wanted) for it in found], [("one", ["x"]), ("two", [])])
+
+    def test_two_points_stand_for_any_lines(self):
+        self.assertTrue(check_docs.fits(["a", "b", "c"], ["a", "..", "c"]))
+        self.assertTrue(check_docs.fits(["a", "c"], ["a", "..", "c"]))
+        self.assertFalse(check_docs.fits(["a", "b"], ["a", "..", "c"]))
+        self.assertFalse(check_docs.fits(["a", "b"], ["a"]))
+
+
+if __name__ == "__main__":
+    unittest.main()
