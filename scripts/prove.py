@@ -9,12 +9,14 @@ wrong bodies: those are for the gate.
 """
 
 import os
+import queue
 import re
 import shutil
 import signal
 import subprocess
 import sys
 import tempfile
+import threading
 import time
 
 TOP = os.path.dirname(os.path.dirname(os.path.abspath(__file__)))
@@ -131,18 +133,34 @@ def proves(room, progress):
     )
     for number in (signal.SIGINT, signal.SIGTERM, signal.SIGHUP):
         signal.signal(number, lambda told, _: stop(run, told))
-    signal.signal(signal.SIGALRM, lambda *_: progress.tell(False))
-    signal.setitimer(signal.ITIMER_REAL, 5, 5)
     lines = []
-    for line in run.stdout:
-        lines.append(line)
-        if progress.take(line):
-            progress.tell(True)
-    signal.setitimer(signal.ITIMER_REAL, 0)
+    for line in lines_or_none(run.stdout, 5):
+        lines.append(line or "")
+        progress.tell(progress.take(line or ""))
     progress.end()
     if run.wait():
         sys.stderr.writelines(lines)
     return run.returncode == 0
+
+
+def lines_or_none(stream, seconds):
+    """The lines of a stream, and None where so many seconds pass without one."""
+    waiting = queue.Queue()
+
+    def read():
+        for line in stream:
+            waiting.put(line)
+        waiting.put("")
+
+    threading.Thread(target=read, daemon=True).start()
+    while True:
+        try:
+            line = waiting.get(timeout=seconds)
+        except queue.Empty:
+            line = None
+        if line == "":
+            return
+        yield line
 
 
 def stop(run, number):

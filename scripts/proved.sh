@@ -65,28 +65,27 @@ build() {
     }
 }
 
-# Runs the program on the words given, proved where they don't begin with --unproved.
+# Runs the program on the words given. Before them may stand words of the script's own: --unproved,
+# --explain and --is-proved.
 run_program() {
-    case ${1-} in
-        --is-proved)
-            is_proved
-            exit
-            ;;
-        --unproved)
-            need python3
-            shift
-            exec python3 "$top/scripts/unproved.py" "$name" "$@"
-            ;;
-    esac
-    explains=
-    if [ "${1-}" = --explain ]; then
+    explains='' is_unproved=''
+    [ -t 2 ] && command -v python3 >/dev/null && explains=--explain
+    while :; do
+        case ${1-} in
+            --is-proved)
+                is_proved
+                exit
+                ;;
+            --explain) explains=--explain ;;
+            --unproved) is_unproved=yes ;;
+            *) break ;;
+        esac
         shift
-        need python3
-        explains=yes
-    elif [ -t 2 ] && command -v python3 >/dev/null; then
-        explains=yes
-    fi
+    done
+    [ "$name" = lurette ] || explains=
+    [ -n "$explains$is_unproved" ] && need python3
+    [ -n "$is_unproved" ] && exec python3 "$top/scripts/unproved.py" "$name" $explains "$@"
     is_proved || build
-    [ "$name$explains" = luretteyes ] && exec python3 "$top/scripts/explain.py" "$program" "$@"
+    [ -n "$explains" ] && exec python3 "$top/scripts/explain.py" "$program" "$@"
     exec "$program" "$@"
 }

@@ -112,6 +112,16 @@ class Proving(unittest.TestCase):
         )
 
 
+    def test_lines_are_waited_for_a_while(self):
+        reading, writing = os.pipe()
+        with os.fdopen(reading) as stream, os.fdopen(writing, "w") as other:
+            lines = prove.lines_or_none(stream, 0.01)
+            self.assertIsNone(next(lines))
+            other.write("one\n")
+            other.close()
+            self.assertEqual([it for it in lines if it], ["one\n"])
+
+
 class Documents(unittest.TestCase):
     def test_commands_of_a_block(self):
         text = "a\n```\n$ one \\\n  two\nx\n$ three\n```\n`./lurette run f` `./lurette run FILE`\n"

@@ -1,6 +1,6 @@
 """Runs the source of a program as it stands, with no proof, by `rt try`.
 
-    python3 scripts/unproved.py lurette WORD ..
+    python3 scripts/unproved.py lurette [--explain] WORD ..
     python3 scripts/unproved.py lt_plant WORD ..
 
 `rt try` builds the program anew for each run, and runs it in a new folder without an environment.
@@ -17,6 +17,7 @@ import sys
 import tempfile
 
 import call_words
+import explain
 
 TOP = os.path.dirname(os.path.dirname(os.path.abspath(__file__)))
 NO_PROGRAM = 125
@@ -100,7 +101,7 @@ def room_without_blanks():
 
 
 def tried(name, words, reads_input):
-    """Runs a program by `rt try`, and returns its status, or that there was no program to run."""
+    """Runs a program by `rt try`. Returns its status, or that there was none, and what was said."""
     # In a session of its own, so that all of it can be stopped.
     run = subprocess.Popen(
         ["rt", "try", "--", *words],
@@ -111,13 +112,14 @@ def tried(name, words, reads_input):
     )
     for number in (signal.SIGINT, signal.SIGTERM, signal.SIGHUP):
         signal.signal(number, lambda told, _: stop(run, told))
-    last = b""
+    said = []
     for line in run.stderr:
         sys.stderr.buffer.write(line)
         sys.stderr.flush()
-        last = line
+        said.append(line)
     status = run.wait()
-    return status if last.startswith(b"run=ended ") else NO_PROGRAM
+    has_ended = said and said[-1].startswith(b"run=ended ")
+    return (status if has_ended else NO_PROGRAM), b"".join(said)
 
 
 def stop(run, number):
@@ -127,19 +129,24 @@ def stop(run, number):
 
 
 def main(name, *words):
+    explains = words[:1] == ("--explain",)
+    words = words[explains:]
     if shutil.which("rt") is None:
         say(name, "the command rt of the Rattle kit is not found: README.md says what is needed")
         return NO_PROGRAM
     with room_without_blanks() as room:
         try:
-            if name == "lurette":
-                words = words_from_elsewhere(words, room)
+            given = words_from_elsewhere(words, room) if name == "lurette" else words
         except Refused as why:
             say(name, why)
             return NO_PROGRAM
         say(name, "nothing is proved of this run. The program is built first, in a minute or more.")
         say(name, "What it writes comes when it has ended")
-        return tried(name, words, reads_input=name != "lurette")
+        status, said = tried(name, given, reads_input=name != "lurette")
+    if explains and status:
+        for line in explain.explanation(explain.line_of(said), words):
+            print(line, file=sys.stderr)
+    return status
 
 
 if __name__ == "__main__":
