@@ -122,6 +122,24 @@ class Proving(unittest.TestCase):
             self.assertEqual([it for it in lines if it], ["one\n"])
 
 
+def texts_of(folder, ending):
+    """The texts of the files of a folder whose names end so."""
+    names = sorted(os.listdir(os.path.join(TOP, folder)))
+    return [check_docs.read(f"{folder}/{it}") for it in names if it.endswith(ending)]
+
+
+def code(text):
+    """The lines of a scenario's text, without comments and empty lines."""
+    return [it for it in text.splitlines() if it and not it.startswith("--")]
+
+
+def code_blocks(file):
+    """The blocks of a document without commands, each as the lines of a scenario's text."""
+    inside, _ = check_docs.blocks(check_docs.read(file))
+    texts = ["\n".join(line for _, line in block) for block in inside]
+    return [code(it) for it in texts if "$ " not in it]
+
+
 class Documents(unittest.TestCase):
     def test_commands_of_a_block(self):
         text = "a\n```\n$ one \\\n  two\nx\n$ three\n```\n`./lurette run f` `./lurette run FILE`\n"
@@ -135,6 +153,19 @@ class Documents(unittest.TestCase):
         text = "-- Words.\n-- $ one\n-- x\n\n-- $ two\nnode\n"
         found = check_docs.commands_of_example("e", text)
         self.assertEqual([(it.command, it.wanted) for it in found], [("one", ["x"]), ("two", [])])
+
+    def test_scenarios_of_documents_are_those_of_examples(self):
+        shown = {}
+        for block in (it for file in check_docs.DOCUMENTS for it in code_blocks(file)):
+            head = next((it for it in block if it.startswith("node ")), None)
+            shown.setdefault(head, []).append("\n".join(block))
+        count = 0
+        for example in texts_of("examples", ".lut"):
+            head = next(it for it in code(example) if it.startswith("node "))
+            text, count = "\n".join(code(example)), count + (head in shown)
+            # One may be shown twice, as it is and expanded.
+            self.assertTrue(head not in shown or any(it in text for it in shown[head]), head)
+        self.assertGreaterEqual(count, 6)
 
     def test_two_points_stand_for_any_lines(self):
         self.assertTrue(check_docs.fits(["a", "b", "c"], ["a", "..", "c"]))

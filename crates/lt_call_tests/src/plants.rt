@@ -158,7 +158,7 @@ files 2
 // it out. The heater goes on and off.
 const DRAFTY: &str = r#"
 beside plants
-f is node room(heat: bool) returns (temp: real [0.0; 40.0] = 20.0; door: bool) =
+f is node drafty(heat: bool) returns (temp: real [0.0; 40.0] = 20.0; door: bool) =
 f is     {
 f is         &> loop {
 f is             | 3: temp = pre temp + (if heat then 0.6 else -0.4)
