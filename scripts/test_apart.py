@@ -63,6 +63,17 @@ class Documents(unittest.TestCase):
             self.assertEqual(" ".join(found), values, name)
 
 
+    def test_the_table_of_patterns(self):
+        row = re.compile(r"^\| `(\w+)` \| .* \| `(.*)` \| (.*) \.\. \|$", re.M)
+        rows = row.findall(read("docs/LANGUAGE.md"))
+        self.assertEqual([name for name, *_ in rows], list(apart.PATTERNS))
+        texts = " ".join(read("examples/patterns.lut").split())
+        for name, text, values in rows:
+            self.assertIn(text.replace("\\|", "|"), texts)
+            found = first_values(apart.PATTERNS[name](), len(values.split()), 0)
+            self.assertEqual(" ".join(found), values, name)
+
+
 class Thermostats(unittest.TestCase):
     def test_rows_have_the_traces_of_both(self):
         rows = traces_of_rows(read("crates/lt_call_tests/src/plants.rt"))
