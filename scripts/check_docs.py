@@ -5,13 +5,15 @@
 The programs are those that `rt ci` leaves in the checkout, where no option names others. A command
 stands after `$ ` in a block of a document, or after `-- $ ` in the comment of an example. What it
 writes, standard error among it, stands below, where a line `..` stands for any lines. A command in
-a sentence has to end well, or by an end of its run. Those with --unproved are left out, since each
-takes a minute or more. So are those that have a word in capitals, which stands for others.
+a sentence has to end well, or by an end of its run. The row of a table that has the text of a node
+is run too: it says the outputs and the end, or a refusal with its place. Commands with --unproved
+are left out, since each takes a minute or more, and so are those with a word in capitals.
 """
 
 import argparse
 import os
 import re
+import shlex
 import shutil
 import subprocess
 import sys
@@ -28,6 +30,13 @@ Shown = namedtuple("Shown", "file line command wanted")
 # Where a program stands that runs from a sentence: what names a file or a word by capitals is none.
 INLINE = re.compile(r"`(\./(?:lurette|lt_plant) [^`]*)`")
 PLACEHOLDER = re.compile(r"\b[A-Z]{2,}\b|(^| )N( |$)| \.\.( |$)")
+
+# Rows of tables: a text with its outputs and its end, and one with its refusal.
+TEXT = r"^\| `((?:node|exception|let) [^`]*)`"
+RUN_ROW = re.compile(TEXT + r"(?:, with `-l (\d+)`)? \| ([tf0-9, ]*)\| ([^|]*) \|$")
+REFUSED_ROW = re.compile(TEXT + r" \| `(\w+)` at (\d+)")
+# What shows the outputs of a run and its end in one line.
+IN_A_LINE = """awk '/#outs/ {print $1} /#end/ {$1 = ""; print}' | xargs"""
 
 # The statuses of a run that ended in one of its ways, and of a call that went well.
 ENDED = (0, 1, 4, 5, 6, 7, 8, 10, 14)
@@ -74,6 +83,26 @@ def blocks(text):
     return inside, outside
 
 
+def given_text(text):
+    """The beginning of a command that runs a text of a table."""
+    return f"printf %s {shlex.quote(text.replace(chr(92) + '|', '|'))} >f; ./lurette run f"
+
+
+def command_of_row(file, number, line):
+    """The command that a row of a table stands for, where it is one; in a list."""
+    run, refused = RUN_ROW.match(line), REFUSED_ROW.match(line)
+    if refused:
+        command = f"{given_text(refused[1])} 2>&1 | cut -d . -f 2"
+        return [Shown(file, number, command, [f"{refused[2]} at {refused[3]}"])]
+    if not run:
+        return []
+    outputs = run[3].replace(",", "").split()
+    end = run[4].replace("`", "").replace(" in instant", "")
+    wanted = [*outputs, end if end[-1].isdigit() else f"{end} {len(outputs)}"]
+    command = f"{given_text(run[1])} -l {run[2] or 100} 2>/dev/null | {IN_A_LINE}"
+    return [Shown(file, number, command, [" ".join(wanted)])]
+
+
 def is_run(command):
     return "--unproved" not in command and "--is-proved" not in command
 
@@ -82,6 +111,7 @@ def commands_of_document(file, text):
     inside, outside = blocks(text)
     found = [it for block in inside for it in sessions(file, block)]
     for number, line in outside:
+        found += command_of_row(file, number, line)
         for command in INLINE.findall(line):
             if not PLACEHOLDER.search(command):
                 found.append(Shown(file, number, command.replace("\\|", "|"), None))

@@ -149,6 +149,19 @@ class Documents(unittest.TestCase):
             told, [(3, "one two", ["x"]), (6, "three", []), (8, "./lurette run f", None)]
         )
 
+    def test_rows_of_tables(self):
+        rows = [
+            "| `node n() returns (b: bool) = { b \\| b }`, with `-l 3` | t, f | limit |",
+            "| `node n() returns (b: bool) = b` | | deadlock in instant 1 |",
+            "| `node n() returns (b: bool) = c` | `Unknown` at 29 |",
+            "| `a or b` | a, b | c |",
+        ]
+        found = check_docs.commands_of_document("d", "\n".join(rows))
+        wanted = [["t f limit 2"], ["deadlock 1"], ["Unknown at 29"]]
+        self.assertEqual([it.wanted for it in found], wanted)
+        self.assertIn("'node n() returns (b: bool) = { b | b }'", found[0].command)
+        self.assertIn(" -l 3 ", found[0].command)
+
     def test_commands_of_an_example(self):
         text = "-- Words.\n-- $ one\n-- x\n\n-- $ two\nnode\n"
         found = check_docs.commands_of_example("e", text)
