@@ -13,11 +13,11 @@ use Rattle.lt_macros.specs.Environment.{Environment}
 use Rattle.lt_macros.specs.Expanded as x
 use Rattle.lt_macros.specs.Literals.{number_at}
 use Rattle.lt_macros.specs.Placed.{Placed, meaningless}
-use Rattle.lt_macros.specs.Senses.{Sense, Numbers, Numbered, as_expression, as_trace, around_two, behind_term, trace_sense, traces_sense}
-use Rattle.lt_macros.specs.inner.Heads.{AddsTo, head_reads}
+use Rattle.lt_macros.specs.Denotation.{Denotation, Numbers, Numbered, as_expression, as_trace, around_two, behind_term, trace_denotation, traces_denotation}
+use Rattle.lt_macros.specs.inner.HeadNormalForm.{AddsTo, form_reads}
 use Rattle.lt_macros.specs.Tree.{placed}
-use Rattle.lt_macros.specs.declared.heads.Head.{Head}
-use Rattle.lt_macros.specs.declared.heads.Head.TheVariants.{Number}
+use Rattle.lt_macros.specs.declared.head_normal_form.HeadNormalForm.{HeadNormalForm}
+use Rattle.lt_macros.specs.declared.head_normal_form.HeadNormalForm.TheVariants.{Number}
 use Rattle.lt_macros.specs.declared.tree.Placed.{Placed as Tree}
 use Rattle.lt_macros.specs.inner.Reading.{meant}
 use Rattle.lt_macros.specs.inner.Seen.{Seen, an_expression, a_trace}
@@ -47,11 +47,11 @@ linked_variable count outer h = by (nat_le outer count) (le-leb outer count h)
     by false h = h
 
 -- a number that is met is the constant that it stands for
-pub number_head : (d : ℕ) (rows : List Entry) (h : Head) (l : Bor Literal) (r : Result Tree Memory) → h ≡ Number l → IfOk r (λ e. placed e ≡ number_at d (figure l.now)) → IfOk r (λ e. placed e ≡ as_expression (head_reads (meant d) rows h))
-number_head d rows h l r is made =
-    subst (λ p. IfOk r (λ e. placed e ≡ p)) (ap (λ n. number_at n (figure l.now)) (sym (decimals_same (meant d) rows 0)) ∙ ap (λ k. as_expression (head_reads (meant d) rows k)) (sym is)) made
+pub number_form : (d : ℕ) (rows : List Entry) (h : HeadNormalForm) (l : Bor Literal) (r : Result Tree Memory) → h ≡ Number l → IfOk r (λ e. placed e ≡ number_at d (figure l.now)) → IfOk r (λ e. placed e ≡ as_expression (form_reads (meant d) rows h))
+number_form d rows h l r is made =
+    subst (λ p. IfOk r (λ e. placed e ≡ p)) (ap (λ n. number_at n (figure l.now)) (sym (decimals_same (meant d) rows 0)) ∙ ap (λ k. as_expression (form_reads (meant d) rows k)) (sym is)) made
 
--- Senses.
+-- Denotations.
 
 expression_in : Seen → Placed
 expression_in (an_expression e) = e
@@ -65,13 +65,13 @@ pub seen_trace : (t u : Numbered) → a_trace t ≡ a_trace u → t ≡ u
 seen_trace t u h = cc
 
 -- traces that are joined mean nothing as an expression
-pub joined_expression : (env : Environment Sense) (f : x.Expanded → x.Expanded → x.Expanded) (t : Trace) (rest : List TraceExpr) → 0 < length rest → meaningless ≡ as_expression (traces_sense env f (s.one_trace t (traces_of (map trace_view rest))))
+pub joined_expression : (env : Environment Denotation) (f : x.Expanded → x.Expanded → x.Expanded) (t : Trace) (rest : List TraceExpr) → 0 < length rest → meaningless ≡ as_expression (traces_denotation env f (s.one_trace t (traces_of (map trace_view rest))))
 joined_expression env f t [] h = absurd (omega (arith, h))
 joined_expression env f t (u ∷ rest) h = refl
 
 -- as a trace they are the first and those behind it
-pub joined_trace : (env : Environment Sense) (f : x.Expanded → x.Expanded → x.Expanded) (t : Trace) (rest : List TraceExpr) (n : Numbers) → 0 < length rest
-    → around_two f (as_trace (trace_sense env t) (behind_term n)) (as_trace (traces_sense env f (traces_of (map trace_view rest)))) ≡ as_trace (traces_sense env f (s.one_trace t (traces_of (map trace_view rest)))) n
+pub joined_trace : (env : Environment Denotation) (f : x.Expanded → x.Expanded → x.Expanded) (t : Trace) (rest : List TraceExpr) (n : Numbers) → 0 < length rest
+    → around_two f (as_trace (trace_denotation env t) (behind_term n)) (as_trace (traces_denotation env f (traces_of (map trace_view rest)))) ≡ as_trace (traces_denotation env f (s.one_trace t (traces_of (map trace_view rest)))) n
 joined_trace env f t [] n h = absurd (omega (arith, h))
 joined_trace env f t (u ∷ rest) n h = refl
 

@@ -18,10 +18,10 @@ use Rattle.lt_ast.specs.declared.trace.TraceExpr.{TraceExpr}
 use Rattle.lt_formula.specs.declared.memory.Memory.{Memory}
 use Rattle.lt_macros.specs.Environment.{Environment, found_exception}
 use Rattle.lt_macros.specs.Expanded as x
-use Rattle.lt_macros.specs.Senses.{Sense, Numbers, Numbered, NumberedParts, alone, alternative_sense, around_one, around_two, as_trace, as_expression, before_parts, behind_term, bounds_of, caught_as, exp_sense, handler_sense, parts_of, raised_as, repeated, trace_sense, weight_of}
+use Rattle.lt_macros.specs.Denotation.{Denotation, Numbers, Numbered, NumberedParts, alone, alternative_denotation, around_one, around_two, as_trace, as_expression, before_parts, behind_term, bounds_of, caught_as, exp_denotation, handler_denotation, parts_of, raised_as, repeated, trace_denotation, weight_of}
 use Rattle.lt_macros.specs.inner.Built.{AreBuilt, behind_turns, boxed, in_two, items_onto, looped, numbered, parts_onto}
-use Rattle.lt_macros.specs.inner.Heads.{head_reads}
-use Rattle.lt_macros.specs.inner.Phrase.{Phrase, phrase_sense}
+use Rattle.lt_macros.specs.inner.HeadNormalForm.{form_reads}
+use Rattle.lt_macros.specs.inner.Phrase.{Phrase, phrase_denotation}
 use Rattle.lt_macros.specs.inner.Reading.{environment, meant, raised_by}
 use Rattle.lt_macros.specs.inner.Numbers.{numbers_view}
 use Rattle.lt_macros.specs.Tree.{expanded, part_row, parts, placed}
@@ -29,8 +29,8 @@ use Rattle.lt_macros.specs.inner.Work.{alternative_work, alternatives_work, trac
 use Rattle.lt_macros.specs.declared.build.Boxed.{Boxed}
 use Rattle.lt_macros.specs.declared.build.Numbered as code
 use Rattle.lt_macros.specs.declared.build.Two.{Two}
-use Rattle.lt_macros.specs.declared.heads.Head.{Head}
-use Rattle.lt_macros.specs.declared.heads.Head.TheVariants.{Raise, Catch}
+use Rattle.lt_macros.specs.declared.head_normal_form.HeadNormalForm.{HeadNormalForm}
+use Rattle.lt_macros.specs.declared.head_normal_form.HeadNormalForm.TheVariants.{Raise, Catch}
 use Rattle.lt_macros.specs.declared.scope.Declared.{Declared as Raised}
 use Rattle.lt_macros.specs.declared.scope.Entry.{Entry}
 use Rattle.lt_macros.specs.declared.tree.Expanded.{Expanded as Tree}
@@ -40,8 +40,8 @@ use Rattle.lt_macros.specs.declared.tree.Expanded.TheBlock.{shown-the_row-Part-0
 use Rattle.lt_macros.specs.declared.tree.Placed.{Placed as Expression}
 
 -- a trace of a phrase, where the entries and the numbers are others that are the same
-pub built_where : (d : ℕ) (old now : List Entry) (k : ℕ) (q : Phrase) (n m : Numbers) (b : Numbered) → now ≡ old → m ≡ n → b ≡ as_trace (phrase_sense (environment (meant d) now k) q) m → b ≡ as_trace (phrase_sense (environment (meant d) old k) q) n
-built_where d old now k q n m b same is h = h ∙ (λ i. as_trace (phrase_sense (environment (meant d) (same i) k) q) (is i))
+pub built_where : (d : ℕ) (old now : List Entry) (k : ℕ) (q : Phrase) (n m : Numbers) (b : Numbered) → now ≡ old → m ≡ n → b ≡ as_trace (phrase_denotation (environment (meant d) now k) q) m → b ≡ as_trace (phrase_denotation (environment (meant d) old k) q) n
+built_where d old now k q n m b same is h = h ∙ (λ i. as_trace (phrase_denotation (environment (meant d) (same i) k) q) (is i))
 
 -- a trace in a box
 pub box_built : (b : Boxed) (inner : code.Numbered) (made : Numbered) → b.trace.value ≡ inner.expanded → b.after ≡ inner.after → numbered inner ≡ made → boxed b ≡ made
@@ -50,14 +50,14 @@ box_built b inner made v a h = (λ i. record { expanded = expanded (v i); after 
 -- two traces
 pub two_built : (d : ℕ) (old now : List Entry) (k : ℕ) (p q : Phrase) (n m : Numbers) (before behind : Boxed) (t : Two) → now ≡ old → m ≡ behind_term n
     → t.first ≡ before.trace → t.second ≡ behind.trace → t.after ≡ behind.after
-    → boxed before ≡ as_trace (phrase_sense (environment (meant d) old k) p) m
-    → boxed behind ≡ as_trace (phrase_sense (environment (meant d) now k) q) (numbers_view before.after)
-    → AreBuilt t (as_trace (phrase_sense (environment (meant d) old k) p) (behind_term n)) (as_trace (phrase_sense (environment (meant d) old k) q))
+    → boxed before ≡ as_trace (phrase_denotation (environment (meant d) old k) p) m
+    → boxed behind ≡ as_trace (phrase_denotation (environment (meant d) now k) q) (numbers_view before.after)
+    → AreBuilt t (as_trace (phrase_denotation (environment (meant d) old k) p) (behind_term n)) (as_trace (phrase_denotation (environment (meant d) old k) q))
 two_built d old now k p q n m before behind t same is v w a h g =
     let env = environment (meant d) old k in
-    let first : boxed before ≡ as_trace (phrase_sense env p) (behind_term n) = h ∙ ap (as_trace (phrase_sense env p)) is in
-    let second : boxed behind ≡ as_trace (phrase_sense env q) (as_trace (phrase_sense env p) (behind_term n)).after =
-    built_where d old now k q (numbers_view before.after) (numbers_view before.after) (boxed behind) same refl g ∙ (λ i. as_trace (phrase_sense env q) (first i).after) in
+    let first : boxed before ≡ as_trace (phrase_denotation env p) (behind_term n) = h ∙ ap (as_trace (phrase_denotation env p)) is in
+    let second : boxed behind ≡ as_trace (phrase_denotation env q) (as_trace (phrase_denotation env p) (behind_term n)).after =
+    built_where d old now k q (numbers_view before.after) (numbers_view before.after) (boxed behind) same refl g ∙ (λ i. as_trace (phrase_denotation env q) (first i).after) in
     record {
       first_is = ap (λ (b : Box Tree Global). expanded b.value) v ∙ (λ i. (first i).expanded);
       second_is = ap (λ (b : Box Tree Global). expanded b.value) w ∙ (λ i. (second i).expanded);
@@ -69,54 +69,54 @@ pub joined_built : (f : x.Expanded → x.Expanded → x.Expanded) (t : Two) (fir
 joined_built f t first second h = λ i. record { expanded = f (h.first_is i) (h.second_is i); after = h.after_is i }
 
 -- an exception that is raised
-pub raise_built : (d : ℕ) (rows : List Entry) (h : Head) (name : Bor Name) (k : ℕ) (n : Numbers) (found : Option Raised) (text : List ℕ) (made : Tree) (r : Result code.Numbered Memory) → h ≡ Raise name k → text ≡ (word name.now).text
+pub raise_built : (d : ℕ) (rows : List Entry) (h : HeadNormalForm) (name : Bor Name) (k : ℕ) (n : Numbers) (found : Option Raised) (text : List ℕ) (made : Tree) (r : Result code.Numbered Memory) → h ≡ Raise name k → text ≡ (word name.now).text
     → found_exception (environment (meant d) rows k).exceptions text ≡ raised_by (meant d) found → expanded made ≡ raised_as (raised_by (meant d) found)
-    → IfOk r (λ b. numbered b ≡ alone (expanded made) n) → IfOk r (λ b. numbered b ≡ as_trace (head_reads (meant d) rows h) n)
+    → IfOk r (λ b. numbered b ≡ alone (expanded made) n) → IfOk r (λ b. numbered b ≡ as_trace (form_reads (meant d) rows h) n)
 raise_built d rows h name k n found text made r is text_is found_is made_is done =
-    let read : alone (expanded made) n ≡ as_trace (head_reads (meant d) rows h) n =
+    let read : alone (expanded made) n ≡ as_trace (form_reads (meant d) rows h) n =
     ap (λ t. alone t n) (made_is ∙ ap raised_as (sym found_is ∙ ap (found_exception (environment (meant d) rows k).exceptions) text_is))
-    ∙ ap (λ (g : Head). as_trace (head_reads (meant d) rows g) n) (sym is)
+    ∙ ap (λ (g : HeadNormalForm). as_trace (form_reads (meant d) rows g) n) (sym is)
     in
-    IfOk-weaker r (λ b. numbered b ≡ alone (expanded made) n) (λ b. numbered b ≡ as_trace (head_reads (meant d) rows h) n) (λ b same. same ∙ read) done
+    IfOk-weaker r (λ b. numbered b ≡ alone (expanded made) n) (λ b. numbered b ≡ as_trace (form_reads (meant d) rows h) n) (λ b same. same ∙ read) done
 
--- .. and one that is caught
-pub catch_built : (d : ℕ) (old now : List Entry) (h : Head) (name : Bor Name) (t : Bor TraceExpr) (handler : Bor (Option (Box TraceExpr Global))) (k : ℕ) (n : Numbers) (found : Option Raised) (text : List ℕ) (two : Two) (r : Result code.Numbered Memory)
+-- an exception that is caught
+pub catch_built : (d : ℕ) (old now : List Entry) (h : HeadNormalForm) (name : Bor Name) (t : Bor TraceExpr) (handler : Bor (Option (Box TraceExpr Global))) (k : ℕ) (n : Numbers) (found : Option Raised) (text : List ℕ) (two : Two) (r : Result code.Numbered Memory)
     → h ≡ Catch name t handler k → text ≡ (word name.now).text → now ≡ old → found_exception (environment (meant d) now k).exceptions text ≡ raised_by (meant d) found
-    → AreBuilt two (as_trace (trace_sense (environment (meant d) old k) (trace_view t.now)) (behind_term n)) (as_trace (handler_sense (environment (meant d) old k) (maybe_trace handler.now)))
-    → IfOk r (λ b. (decimals : ℕ) → numbered b ≡ in_two (caught_as (raised_by (meant decimals) found)) two) → IfOk r (λ b. numbered b ≡ as_trace (head_reads (meant d) old h) n)
+    → AreBuilt two (as_trace (trace_denotation (environment (meant d) old k) (trace_view t.now)) (behind_term n)) (as_trace (handler_denotation (environment (meant d) old k) (maybe_trace handler.now)))
+    → IfOk r (λ b. (decimals : ℕ) → numbered b ≡ in_two (caught_as (raised_by (meant decimals) found)) two) → IfOk r (λ b. numbered b ≡ as_trace (form_reads (meant d) old h) n)
 catch_built d old now h name t handler k n found text two r is text_is same found_is built done =
     let env = environment (meant d) old k in
     let catching = caught_as (found_exception env.exceptions (word name.now).text) in
     let named : raised_by (meant d) found ≡ found_exception env.exceptions (word name.now).text = sym found_is ∙ (λ i. found_exception (environment (meant d) (same i) k).exceptions (text_is i)) in
-    let read : in_two (caught_as (raised_by (meant d) found)) two ≡ as_trace (head_reads (meant d) old h) n =
+    let read : in_two (caught_as (raised_by (meant d) found)) two ≡ as_trace (form_reads (meant d) old h) n =
     ap (λ raised. in_two (caught_as raised) two) named
-    ∙ joined_built catching two (as_trace (trace_sense env (trace_view t.now)) (behind_term n)) (as_trace (handler_sense env (maybe_trace handler.now))) built
-    ∙ ap (λ (g : Head). as_trace (head_reads (meant d) old g) n) (sym is)
+    ∙ joined_built catching two (as_trace (trace_denotation env (trace_view t.now)) (behind_term n)) (as_trace (handler_denotation env (maybe_trace handler.now))) built
+    ∙ ap (λ (g : HeadNormalForm). as_trace (form_reads (meant d) old g) n) (sym is)
     in
-    IfOk-weaker r (λ b. (decimals : ℕ) → numbered b ≡ in_two (caught_as (raised_by (meant decimals) found)) two) (λ b. numbered b ≡ as_trace (head_reads (meant d) old h) n) (λ b same. same d ∙ read) done
+    IfOk-weaker r (λ b. (decimals : ℕ) → numbered b ≡ in_two (caught_as (raised_by (meant decimals) found)) two) (λ b. numbered b ≡ as_trace (form_reads (meant d) old h) n) (λ b same. same d ∙ read) done
 
 -- a trace with a constraint that holds
 pub assert_built : (d : ℕ) (old now : List Entry) (k : ℕ) (e : Exp) (t : Trace) (n m : Numbers) (constraint : Expression) (inner : Boxed) → now ≡ old → m ≡ behind_term n
-    → placed constraint ≡ as_expression (exp_sense (environment (meant d) now k) e) → boxed inner ≡ as_trace (trace_sense (environment (meant d) old k) t) m
-    → record { expanded = x.assert (placed constraint) (expanded inner.trace.value); after = numbers_view inner.after } ≡ as_trace (trace_sense (environment (meant d) old k) (s.assert e t)) n
+    → placed constraint ≡ as_expression (exp_denotation (environment (meant d) now k) e) → boxed inner ≡ as_trace (trace_denotation (environment (meant d) old k) t) m
+    → record { expanded = x.assert (placed constraint) (expanded inner.trace.value); after = numbers_view inner.after } ≡ as_trace (trace_denotation (environment (meant d) old k) (s.assert e t)) n
 assert_built d old now k e t n m constraint inner same is made h =
     let env = environment (meant d) old k in
-    let holds : placed constraint ≡ as_expression (exp_sense env e) = made ∙ ap (λ rows. as_expression (exp_sense (environment (meant d) rows k) e)) same in
-    let inside : boxed inner ≡ as_trace (trace_sense env t) (behind_term n) = h ∙ ap (as_trace (trace_sense env t)) is in
-    (λ i. record { expanded = x.assert (holds i) (expanded inner.trace.value); after = numbers_view inner.after }) ∙ ap (around_one (x.assert (as_expression (exp_sense env e)))) inside
+    let holds : placed constraint ≡ as_expression (exp_denotation env e) = made ∙ ap (λ rows. as_expression (exp_denotation (environment (meant d) rows k) e)) same in
+    let inside : boxed inner ≡ as_trace (trace_denotation env t) (behind_term n) = h ∙ ap (as_trace (trace_denotation env t)) is in
+    (λ i. record { expanded = x.assert (holds i) (expanded inner.trace.value); after = numbers_view inner.after }) ∙ ap (around_one (x.assert (as_expression (exp_denotation env e)))) inside
 
 -- a loop, whose counter has this number where it has one
-loops : (env : Environment Sense) (l : Limits) (body : Numbers → Numbered) (n : Numbers) → around_one (looped (bounds_of env l) n.counter) (body (behind_turns l n)) ≡ repeated (bounds_of env l) body n
+loops : (env : Environment Denotation) (l : Limits) (body : Numbers → Numbered) (n : Numbers) → around_one (looped (bounds_of env l) n.counter) (body (behind_turns l n)) ≡ repeated (bounds_of env l) body n
 loops env s.forever body n = refl
 loops env (s.between d e) body n = refl
 loops env (s.around d e) body n = refl
 
 pub loop_built : (d : ℕ) (old now : List Entry) (k : ℕ) (l : Limits) (t : Trace) (n m : Numbers) (turns : Option x.Bounds) (turn : Boxed) → now ≡ old → m ≡ behind_turns l n
-    → turns ≡ bounds_of (environment (meant d) now k) l → boxed turn ≡ as_trace (trace_sense (environment (meant d) old k) t) m
-    → record { expanded = looped turns n.counter (expanded turn.trace.value); after = numbers_view turn.after } ≡ as_trace (trace_sense (environment (meant d) old k) (s.loop l t)) n
+    → turns ≡ bounds_of (environment (meant d) now k) l → boxed turn ≡ as_trace (trace_denotation (environment (meant d) old k) t) m
+    → record { expanded = looped turns n.counter (expanded turn.trace.value); after = numbers_view turn.after } ≡ as_trace (trace_denotation (environment (meant d) old k) (s.loop l t)) n
 loop_built d old now k l t n m turns turn same is bounds h =
     let env = environment (meant d) old k in
-    let body : Numbers → Numbered = as_trace (trace_sense env t) in
+    let body : Numbers → Numbered = as_trace (trace_denotation env t) in
     let bounds' : turns ≡ bounds_of env l = bounds ∙ ap (λ rows. bounds_of (environment (meant d) rows k) l) same in
     let inside : boxed turn ≡ body (behind_turns l n) = h ∙ ap body is in
     (λ i. record { expanded = looped (bounds' i) n.counter (expanded turn.trace.value); after = numbers_view turn.after }) ∙ ap (around_one (looped (bounds_of env l) n.counter)) inside ∙ loops env l body n
@@ -126,7 +126,7 @@ items_onto-append : (items more : List Part) (rest : x.Parts) → items_onto (it
 items_onto-append [] more rest = refl
 items_onto-append (q ∷ items) more rest = ap (x.part (placed q.weight) (expanded q.body)) (items_onto-append items more rest)
 
-alternative_is : (env : Environment Sense) (o : Option Expr) (t : TraceExpr) → trace_sense env (trace_view t) ≡ alternative_sense env (weighed o t)
+alternative_is : (env : Environment Denotation) (o : Option Expr) (t : TraceExpr) → trace_denotation env (trace_view t) ≡ alternative_denotation env (weighed o t)
 alternative_is env None t = refl
 alternative_is env (Some e) t = refl
 
@@ -142,8 +142,8 @@ parts_from written place a h is =
     ap (λ as'. alternatives_of (map part_of as')) (drop-cons written place a h ∙ (λ i. sym is i ∷ drop (next i) written))
 
 -- one more alternative is built
-pub part_built : (env : Environment Sense) (written : List Alternative) (place : ℕ) (a : Alternative) (items more : List Part) (w : Expression) (b : code.Numbered) (n : Numbers) (all : NumberedParts) → place < length written → a ≡ get_or written place a
-    → more ≡ items ++ record { weight = w; body = b.expanded } ∷ [] → placed w ≡ weight_of env (part_of a) → numbered b ≡ as_trace (trace_sense env (trace_view a.body)) n
+pub part_built : (env : Environment Denotation) (written : List Alternative) (place : ℕ) (a : Alternative) (items more : List Part) (w : Expression) (b : code.Numbered) (n : Numbers) (all : NumberedParts) → place < length written → a ≡ get_or written place a
+    → more ≡ items ++ record { weight = w; body = b.expanded } ∷ [] → placed w ≡ weight_of env (part_of a) → numbered b ≡ as_trace (trace_denotation env (trace_view a.body)) n
     → parts_onto items (parts_of env (alternatives_of (map part_of (drop place written))) n) ≡ all
     → parts_onto more (parts_of env (alternatives_of (map part_of (drop (place + 1) written))) (numbers_view b.after)) ≡ all
 part_built env written place a items more w b n all h is pushed weight body so_far =
@@ -152,7 +152,7 @@ part_built env written place a items more w b n all h is pushed weight body so_f
     (λ i. record { parts = items_onto (pushed i) left.parts; after = left.after })
     ∙ (λ i. record { parts = items_onto-append items (record { weight = w; body = b.expanded } ∷ []) left.parts i; after = left.after })
     ∙ (λ i. parts_onto items (before_parts (weight i) (body i) (parts_of env rest)))
-    ∙ ap (λ sense. parts_onto items (before_parts (weight_of env (part_of a)) (as_trace sense n) (parts_of env rest))) (alternative_is env a.weight a.body)
+    ∙ ap (λ denotation. parts_onto items (before_parts (weight_of env (part_of a)) (as_trace denotation n) (parts_of env rest))) (alternative_is env a.weight a.body)
     ∙ sym (ap (λ ps. parts_onto items (parts_of env ps n)) (parts_from written place a h is))
     ∙ so_far
 
@@ -175,7 +175,7 @@ unfolding out-Parts out shown-the_row-Part-0
 parts_list (Parts' shape row) = part_row-list row ∙ ap (λ items. items_onto items x.no_part) (sym (items_shown-the_row-Part-0 shape row))
 
 -- at the end all alternatives are built
-pub parts_whole : (env : Environment Sense) (written : List Alternative) (place : ℕ) (items : Vec Part Global) (n : Numbers) (all : NumberedParts) → length written ≤ place
+pub parts_whole : (env : Environment Denotation) (written : List Alternative) (place : ℕ) (items : Vec Part Global) (n : Numbers) (all : NumberedParts) → length written ≤ place
     → parts_onto items.items (parts_of env (alternatives_of (map part_of (drop place written))) n) ≡ all
     → record { parts = parts (roll-Parts (record { items = items })); after = n } ≡ all
 parts_whole env written place items n all h so_far =

@@ -4,11 +4,11 @@ use Rattle.std.proofs.lemmas.Bool.{le-leb, leb-true}
 use Rattle.std.proofs.lemmas.List.{length-reverse, reverse-append, take-append-drop, length-take-le}
 use Rattle.lt_ast.specs.View.{macro as macro_view}
 use Rattle.lt_macros.specs.Environment.{parameter, macro, deadlock, Environment, at_start, found, found_exception, with_exception, with_name}
-use Rattle.lt_macros.specs.inner.Reading.{Reading, added, environment, is_chosen, is_handed, is_linked, is_older, is_written, are_linked, is_name, newest, declared_by, raised_by, source_view}
+use Rattle.lt_macros.specs.inner.Reading.{Reading, added, environment, is_chosen, is_handed, is_linked, is_older, is_written, are_linked, is_name, newest, declared_by, raised_by, phrase_view}
 use Rattle.lt_macros.specs.declared.scope.Declared.{Declared}
 use Rattle.lt_macros.specs.declared.scope.Entry.{Entry}
-use Rattle.lt_macros.specs.declared.scope.Entity.{Entity as CodeEntity}
-use Rattle.lt_macros.specs.declared.scope.Entity.TheVariants.{Variable, Argument, Parameter, Macro, Exception}
+use Rattle.lt_macros.specs.declared.scope.Binding.{Binding as CodeBinding}
+use Rattle.lt_macros.specs.declared.scope.Binding.TheVariants.{Variable, Argument, Parameter, Macro, Exception}
 use Rattle.lt_macros.specs.declared.scope.Handed.{Handed}
 use Rattle.lt_macros.specs.declared.scope.Before.{Before}
 use Rattle.lt_macros.specs.declared.scope.Before.TheVariants.{Terms, Chosen}
@@ -42,7 +42,7 @@ more_false n = not_less n (nat_le (suc n) n) refl
 
 -- what an entry adds, among entries
 abbrev pub made_by : {S : Type 0} → Reading S → List Entry → Entry → Environment S
-made_by r rows e = added r (environment r rows) e.name.now e.outer e.entity
+made_by r rows e = added r (environment r rows) e.name.now e.outer e.binding
 
 -- one more entry leaves the environments that are there
 pub environment-older : {S : Type 0} (r : Reading S) (e : Entry) (rows : List Entry) (k : ℕ) → k ≤ length rows → environment r (e ∷ rows) k ≡ environment r rows k
@@ -58,15 +58,15 @@ environment_zero r [] = refl
 environment_zero r (e ∷ rows) = environment-older r e rows 0 (omega arith) ∙ environment_zero r rows
 
 -- what an entry adds stays too
-added-older : {S : Type 0} (r : Reading S) (e : Entry) (rows : List Entry) (name : List ℕ) (outer : ℕ) (x : CodeEntity) → outer ≤ length rows → IsTrue (is_written (length rows) x)
+added-older : {S : Type 0} (r : Reading S) (e : Entry) (rows : List Entry) (name : List ℕ) (outer : ℕ) (x : CodeBinding) → outer ≤ length rows → IsTrue (is_written (length rows) x)
     → added r (environment r (e ∷ rows)) name outer x ≡ added r (environment r rows) name outer x
 added-older r e rows name outer (Variable role place) h w = ap (with_name name (r.variable role place)) (environment-older r e rows outer h)
 added-older r e rows name outer (Argument p k) h w =
     let there = environment-older r e rows k (le_true _ _ w) in
     let here = environment-older r e rows outer h in
-    λ i. with_name name (parameter (r.phrase (there i) (source_view p))) (here i)
+    λ i. with_name name (parameter (r.phrase (there i) (phrase_view p))) (here i)
 added-older r e rows name outer (Parameter j) h w = ap (with_name name (parameter (r.parameter j))) (environment-older r e rows outer h)
-added-older r e rows name outer (Macro m f) h w = ap (λ env. with_name name (macro (r.macro_sense env (macro_view m.now))) env) (environment-older r e rows outer h)
+added-older r e rows name outer (Macro m f) h w = ap (λ env. with_name name (macro (r.macro_denotation env (macro_view m.now))) env) (environment-older r e rows outer h)
 added-older r e rows name outer (Exception place before) h w = ap (with_exception (r.terms_before before) place name) (environment-older r e rows outer h)
 
 -- what is among some is among more
@@ -82,7 +82,7 @@ chosen-more : (count more : ℕ) (x : Before) → count ≤ more → IsTrue (is_
 chosen-more count more (Terms n) h w = w
 chosen-more count more (Chosen i) h w = true_le _ _ (omega (arith, le_true _ _ w))
 
-written-more : (count more : ℕ) (x : CodeEntity) → count ≤ more → IsTrue (is_written count x) → IsTrue (is_written more x)
+written-more : (count more : ℕ) (x : CodeBinding) → count ≤ more → IsTrue (is_written count x) → IsTrue (is_written more x)
 written-more count more (Variable role place) h w = w
 written-more count more (Argument p k) h w = true_le _ _ (omega (arith, le_true _ _ w))
 written-more count more (Parameter i) h w = true_le _ _ (omega (arith, le_true _ _ w))
@@ -91,13 +91,13 @@ written-more count more (Exception place before) h w = chosen-more count more be
 
 linked-more : (count more : ℕ) (e : Entry) → count ≤ more → IsTrue (is_linked count e) → IsTrue (is_linked more e)
 linked-more count more e h l =
-    both (nat_le e.outer more) _ (true_le _ _ (omega (arith, le_true _ _ (left_of (nat_le e.outer count) _ l)))) (written-more count more e.entity h (right_of (nat_le e.outer count) _ l))
+    both (nat_le e.outer more) _ (true_le _ _ (omega (arith, le_true _ _ (left_of (nat_le e.outer count) _ l)))) (written-more count more e.binding h (right_of (nat_le e.outer count) _ l))
 
 pub outer_of : (count : ℕ) (e : Entry) → IsTrue (is_linked count e) → e.outer ≤ count
 outer_of count e l = le_true _ _ (left_of (nat_le e.outer count) _ l)
 
-pub entity_of : (count : ℕ) (e : Entry) → IsTrue (is_linked count e) → IsTrue (is_written count e.entity)
-entity_of count e l = right_of (nat_le e.outer count) _ l
+pub binding_of : (count : ℕ) (e : Entry) → IsTrue (is_linked count e) → IsTrue (is_written count e.binding)
+binding_of count e l = right_of (nat_le e.outer count) _ l
 
 -- what an entry is among all of them
 pub record Stands {S : Type 0} (r : Reading S) (rows : List Entry) (place : ℕ) (e : Entry) : Type 0 where
@@ -109,7 +109,7 @@ pub record Stands {S : Type 0} (r : Reading S) (rows : List Entry) (place : ℕ)
 stands_newest : {S : Type 0} (r : Reading S) (e : Entry) (older : List Entry) → IsTrue (is_linked (length older) e) → Stands r (e ∷ older) (length older) e
 stands_newest r e older l =
     record {
-      made = environment-newest r e older ∙ sym (added-older r e older e.name.now e.outer e.entity (outer_of _ e l) (entity_of _ e l));
+      made = environment-newest r e older ∙ sym (added-older r e older e.name.now e.outer e.binding (outer_of _ e l) (binding_of _ e l));
       outer = outer_of _ e l;
       linked = l;
       within = omega arith;
@@ -121,7 +121,7 @@ stands_older r newer e rows place s =
       made =
           environment-older r newer rows (suc place) (omega (arith, s.within))
           ∙ s.made
-          ∙ sym (added-older r newer rows e.name.now e.outer e.entity (omega (arith, s.outer, s.within)) (entity_of _ e (linked-more _ _ e (omega (arith, s.within)) s.linked)));
+          ∙ sym (added-older r newer rows e.name.now e.outer e.binding (omega (arith, s.outer, s.within)) (binding_of _ e (linked-more _ _ e (omega (arith, s.within)) s.linked)));
       outer = s.outer;
       linked = s.linked;
       within = omega (arith, s.within);
@@ -170,35 +170,35 @@ makes {S} r items number e l some h is =
     }
 
 -- a name that an entry has is the newest one there
-here : {S : Type 0} (r : Reading S) (at : ℕ → Environment S) (n : List ℕ) (outer : ℕ) (x : CodeEntity) (name : List ℕ) → (is_name x && bytes_eq name n) ≡ true
+here : {S : Type 0} (r : Reading S) (at : ℕ → Environment S) (n : List ℕ) (outer : ℕ) (x : CodeBinding) (name : List ℕ) → (is_name x && bytes_eq name n) ≡ true
     → found (added r at n outer x).names name ≡ newest (added r at n outer x).names
 here r at n outer (Variable role place) name h = ap (λ b. if b then Some (r.variable role place) else found (at outer).names name) h
-here r at n outer (Argument p k) name h = ap (λ b. if b then Some (parameter (r.phrase (at k) (source_view p))) else found (at outer).names name) h
+here r at n outer (Argument p k) name h = ap (λ b. if b then Some (parameter (r.phrase (at k) (phrase_view p))) else found (at outer).names name) h
 here r at n outer (Parameter i) name h = ap (λ b. if b then Some (parameter (r.parameter i)) else found (at outer).names name) h
-here r at n outer (Macro m f) name h = ap (λ b. if b then Some (macro (r.macro_sense (at outer) (macro_view m.now))) else found (at outer).names name) h
+here r at n outer (Macro m f) name h = ap (λ b. if b then Some (macro (r.macro_denotation (at outer) (macro_view m.now))) else found (at outer).names name) h
 here r at n outer (Exception place before) name h = absurd (cc)
 
 -- one that it hasn't is one of the older names
-there : {S : Type 0} (r : Reading S) (at : ℕ → Environment S) (n : List ℕ) (outer : ℕ) (x : CodeEntity) (name : List ℕ) → (is_name x && bytes_eq name n) ≡ false
+there : {S : Type 0} (r : Reading S) (at : ℕ → Environment S) (n : List ℕ) (outer : ℕ) (x : CodeBinding) (name : List ℕ) → (is_name x && bytes_eq name n) ≡ false
     → found (added r at n outer x).names name ≡ found (at outer).names name
 there r at n outer (Variable role place) name h = ap (λ b. if b then Some (r.variable role place) else found (at outer).names name) h
-there r at n outer (Argument p k) name h = ap (λ b. if b then Some (parameter (r.phrase (at k) (source_view p))) else found (at outer).names name) h
+there r at n outer (Argument p k) name h = ap (λ b. if b then Some (parameter (r.phrase (at k) (phrase_view p))) else found (at outer).names name) h
 there r at n outer (Parameter i) name h = ap (λ b. if b then Some (parameter (r.parameter i)) else found (at outer).names name) h
-there r at n outer (Macro m f) name h = ap (λ b. if b then Some (macro (r.macro_sense (at outer) (macro_view m.now))) else found (at outer).names name) h
+there r at n outer (Macro m f) name h = ap (λ b. if b then Some (macro (r.macro_denotation (at outer) (macro_view m.now))) else found (at outer).names name) h
 there r at n outer (Exception place before) name h = refl
 
 -- the newest name of the environment that an entry makes
 pub newest_is : {S : Type 0} (r : Reading S) (rows : List Entry) (number : ℕ) (e : Entry) → Makes r rows number e → newest (environment r rows number).names ≡ newest (made_by r rows e).names
 newest_is r rows number e m = ap (λ env. newest env.names) m.made
 
-pub found_here : {S : Type 0} (r : Reading S) (rows : List Entry) (number : ℕ) (e : Entry) (name : List ℕ) → Makes r rows number e → (is_name e.entity && bytes_eq name e.name.now) ≡ true
+pub found_here : {S : Type 0} (r : Reading S) (rows : List Entry) (number : ℕ) (e : Entry) (name : List ℕ) → Makes r rows number e → (is_name e.binding && bytes_eq name e.name.now) ≡ true
     → found (environment r rows number).names name ≡ newest (environment r rows number).names
 found_here r rows number e name m h =
-    ap (λ env. found env.names name) m.made ∙ here r (environment r rows) e.name.now e.outer e.entity name h ∙ sym (newest_is r rows number e m)
+    ap (λ env. found env.names name) m.made ∙ here r (environment r rows) e.name.now e.outer e.binding name h ∙ sym (newest_is r rows number e m)
 
-pub found_there : {S : Type 0} (r : Reading S) (rows : List Entry) (number : ℕ) (e : Entry) (name : List ℕ) → Makes r rows number e → (is_name e.entity && bytes_eq name e.name.now) ≡ false
+pub found_there : {S : Type 0} (r : Reading S) (rows : List Entry) (number : ℕ) (e : Entry) (name : List ℕ) → Makes r rows number e → (is_name e.binding && bytes_eq name e.name.now) ≡ false
     → found (environment r rows number).names name ≡ found (environment r rows e.outer).names name
-found_there r rows number e name m h = ap (λ env. found env.names name) m.made ∙ there r (environment r rows) e.name.now e.outer e.entity name h
+found_there r rows number e name m h = ap (λ env. found env.names name) m.made ∙ there r (environment r rows) e.name.now e.outer e.binding name h
 
 -- environment 0 has no names
 pub found_nowhere : {S : Type 0} (r : Reading S) (rows : List Entry) (number : ℕ) (name : List ℕ) → number ≡ 0 → found (environment r rows number).names name ≡ newest (environment r rows 0).names
@@ -210,18 +210,18 @@ pub newest_nowhere : {S : Type 0} (r : Reading S) (rows : List Entry) (number : 
 newest_nowhere r rows number h = ap (λ k. newest (environment r rows k).names) h ∙ ap (λ env. newest env.names) (environment_zero r rows)
 
 -- an exception adds no name
-passed : {S : Type 0} (r : Reading S) (at : ℕ → Environment S) (n : List ℕ) (outer : ℕ) (x : CodeEntity) → is_name x ≡ false → newest (added r at n outer x).names ≡ newest (at outer).names
+passed : {S : Type 0} (r : Reading S) (at : ℕ → Environment S) (n : List ℕ) (outer : ℕ) (x : CodeBinding) → is_name x ≡ false → newest (added r at n outer x).names ≡ newest (at outer).names
 passed r at n outer (Variable role place) h = absurd (cc)
 passed r at n outer (Argument p k) h = absurd (cc)
 passed r at n outer (Parameter i) h = absurd (cc)
 passed r at n outer (Macro m f) h = absurd (cc)
 passed r at n outer (Exception place before) h = refl
 
-pub newest_there : {S : Type 0} (r : Reading S) (rows : List Entry) (number : ℕ) (e : Entry) → Makes r rows number e → is_name e.entity ≡ false → newest (environment r rows number).names ≡ newest (environment r rows e.outer).names
-newest_there r rows number e m h = newest_is r rows number e m ∙ passed r (environment r rows) e.name.now e.outer e.entity h
+pub newest_there : {S : Type 0} (r : Reading S) (rows : List Entry) (number : ℕ) (e : Entry) → Makes r rows number e → is_name e.binding ≡ false → newest (environment r rows number).names ≡ newest (environment r rows e.outer).names
+newest_there r rows number e m h = newest_is r rows number e m ∙ passed r (environment r rows) e.name.now e.outer e.binding h
 
 -- an exception that an entry declares is the newest one there
-raised_here : {S : Type 0} (r : Reading S) (at : ℕ → Environment S) (e : Entry) (outer : ℕ) (x : CodeEntity) (name : List ℕ) (d : Declared) → declared_by name e x ≡ Some d
+raised_here : {S : Type 0} (r : Reading S) (at : ℕ → Environment S) (e : Entry) (outer : ℕ) (x : CodeBinding) (name : List ℕ) (d : Declared) → declared_by name e x ≡ Some d
     → found_exception (added r at e.name.now outer x).exceptions name ≡ raised_by r (Some d)
 raised_here r at e outer (Variable role place) name d h = absurd (cc)
 raised_here r at e outer (Argument p k) name d h = absurd (cc)
@@ -237,7 +237,7 @@ raised_here {S} r at e outer (Exception place before) name d h = by (bytes_eq na
     by true is h = ap (λ c. if c then raised_by r (Some it) else found_exception (at outer).exceptions name) is ∙ ap (raised_by r) h
     by false is h = absurd (cc)
 
-raised_there : {S : Type 0} (r : Reading S) (at : ℕ → Environment S) (e : Entry) (outer : ℕ) (x : CodeEntity) (name : List ℕ) → declared_by name e x ≡ None
+raised_there : {S : Type 0} (r : Reading S) (at : ℕ → Environment S) (e : Entry) (outer : ℕ) (x : CodeBinding) (name : List ℕ) → declared_by name e x ≡ None
     → found_exception (added r at e.name.now outer x).exceptions name ≡ found_exception (at outer).exceptions name
 raised_there r at e outer (Variable role place) name h = refl
 raised_there r at e outer (Argument p k) name h = refl
@@ -253,15 +253,15 @@ raised_there {S} r at e outer (Exception place before) name h = by (bytes_eq nam
     by true is h = absurd (cc)
     by false is h = ap (λ c. if c then raised_by r (Some it) else found_exception (at outer).exceptions name) is
 
-pub exception_here : {S : Type 0} (r : Reading S) (rows : List Entry) (number : ℕ) (e : Entry) (name : List ℕ) (o : Option Declared) → Makes r rows number e → o ≡ declared_by name e e.entity → is_some o ≡ true
+pub exception_here : {S : Type 0} (r : Reading S) (rows : List Entry) (number : ℕ) (e : Entry) (name : List ℕ) (o : Option Declared) → Makes r rows number e → o ≡ declared_by name e e.binding → is_some o ≡ true
     → found_exception (environment r rows number).exceptions name ≡ raised_by r o
-exception_here r rows number e name (Some d) m is h = ap (λ env. found_exception env.exceptions name) m.made ∙ raised_here r (environment r rows) e e.outer e.entity name d (sym is)
+exception_here r rows number e name (Some d) m is h = ap (λ env. found_exception env.exceptions name) m.made ∙ raised_here r (environment r rows) e e.outer e.binding name d (sym is)
 exception_here r rows number e name None m is h = absurd (cc)
 
-pub exception_there : {S : Type 0} (r : Reading S) (rows : List Entry) (number : ℕ) (e : Entry) (name : List ℕ) (o : Option Declared) → Makes r rows number e → o ≡ declared_by name e e.entity → is_some o ≡ false
+pub exception_there : {S : Type 0} (r : Reading S) (rows : List Entry) (number : ℕ) (e : Entry) (name : List ℕ) (o : Option Declared) → Makes r rows number e → o ≡ declared_by name e e.binding → is_some o ≡ false
     → found_exception (environment r rows number).exceptions name ≡ found_exception (environment r rows e.outer).exceptions name
 exception_there r rows number e name (Some d) m is h = absurd (cc)
-exception_there r rows number e name None m is h = ap (λ env. found_exception env.exceptions name) m.made ∙ raised_there r (environment r rows) e e.outer e.entity name (sym is)
+exception_there r rows number e name None m is h = ap (λ env. found_exception env.exceptions name) m.made ∙ raised_there r (environment r rows) e e.outer e.binding name (sym is)
 
 -- at the start there is none but `Deadlock`
 pub exception_nowhere : {S : Type 0} (r : Reading S) (rows : List Entry) (number : ℕ) (name : List ℕ) → number ≡ 0 → found_exception (environment r rows number).exceptions name ≡ raised_by r None

@@ -9,7 +9,7 @@ use Rattle.lt_macros.specs.Environment.{Environment, variable, with_name, with_v
 use Rattle.lt_macros.specs.Expanded as x
 use Rattle.lt_macros.specs.Expanded.{Declared}
 use Rattle.lt_macros.specs.Expansion.{groups_variables, with_groups}
-use Rattle.lt_macros.specs.Senses.{Sense, Numbers, Numbered, around_one, as_trace, behind_local, declared_as, first_of, in_groups, in_locals, trace_sense}
+use Rattle.lt_macros.specs.Denotation.{Denotation, Numbers, Numbered, around_one, as_trace, behind_local, declared_as, first_of, in_groups, in_locals, trace_denotation}
 use Rattle.lt_macros.specs.inner.Built.{in_all, numbered}
 use Rattle.lt_macros.specs.inner.Numbers.{numbers_view}
 use Rattle.lt_macros.specs.Tree.{declared, expanded}
@@ -49,7 +49,7 @@ all-append i j [] es inside h = ap (λ k. in_all k es inside) (omega (arith, h))
 all-append i j (d ∷ ds) es inside h = ap (x.exist i d) (all-append (suc i) j ds es inside (omega (arith, h)))
 
 -- locals of these names
-locals_are : (declares : Word → Declared) (ws : List Word) (env : Environment Sense) (body : Environment Sense → Numbers → Numbered) (n : Numbers)
+locals_are : (declares : Word → Declared) (ws : List Word) (env : Environment Denotation) (body : Environment Denotation → Numbers → Numbered) (n : Numbers)
     → in_locals declares ws env body n ≡ around_all n.local (map declares ws) (body (with_variables Local n.local ws env) (behind_all (map declares ws) n))
 locals_are declares [] env body n = ap (body env) (behind_none n)
 locals_are declares (w ∷ ws) env body n =
@@ -57,13 +57,13 @@ locals_are declares (w ∷ ws) env body n =
     ∙ ap (λ m. around_all n.local (map declares (w ∷ ws)) (body (with_variables Local n.local (w ∷ ws) env) m)) (behind_one (declares w) (map declares ws) n)
 
 -- locals of groups
-groups_are : (gs : Groupings) (env : Environment Sense) (body : Environment Sense → Numbers → Numbered) (n : Numbers)
+groups_are : (gs : Groupings) (env : Environment Denotation) (body : Environment Denotation → Numbers → Numbered) (n : Numbers)
     → in_groups env gs body n ≡ around_all n.local (groups_variables Local n.local env gs) (body (with_groups Local n.local gs env) (behind_all (groups_variables Local n.local env gs) n))
 groups_are s.no_groups env body n = ap (body env) (behind_none n)
 groups_are (s.one_group (s.grouping ws type ref range first) gs) env body n =
     let declares : Word → Declared = declared_as Local env type range (first_of env first) in
     let ds : List Declared = map declares ws in
-    let inner : Environment Sense = with_variables Local n.local ws env in
+    let inner : Environment Denotation = with_variables Local n.local ws env in
     let names : ℕ = length (map (λ w. w.text) ws) in
     let count : n.local + length ds ≡ n.local + names = omega (arith, length-map ws declares, length-map ws (λ (w : Word). w.text)) in
     locals_are declares ws env (λ e. in_groups e gs body) n
@@ -76,11 +76,11 @@ groups_are (s.one_group (s.grouping ws type ref range first) gs) env body n =
     ∙ ap (λ m. around_all n.local (ds ++ groups_variables Local (n.local + names) inner gs) (body (with_groups Local (n.local + names) gs inner) m)) (behind_both ds (groups_variables Local (n.local + names) inner gs) n)
 
 -- a trace with locals, as it is built
-pub exist_built : (env inner : Environment Sense) (gs : Groupings) (t : Trace) (n inside : Numbers) (items : List Tree) (next : ℕ) (tree : x.Expanded) (b : code.Numbered)
+pub exist_built : (env inner : Environment Denotation) (gs : Groupings) (t : Trace) (n inside : Numbers) (items : List Tree) (next : ℕ) (tree : x.Expanded) (b : code.Numbered)
     → map declared items ≡ groups_variables Local n.local env gs → inner ≡ with_groups Local n.local gs env → next ≡ n.local + length items
-    → inside ≡ record { term = n.term + (next - n.local); local = next; counter = n.counter } → numbered b ≡ as_trace (trace_sense inner t) inside
+    → inside ≡ record { term = n.term + (next - n.local); local = next; counter = n.counter } → numbered b ≡ as_trace (trace_denotation inner t) inside
     → tree ≡ in_all (next - length items) (map declared items) (expanded b.expanded)
-    → record { expanded = tree; after = numbers_view b.after } ≡ in_groups env gs (λ e. as_trace (trace_sense e t)) n
+    → record { expanded = tree; after = numbers_view b.after } ≡ in_groups env gs (λ e. as_trace (trace_denotation e t)) n
 exist_built env inner gs t n inside items next tree b made shown counted is built whole =
     let ds : List Declared = groups_variables Local n.local env gs in
     let same : length items ≡ length ds = sym (length-map items declared) ∙ ap length made in
@@ -90,9 +90,9 @@ exist_built env inner gs t n inside items next tree b made shown counted is buil
     (λ i. record { expanded = whole i; after = numbers_view b.after })
     ∙ (λ i. around_all (first i) (made i) (numbered b))
     ∙ ap (around_all n.local ds) built
-    ∙ ap (λ m. around_all n.local ds (as_trace (trace_sense inner t) m)) is
-    ∙ (λ i. around_all n.local ds (as_trace (trace_sense (shown i) t) (record { term = term i; local = local i; counter = n.counter })))
-    ∙ sym (groups_are gs env (λ e. as_trace (trace_sense e t)) n)
+    ∙ ap (λ m. around_all n.local ds (as_trace (trace_denotation inner t) m)) is
+    ∙ (λ i. around_all n.local ds (as_trace (trace_denotation (shown i) t) (record { term = term i; local = local i; counter = n.counter })))
+    ∙ sym (groups_are gs env (λ e. as_trace (trace_denotation e t)) n)
 
 all-push : (i j : ℕ) (ds : List Declared) (d : Declared) (inside : x.Expanded) → j ≡ i + length ds → in_all i (ds ++ d ∷ []) inside ≡ in_all i ds (x.exist j d inside)
 all-push i j [] d inside h = ap (λ k. x.exist k d inside) (omega (arith, h))

@@ -12,7 +12,7 @@ use Rattle.lt_formula.specs.declared.role.Role.{Role}
 use Rattle.lt_macros.specs.Environment.{Environment, parameter, variable, with_name, with_variables}
 use Rattle.lt_macros.specs.Expanded.{Declared}
 use Rattle.lt_macros.specs.Expansion.{group_variables, groups_variables, with_group, with_groups}
-use Rattle.lt_macros.specs.Senses.{Sense, group_names}
+use Rattle.lt_macros.specs.Denotation.{Denotation, group_names}
 use Rattle.lt_macros.specs.Tree.{declared}
 use Rattle.lt_macros.specs.declared.tree.Declared.{Declared as Tree}
 use Rattle.lt_macros.specs.inner.Work.{groups_work, with_ones}
@@ -60,7 +60,7 @@ pub next_place : (n next : ℕ) (g : Group) → next ≡ n + length g.names.item
 next_place n next g is = is ∙ ap (λ m. n + m) (sym (names_length g.names.items.items))
 
 -- one more group is declared
-pub group_declared : (role : Role) (env inner : Environment Sense) (n next : ℕ) (groups : List Group) (place : ℕ) (g : Group) (before after all : List Declared) → place < length groups → g ≡ get_or groups place g
+pub group_declared : (role : Role) (env inner : Environment Denotation) (n next : ℕ) (groups : List Group) (place : ℕ) (g : Group) (before after all : List Declared) → place < length groups → g ≡ get_or groups place g
     → after ≡ before ++ group_variables role env (group_of g) → inner ≡ with_group role n (group_of g) env → next ≡ n + length g.names.items.items
     → before ++ groups_variables role n env (groups_of (map group_of (drop place groups))) ≡ all
     → after ++ groups_variables role next inner (groups_of (map group_of (drop (place + 1) groups))) ≡ all
@@ -73,7 +73,7 @@ group_declared role env inner n next groups place g before after all h is made s
     ∙ so_far
 
 -- and visible
-pub group_visible : (role : Role) (env inner all : Environment Sense) (n next : ℕ) (groups : List Group) (place : ℕ) (g : Group) → place < length groups → g ≡ get_or groups place g
+pub group_visible : (role : Role) (env inner all : Environment Denotation) (n next : ℕ) (groups : List Group) (place : ℕ) (g : Group) → place < length groups → g ≡ get_or groups place g
     → inner ≡ with_group role n (group_of g) env → next ≡ n + length g.names.items.items
     → with_groups role n (groups_of (map group_of (drop place groups))) env ≡ all
     → with_groups role next (groups_of (map group_of (drop (place + 1) groups))) inner ≡ all
@@ -94,7 +94,7 @@ group_worked env inner groups place g body all h is shown so_far =
     omega (arith, ap (λ gs. groups_work env gs body) (groups_from groups place g h is), ap (λ e. groups_work e rest body) shown, so_far)
 
 -- one more name is visible
-pub name_visible : (role : Role) (env inner all : Environment Sense) (n next : ℕ) (names : List Name) (place : ℕ) (name : Name) → place < length names → name ≡ get_or names place name
+pub name_visible : (role : Role) (env inner all : Environment Denotation) (n next : ℕ) (names : List Name) (place : ℕ) (name : Name) → place < length names → name ≡ get_or names place name
     → inner ≡ with_name (word name).text (variable role n) env → next ≡ n + 1
     → with_variables role n (map word (drop place names)) env ≡ all
     → with_variables role next (map word (drop (place + 1) names)) inner ≡ all
@@ -123,13 +123,13 @@ pub none_left : (groups : List Group) (place : ℕ) → length groups ≤ place 
 none_left groups place h = ap (λ gs. groups_of (map group_of gs)) (drop_all place groups h)
 
 -- at the end all groups are declared
-pub all_declared : (role : Role) (env outer : Environment Sense) (n first : ℕ) (groups : List Group) (place : ℕ) (written : Groupings) (ds : List Declared) → length groups ≤ place → groups_of (map group_of groups) ≡ written
+pub all_declared : (role : Role) (env outer : Environment Denotation) (n first : ℕ) (groups : List Group) (place : ℕ) (written : Groupings) (ds : List Declared) → length groups ≤ place → groups_of (map group_of groups) ≡ written
     → ds ++ groups_variables role n env (groups_of (map group_of (drop place groups))) ≡ groups_variables role first outer (groups_of (map group_of groups)) → ds ≡ groups_variables role first outer written
 all_declared role env outer n first groups place written ds h whole so_far =
     sym (append-nil ds) ∙ sym (ap (λ gs. ds ++ groups_variables role n env gs) (none_left groups place h)) ∙ so_far ∙ ap (groups_variables role first outer) whole
 
 -- and visible
-pub all_visible : (role : Role) (env outer : Environment Sense) (n first : ℕ) (groups : List Group) (place : ℕ) (written : Groupings) → length groups ≤ place → groups_of (map group_of groups) ≡ written
+pub all_visible : (role : Role) (env outer : Environment Denotation) (n first : ℕ) (groups : List Group) (place : ℕ) (written : Groupings) → length groups ≤ place → groups_of (map group_of groups) ≡ written
     → with_groups role n (groups_of (map group_of (drop place groups))) env ≡ with_groups role first (groups_of (map group_of groups)) outer → env ≡ with_groups role first written outer
 all_visible role env outer n first groups place written h whole so_far =
     sym (ap (λ gs. with_groups role n gs env) (none_left groups place h)) ∙ so_far ∙ ap (λ gs. with_groups role first gs outer) whole

@@ -8,12 +8,12 @@ use Rattle.lt_ast.specs.View.{macro as macro_view, meaning}
 use Rattle.lt_ast.specs.declared.trace.MacroDecl.{MacroDecl, out-MacroDecl}
 use Rattle.lt_macros.specs.Environment.{Environment, with_arguments}
 use Rattle.lt_macros.specs.Placed.{meaningless}
-use Rattle.lt_macros.specs.Senses.{Sense, expression, macro_sense, meaning_sense, parameter_names, standing_for}
-use Rattle.lt_macros.specs.inner.Binding.{parameters_view}
-use Rattle.lt_macros.specs.inner.Handing.{HandsOn, IsRightMacro, covered, macro_parameters, newest_at, reached_sense, reached_work}
-use Rattle.lt_macros.specs.inner.Heads.{AddsTo}
+use Rattle.lt_macros.specs.Denotation.{Denotation, expression, macro_denotation, meaning_denotation, parameter_names, standing_for}
+use Rattle.lt_macros.specs.inner.Parameters.{parameters_view}
+use Rattle.lt_macros.specs.inner.Handing.{HandsOn, IsRightMacro, covered, macro_parameters, newest_at, reached_denotation, reached_work}
+use Rattle.lt_macros.specs.inner.HeadNormalForm.{AddsTo}
 use Rattle.lt_macros.specs.inner.Leads.{IsReached, IsReachedBy, LeadsTo, parameters}
-use Rattle.lt_macros.specs.inner.Phrase.{Phrase, meaning_phrase, phrase_sense}
+use Rattle.lt_macros.specs.inner.Phrase.{Phrase, meaning_phrase, phrase_denotation}
 use Rattle.lt_macros.specs.inner.Reading.{Reading, are_linked, environment, meant_where, newest, terms_where, worked_where}
 use Rattle.lt_macros.specs.inner.Work.{macro_work, meaning_work, phrase_work, used}
 use Rattle.lt_macros.specs.declared.declaring.Led.{Led}
@@ -61,11 +61,11 @@ same_terms count g h same (Terms n) below = refl
 same_terms count g h same (Chosen j) below = same j below
 
 -- a macro's environment, with such arguments
-bound_sense : (d : ℕ) (f : ℕ → Sense) (g : ℕ → ℕ) (old mid : List Entry) (outer inner : ℕ) (ps : List (List ℕ)) (args : List Sense) → IsTrue (are_linked old) → length args ≡ length ps
-    → ((r : Reading Sense) → environment r mid inner ≡ with_arguments ps (parameters r.parameter (length old) ps) (environment r old outer))
+bound_denotation : (d : ℕ) (f : ℕ → Denotation) (g : ℕ → ℕ) (old mid : List Entry) (outer inner : ℕ) (ps : List (List ℕ)) (args : List Denotation) → IsTrue (are_linked old) → length args ≡ length ps
+    → ((r : Reading Denotation) → environment r mid inner ≡ with_arguments ps (parameters r.parameter (length old) ps) (environment r old outer))
     → with_arguments ps args (environment (meant_where d f g) old outer) ≡ environment (meant_where d (chosen (expression meaningless) f (length old) args) g) mid inner
-bound_sense d f g old mid outer inner ps args l n bound =
-    let f' : ℕ → Sense = chosen (expression meaningless) f (length old) args in
+bound_denotation d f g old mid outer inner ps args l n bound =
+    let f' : ℕ → Denotation = chosen (expression meaningless) f (length old) args in
     let all : parameters f' (length old) ps ≡ args = chosen_all (expression meaningless) f' (length old) ps args n (chosen_late (expression meaningless) f (length old) args) in
     let same : environment (meant_where d f g) old outer ≡ environment (meant_where d f' g) old outer =
     environment_chosen (meant_where d f g) f' (terms_where g) old (chosen_early (expression meaningless) f (length old) args) (λ b h. refl) l outer in
@@ -82,9 +82,9 @@ bound_work f old mid outer inner ps args l n bound =
     (λ i. with_arguments ps (sym all i) (same i)) ∙ sym (bound (worked_where f'))
 
 -- and an older one
-older_sense : (d : ℕ) (f : ℕ → Sense) (g h : ℕ → ℕ) (old new : List Entry) (k : ℕ) (args : List Sense) → IsTrue (are_linked old) → AddsTo old new → k ≤ length old → ((j : ℕ) → j < length old → g j ≡ h j)
+older_denotation : (d : ℕ) (f : ℕ → Denotation) (g h : ℕ → ℕ) (old new : List Entry) (k : ℕ) (args : List Denotation) → IsTrue (are_linked old) → AddsTo old new → k ≤ length old → ((j : ℕ) → j < length old → g j ≡ h j)
     → environment (meant_where d (chosen (expression meaningless) f (length old) args) h) new k ≡ environment (meant_where d f g) old k
-older_sense d f g h old new k args l a below same =
+older_denotation d f g h old new k args l a below same =
     environment_kept (meant_where d (chosen (expression meaningless) f (length old) args) h) old new k a below
     ∙ sym (environment_chosen (meant_where d f g) (chosen (expression meaningless) f (length old) args) (terms_where h) old (chosen_early (expression meaningless) f (length old) args) (same_terms (length old) g h same) l k)
 
@@ -98,9 +98,9 @@ pub record Looked (old mid led : List Entry) (outer inner : ℕ) (m : Macro) (bo
   pub linked : IsTrue (are_linked old)
   pub before : AddsTo old mid
   pub adds : AddsTo old led
-  pub sense : (r : Reading Sense) → environment r mid inner ≡ with_arguments (macro_parameters m) (parameters r.parameter (length old) (macro_parameters m)) (environment r old outer)
+  pub denotation : (r : Reading Denotation) → environment r mid inner ≡ with_arguments (macro_parameters m) (parameters r.parameter (length old) (macro_parameters m)) (environment r old outer)
   pub work : (r : Reading ℕ) → environment r mid inner ≡ with_arguments (macro_parameters m) (parameters r.parameter (length old) (macro_parameters m)) (environment r old outer)
-  pub opens : (env : Environment Sense) (args : List Sense) → macro_sense env m args ≡ phrase_sense (with_arguments (macro_parameters m) args env) body
+  pub opens : (env : Environment Denotation) (args : List Denotation) → macro_denotation env m args ≡ phrase_denotation (with_arguments (macro_parameters m) args env) body
   pub does : (env : Environment ℕ) (args : List ℕ) → macro_work env m args ≡ phrase_work (with_arguments (macro_parameters m) args env) body
   pub leads : LeadsTo mid led inner body x
 
@@ -110,10 +110,10 @@ hands_on old mid led outer inner m body x count (Own place c) look all reached =
     record {
       count = all;
       place = reached.0;
-      sense = λ d f g args n.
+      denotation = λ d f g args n.
           look.opens (environment (meant_where d f g) old outer) args
-          ∙ ap (λ env. phrase_sense env body) (bound_sense d f g old mid outer inner (macro_parameters m) args look.linked (n ∙ all) look.sense)
-          ∙ look.leads.sense d (chosen (expression meaningless) f (length old) args) g args
+          ∙ ap (λ env. phrase_denotation env body) (bound_denotation d f g old mid outer inner (macro_parameters m) args look.linked (n ∙ all) look.denotation)
+          ∙ look.leads.denotation d (chosen (expression meaningless) f (length old) args) g args
           ∙ around_same x.cover (length old) (length mid) (length led) g (λ h. standing_for x.at (newest_at (meant_where d (chosen (expression meaningless) f (length old) args) h) led x.environment) args) (slice_index_or args place (expression meaningless))
           look.leads.between (adds_length old mid look.before)
           (λ h same. ap (λ o. standing_for x.at o args) (reached.2 d (chosen (expression meaningless) f (length old) args) h) ∙ chosen_late (expression meaningless) f (length old) args place)
@@ -132,14 +132,14 @@ hands_on old mid led outer inner m body x count (Outer y) look all reached =
     record {
       count = all;
       place = tt;
-      sense = λ d f g args n.
+      denotation = λ d f g args n.
           look.opens (environment (meant_where d f g) old outer) args
-          ∙ ap (λ env. phrase_sense env body) (bound_sense d f g old mid outer inner (macro_parameters m) args look.linked (n ∙ all) look.sense)
-          ∙ look.leads.sense d (chosen (expression meaningless) f (length old) args) g args
+          ∙ ap (λ env. phrase_denotation env body) (bound_denotation d f g old mid outer inner (macro_parameters m) args look.linked (n ∙ all) look.denotation)
+          ∙ look.leads.denotation d (chosen (expression meaningless) f (length old) args) g args
           ∙ around_same x.cover (length old) (length mid) (length led) g (λ h. standing_for x.at (newest_at (meant_where d (chosen (expression meaningless) f (length old) args) h) led x.environment) args) (standing_for x.at (newest_at (meant_where d f g) old x.environment) args)
           look.leads.between (adds_length old mid look.before)
-          (λ h same. ap (λ env. standing_for x.at (newest env.names) args) (older_sense d f g h old led x.environment args look.linked look.adds reached.1 same))
-          ∙ ap (λ z. reached_sense (meant_where d f g) old z args) (sym reached.0);
+          (λ h same. ap (λ env. standing_for x.at (newest env.names) args) (older_denotation d f g h old led x.environment args look.linked look.adds reached.1 same))
+          ∙ ap (λ z. reached_denotation (meant_where d f g) old z args) (sym reached.0);
       work = λ f args n.
           omega (
             arith,
@@ -152,7 +152,7 @@ hands_on old mid led outer inner m body x count (Outer y) look all reached =
     }
 
 -- what a macro stands for, as a phrase
-meaning_read : (env : Environment Sense) (m : s.Meaning) → meaning_sense env m ≡ phrase_sense env (meaning_phrase m)
+meaning_read : (env : Environment Denotation) (m : s.Meaning) → meaning_denotation env m ≡ phrase_denotation env (meaning_phrase m)
 meaning_read env (s.trace_meaning t) = refl
 meaning_read env (s.value_meaning e) = refl
 
@@ -164,10 +164,10 @@ meaning_worked env (s.value_meaning e) = refl
 pub parameters_seen : (d : MacroDecl) → macro_parameters (macro_view d) ≡ parameter_names (parameters_view (out-MacroDecl d).params)
 parameters_seen d = ap macro_parameters (macro_parts d)
 
-pub macro_opens : (d : MacroDecl) (env : Environment Sense) (args : List Sense) → macro_sense env (macro_view d) args ≡ phrase_sense (with_arguments (macro_parameters (macro_view d)) args env) (meaning_phrase (meaning (out-MacroDecl d).body))
+pub macro_opens : (d : MacroDecl) (env : Environment Denotation) (args : List Denotation) → macro_denotation env (macro_view d) args ≡ phrase_denotation (with_arguments (macro_parameters (macro_view d)) args env) (meaning_phrase (meaning (out-MacroDecl d).body))
 macro_opens d env args =
-    ap (λ m. macro_sense env m args) (macro_parts d)
-    ∙ ap (λ ps. meaning_sense (with_arguments ps args env) (meaning (out-MacroDecl d).body)) (sym (parameters_seen d))
+    ap (λ m. macro_denotation env m args) (macro_parts d)
+    ∙ ap (λ ps. meaning_denotation (with_arguments ps args env) (meaning (out-MacroDecl d).body)) (sym (parameters_seen d))
     ∙ meaning_read (with_arguments (macro_parameters (macro_view d)) args env) (meaning (out-MacroDecl d).body)
 
 pub macro_does : (d : MacroDecl) (env : Environment ℕ) (args : List ℕ) → macro_work env (macro_view d) args ≡ phrase_work (with_arguments (macro_parameters (macro_view d)) args env) (meaning_phrase (meaning (out-MacroDecl d).body))
@@ -180,22 +180,22 @@ macro_does d env args =
 pub declared_right : (old mid led : List Entry) (outer inner : ℕ) (x : Option Led) (declared : Bor MacroDecl) (body : Phrase) (ps : List (List ℕ)) (start count : ℕ) (h : Option Handed)
     → IsTrue (are_linked old) → AddsTo old mid → AddsTo mid led → AddsTo old led
     → ps ≡ parameter_names (parameters_view (out-MacroDecl declared.now).params) → body ≡ meaning_phrase (meaning (out-MacroDecl declared.now).body) → start ≡ length old → count ≡ length ps
-    → ((r : Reading Sense) → environment r mid inner ≡ with_arguments ps (parameters r.parameter (length old) ps) (environment r old outer))
+    → ((r : Reading Denotation) → environment r mid inner ≡ with_arguments ps (parameters r.parameter (length old) ps) (environment r old outer))
     → ((r : Reading ℕ) → environment r mid inner ≡ with_arguments ps (parameters r.parameter (length old) ps) (environment r old outer))
     → IfSome x (LeadsTo mid led inner body) → IfSome h (IsReachedBy led start count x) → IsRightMacro old outer (macro_view declared.now) h
-declared_right old mid led outer inner x declared body ps start count None l before after a ps_is body_is start_is count_is sense work leads reached = tt
-declared_right old mid led outer inner None declared body ps start count (Some h) l before after a ps_is body_is start_is count_is sense work leads reached = absurd reached
-declared_right old mid led outer inner (Some x) declared body ps start count (Some h) l before after a ps_is body_is start_is count_is sense work leads reached =
+declared_right old mid led outer inner x declared body ps start count None l before after a ps_is body_is start_is count_is denotation work leads reached = tt
+declared_right old mid led outer inner None declared body ps start count (Some h) l before after a ps_is body_is start_is count_is denotation work leads reached = absurd reached
+declared_right old mid led outer inner (Some x) declared body ps start count (Some h) l before after a ps_is body_is start_is count_is denotation work leads reached =
     let seen : ps ≡ macro_parameters (macro_view declared.now) = ps_is ∙ sym (parameters_seen declared.now) in
     let all : h.parameters ≡ length (macro_parameters (macro_view declared.now)) = reached.0 ∙ count_is ∙ ap length seen in
-    let P : List (List ℕ) → Type 0 = λ ps. (r : Reading Sense) → environment r mid inner ≡ with_arguments ps (parameters r.parameter (length old) ps) (environment r old outer) in
+    let P : List (List ℕ) → Type 0 = λ ps. (r : Reading Denotation) → environment r mid inner ≡ with_arguments ps (parameters r.parameter (length old) ps) (environment r old outer) in
     let Q : List (List ℕ) → Type 0 = λ ps. (r : Reading ℕ) → environment r mid inner ≡ with_arguments ps (parameters r.parameter (length old) ps) (environment r old outer) in
     let look : Looked old mid led outer inner (macro_view declared.now) (meaning_phrase (meaning (out-MacroDecl declared.now).body)) x =
     record {
       linked = l;
       before = before;
       adds = a;
-      sense = subst P seen sense;
+      denotation = subst P seen denotation;
       work = subst Q seen work;
       opens = macro_opens declared.now;
       does = macro_does declared.now;

@@ -21,8 +21,8 @@ use Rattle.lt_macros.specs.declared.key.Key.{Key}
 use Rattle.lt_macros.specs.declared.key.NameKind.{NameKind}
 use Rattle.lt_macros.specs.declared.key.NameKind.TheVariants.{Name, Exception}
 use Rattle.lt_macros.specs.declared.scope.Declared.{Declared}
-use Rattle.lt_macros.specs.declared.scope.Entity.{Entity}
-use Rattle.lt_macros.specs.declared.scope.Entity.TheVariants as code
+use Rattle.lt_macros.specs.declared.scope.Binding.{Binding}
+use Rattle.lt_macros.specs.declared.scope.Binding.TheVariants as code
 use Rattle.lt_macros.specs.declared.scope.Entry.{Entry}
 use Rattle.lt_macros.proofs.Environments.{both, Makes, makes, exception_here, exception_there, found_here, found_there, stands_at}
 
@@ -329,7 +329,7 @@ before_same ks ls (suc k) h = ap run_in (h k (omega arith))
 key_same : (ks ls : List Key) (k : ℕ) (e : Entry) → Agree ks ls k → key_of ks k e ≡ key_of ls k e
 key_same ks ls k e h =
     let before = before_same ks ls k h in
-    λ i. key_with (if nat_eq e.outer k then before i else k) (kind_of (is_name e.entity)) e.name
+    λ i. key_with (if nat_eq e.outer k then before i else k) (kind_of (is_name e.binding)) e.name
 
 keyed_more : (items : List Entry) (ks : List Key) (e : Entry) → AreKeyed items ks → AreKeyed (items ++ e ∷ []) (ks ++ key_of ks (length items) e ∷ [])
 keyed_more items ks e h =
@@ -354,7 +354,7 @@ keyed_more items ks e h =
         let it : e ≡ y = some_same e y (sym (last_push items e) ∙ ap (slice_get (items ++ e ∷ [])) here ∙ is) in
         sym (ap (slice_get (ks ++ key ∷ [])) there) ∙ last_push ks key ∙ (λ i. Some (key_of ks (here i) (it i))) ∙ ap Some (key_same ks (ks ++ key ∷ []) k y (agree k (omega (arith, here))))
 
-pub keyed_push : (items more : List Entry) (ks ls : List Key) (e : Entry) (run : ℕ) (kind : NameKind) → more ≡ items ++ e ∷ [] → run ≡ run_from ks (length items) e.outer → kind ≡ kind_of (is_name e.entity)
+pub keyed_push : (items more : List Entry) (ks ls : List Key) (e : Entry) (run : ℕ) (kind : NameKind) → more ≡ items ++ e ∷ [] → run ≡ run_from ks (length items) e.outer → kind ≡ kind_of (is_name e.binding)
     → ls ≡ ks ++ key_with run kind e.name ∷ [] → AreKeyed items ks → AreKeyed more ls
 keyed_push items more ks ls e run kind is r k keys h =
     let key : key_with run kind e.name ≡ key_of ks (length items) e = λ i. key_with (r i) (k i) e.name in
@@ -404,7 +404,7 @@ none_below items ks key (suc k) h w l =
 
 -- whether an entry is that of a name of a kind
 abbrev has : NameKind → Entry → List ℕ → Bool
-has kind e name = eq-kind.it (kind_of (is_name e.entity)) kind && bytes_eq e.name.now name
+has kind e name = eq-kind.it (kind_of (is_name e.binding)) kind && bytes_eq e.name.now name
 
 -- What is read off an environment, where entries of other names leave it as it was.
 abbrev Passes : {T : Type 0} → (ℕ → T) → List Entry → NameKind → List ℕ → Type 0
@@ -494,23 +494,23 @@ bytes_turned a b =
     let back : Decides (bytes_eq b a) (a ≡ b) = (λ h. sym ((bytes_eq-Decides b a).0 h), λ e. (bytes_eq-Decides b a).1 (sym e)) in
     same_from_decides (bytes_eq a b) (bytes_eq b a) (bytes_eq-Decides a b) back
 
-has_name : (e : Entry) (name : List ℕ) → has Name e name ≡ (is_name e.entity && bytes_eq name e.name.now)
-has_name e name = λ i. kind_name (is_name e.entity) i && bytes_turned e.name.now name i
+has_name : (e : Entry) (name : List ℕ) → has Name e name ≡ (is_name e.binding && bytes_eq name e.name.now)
+has_name e name = λ i. kind_name (is_name e.binding) i && bytes_turned e.name.now name i
 
 -- whether an entry declares the exception of a name
 declares_by : (d : Declared) (b : Bool) → is_some {T = Declared} (if b then Some d else None) ≡ b
 declares_by d true = refl
 declares_by d false = refl
 
-declares : (name : List ℕ) (e : Entry) (x : Entity) → is_some (declared_by name e x) ≡ not (is_name x) && bytes_eq name e.name.now
+declares : (name : List ℕ) (e : Entry) (x : Binding) → is_some (declared_by name e x) ≡ not (is_name x) && bytes_eq name e.name.now
 declares name e (code.Variable role place) = refl
 declares name e (code.Argument p k) = refl
 declares name e (code.Parameter i) = refl
 declares name e (code.Macro m h) = refl
 declares name e (code.Exception place before) = declares_by (record { name = e.name; place = place; before = before }) (bytes_eq name e.name.now)
 
-has_exception : (e : Entry) (name : List ℕ) → is_some (declared_by name e e.entity) ≡ has Exception e name
-has_exception e name = declares name e e.entity ∙ (λ i. sym (kind_exception (is_name e.entity)) i && bytes_turned name e.name.now i)
+has_exception : (e : Entry) (name : List ℕ) → is_some (declared_by name e e.binding) ≡ has Exception e name
+has_exception e name = declares name e e.binding ∙ (λ i. sym (kind_exception (is_name e.binding)) i && bytes_turned name e.name.now i)
 
 -- the environment that an entry makes
 made_at : {S : Type 0} (r : Reading S) (items : List Entry) (k : ℕ) (e : Entry) → IsTrue (are_linked (reverse items)) → slice_get items k ≡ Some e → Makes r (reverse items) (suc k) e
@@ -543,7 +543,7 @@ found_at r items ks name k (suc j) l h some w is more =
 -- EXCEPTIONS
 
 exceptions_pass : {S : Type 0} (r : Reading S) (items : List Entry) (name : List ℕ) → IsTrue (are_linked (reverse items)) → Passes (λ k. found_exception (environment r (reverse items) k).exceptions name) items Exception name
-exceptions_pass r items name l = λ k e is other. exception_there r (reverse items) (suc k) e name (declared_by name e e.entity) (made_at r items k e l is) refl (has_exception e name ∙ other)
+exceptions_pass r items name l = λ k e is other. exception_there r (reverse items) (suc k) e name (declared_by name e e.binding) (made_at r items k e l is) refl (has_exception e name ∙ other)
 
 pub raised_on : {S : Type 0} (r : Reading S) (items : List Entry) (ks : List Key) (name : Bor (List ℕ)) (k number outer : ℕ) → IsTrue (are_linked (reverse items)) → AreKeyed items ks → 0 < k → k ≤ length items
     → number ≡ newest_below ks (key_in ks k Exception name) k → number ≡ 0 → outer ≡ outer_in (slice_get items (run_of ks (k - 1)))
@@ -552,7 +552,7 @@ raised_on r items ks name k number outer l h some w is none to =
     on (λ j. found_exception (environment r (reverse items) j).exceptions name.now) items ks Exception name h (exceptions_pass r items name.now l) k number outer some w is none to
 
 pub raised_at : {S : Type 0} (r : Reading S) (items : List Entry) (ks : List Key) (name : Bor (List ℕ)) (k number : ℕ) (e : Entry) (o : Option Declared) → IsTrue (are_linked (reverse items)) → AreKeyed items ks → 0 < k → k ≤ length items
-    → number ≡ newest_below ks (key_in ks k Exception name) k → 0 < number → e ≡ get_or items (number - 1) e → o ≡ declared_by name.now e e.entity
+    → number ≡ newest_below ks (key_in ks k Exception name) k → 0 < number → e ≡ get_or items (number - 1) e → o ≡ declared_by name.now e e.binding
     → found_exception (environment r (reverse items) k).exceptions name.now ≡ raised_by r o
 raised_at r items ks name k zero e o l h some w is more read declared = absurd (omega (arith, more))
 raised_at r items ks name k (suc j) e o l h some w is more read declared =

@@ -18,11 +18,11 @@ use Rattle.lt_formula.specs.declared.role.Role.TheVariants as role
 use Rattle.lt_macros.specs.Placed as p
 use Rattle.lt_macros.specs.Placed.{Placed}
 use Rattle.lt_macros.specs.Expanded.{Declared, Bounds, Expanded, seq, pri, par, Node}
-use Rattle.lt_macros.specs.Environment.{Entity, variable, parameter, macro, Raised, deadlock, declared, Binding, Environment, at_start, found, found_exception, with_name, with_arguments, with_variables, with_exceptions}
+use Rattle.lt_macros.specs.Environment.{Binding, variable, parameter, macro, Raised, deadlock, declared, NamedBinding, Environment, at_start, found, found_exception, with_name, with_arguments, with_variables, with_exceptions}
 use Rattle.lt_macros.specs.Expansion.{group_variables, groups_variables, with_group, with_groups, node_of, is_wanted, node_among}
 use Rattle.lt_macros.specs.Literals.{kind_of, range_of, limited, from_to, most_drawn_raw, most_unranged, literal_raw}
 use Rattle.lt_macros.specs.Naming.{IsOneOf, IsNamed, AreNamed, AreEachNamed, HaveDomains, NamesWhatIsThere, NamesAreThere}
-use Rattle.lt_macros.specs.Senses.{Numbers, Numbered, behind_term, behind_local, behind_counter, Sense, expression, trace, as_expression, as_trace, standing_for, before, macro_name, parameter_names, declared_as, first_of, group_names, caught_as, raised_as, repeated, bounds_of, in_locals, in_group, in_groups, caught, exp_sense, argument_sense, argument_senses, braces_sense, weight_of, alternative_sense, parts_of, traces_sense, handler_sense, meaning_sense, macro_sense, trace_sense}
+use Rattle.lt_macros.specs.Denotation.{Numbers, Numbered, behind_term, behind_local, behind_counter, Denotation, expression, trace, as_expression, as_trace, standing_for, before, macro_name, parameter_names, declared_as, first_of, group_names, caught_as, raised_as, repeated, bounds_of, in_locals, in_group, in_groups, caught, exp_denotation, argument_denotation, argument_denotations, braces_denotation, weight_of, alternative_denotation, parts_of, traces_denotation, handler_denotation, meaning_denotation, macro_denotation, trace_denotation}
 
 -- Ranges.
 
@@ -92,46 +92,46 @@ flag_of_kind : (b : Bool) → value_of kind.Bool (raw_of (value.Bool b)) ≡ val
 flag_of_kind true = refl
 flag_of_kind false = refl
 
--- Senses.
+-- Denotations.
 
--- A sense names no other inputs and outputs than these.
-abbrev IsNamedSense : ℕ → ℕ → Sense → Type 0
-IsNamedSense ins outs (expression e) = IsNamed ins outs e
-IsNamedSense ins outs (trace f) = (n : Numbers) → AreNamed ins outs (f n).expanded
+-- A denotation names no other inputs and outputs than these.
+abbrev IsNamedDenotation : ℕ → ℕ → Denotation → Type 0
+IsNamedDenotation ins outs (expression e) = IsNamed ins outs e
+IsNamedDenotation ins outs (trace f) = (n : Numbers) → AreNamed ins outs (f n).expanded
 
-abbrev AreNamedSenses : ℕ → ℕ → List Sense → Type 0
-AreNamedSenses ins outs [] = Unit {0}
-AreNamedSenses ins outs (s ∷ ss) = IsNamedSense ins outs s × AreNamedSenses ins outs ss
+abbrev AreNamedDenotations : ℕ → ℕ → List Denotation → Type 0
+AreNamedDenotations ins outs [] = Unit {0}
+AreNamedDenotations ins outs (s ∷ ss) = IsNamedDenotation ins outs s × AreNamedDenotations ins outs ss
 
--- A macro keeps senses so.
-abbrev IsNamedEntity : ℕ → ℕ → Entity Sense → Type 0
-IsNamedEntity ins outs (variable r i) = IsOneOf ins outs r i
-IsNamedEntity ins outs (parameter s) = IsNamedSense ins outs s
-IsNamedEntity ins outs (macro f) = (ss : List Sense) → AreNamedSenses ins outs ss → IsNamedSense ins outs (f ss)
+-- A macro keeps denotations so.
+abbrev IsNamedBinding : ℕ → ℕ → Binding Denotation → Type 0
+IsNamedBinding ins outs (variable r i) = IsOneOf ins outs r i
+IsNamedBinding ins outs (parameter s) = IsNamedDenotation ins outs s
+IsNamedBinding ins outs (macro f) = (ss : List Denotation) → AreNamedDenotations ins outs ss → IsNamedDenotation ins outs (f ss)
 
-abbrev IsNamedOption : ℕ → ℕ → Option (Entity Sense) → Type 0
+abbrev IsNamedOption : ℕ → ℕ → Option (Binding Denotation) → Type 0
 IsNamedOption ins outs None = Unit {0}
-IsNamedOption ins outs (Some x) = IsNamedEntity ins outs x
+IsNamedOption ins outs (Some x) = IsNamedBinding ins outs x
 
-abbrev AreKnownNames : ℕ → ℕ → List (Binding Sense) → Type 0
+abbrev AreKnownNames : ℕ → ℕ → List (NamedBinding Denotation) → Type 0
 AreKnownNames ins outs [] = Unit {0}
-AreKnownNames ins outs (b ∷ bs) = IsNamedEntity ins outs b.entity × AreKnownNames ins outs bs
+AreKnownNames ins outs (b ∷ bs) = IsNamedBinding ins outs b.binding × AreKnownNames ins outs bs
 
-one_of : (ins outs : ℕ) (b : Bool) (x : Entity Sense) (o : Option (Entity Sense)) → IsNamedEntity ins outs x → IsNamedOption ins outs o → IsNamedOption ins outs (if b then Some x else o)
+one_of : (ins outs : ℕ) (b : Bool) (x : Binding Denotation) (o : Option (Binding Denotation)) → IsNamedBinding ins outs x → IsNamedOption ins outs o → IsNamedOption ins outs (if b then Some x else o)
 one_of ins outs true x o f g = f
 one_of ins outs false x o f g = g
 
-found_named : (ins outs : ℕ) (bs : List (Binding Sense)) (name : List ℕ) → AreKnownNames ins outs bs → IsNamedOption ins outs (found bs name)
+found_named : (ins outs : ℕ) (bs : List (NamedBinding Denotation)) (name : List ℕ) → AreKnownNames ins outs bs → IsNamedOption ins outs (found bs name)
 found_named ins outs [] name h = tt
-found_named ins outs (b ∷ bs) name h = one_of ins outs (bytes_eq name b.name) b.entity (found bs name) h.0 (found_named ins outs bs name h.1)
+found_named ins outs (b ∷ bs) name h = one_of ins outs (bytes_eq name b.name) b.binding (found bs name) h.0 (found_named ins outs bs name h.1)
 
-standing_named : (ins outs : ℕ) (at : _) (o : Option (Entity Sense)) (ss : List Sense) → IsNamedOption ins outs o → AreNamedSenses ins outs ss → IsNamedSense ins outs (standing_for at o ss)
+standing_named : (ins outs : ℕ) (at : _) (o : Option (Binding Denotation)) (ss : List Denotation) → IsNamedOption ins outs o → AreNamedDenotations ins outs ss → IsNamedDenotation ins outs (standing_for at o ss)
 standing_named ins outs at None ss h g = flag_of_kind false
 standing_named ins outs at (Some (variable r i)) ss h g = h
 standing_named ins outs at (Some (parameter s)) ss h g = h
 standing_named ins outs at (Some (macro f)) ss h g = h ss g
 
-before_named : (ins outs : ℕ) (at : _) (s : Sense) → IsNamedSense ins outs s → IsNamedSense ins outs (before at s)
+before_named : (ins outs : ℕ) (at : _) (s : Denotation) → IsNamedDenotation ins outs s → IsNamedDenotation ins outs (before at s)
 before_named ins outs at (expression (p.constant k v there)) h = flag_of_kind false
 before_named ins outs at (expression (p.variable r i there)) h = h
 before_named ins outs at (expression (p.previous r i there)) h = flag_of_kind false
@@ -140,27 +140,27 @@ before_named ins outs at (expression (p.binary op d e there)) h = flag_of_kind f
 before_named ins outs at (expression (p.choice c d e there)) h = flag_of_kind false
 before_named ins outs at (trace f) h = flag_of_kind false
 
-bound_named : (ins outs : ℕ) (ps : List (List ℕ)) (ss : List Sense) (env : Environment Sense) → AreNamedSenses ins outs ss → AreKnownNames ins outs env.names
+bound_named : (ins outs : ℕ) (ps : List (List ℕ)) (ss : List Denotation) (env : Environment Denotation) → AreNamedDenotations ins outs ss → AreKnownNames ins outs env.names
     → AreKnownNames ins outs (with_arguments ps ss env).names
 bound_named ins outs [] ss env g h = h
 bound_named ins outs (p ∷ ps) [] env g h = h
 bound_named ins outs (p ∷ ps) (s ∷ ss) env g h = bound_named ins outs ps ss (with_name p (parameter s) env) g.1 (g.0, h)
 
-exceptions_named : (ins outs : ℕ) (terms : ℕ) (ws : List Word) (env : Environment Sense) → AreKnownNames ins outs env.names → AreKnownNames ins outs (with_exceptions terms ws env).names
+exceptions_named : (ins outs : ℕ) (terms : ℕ) (ws : List Word) (env : Environment Denotation) → AreKnownNames ins outs env.names → AreKnownNames ins outs (with_exceptions terms ws env).names
 exceptions_named ins outs terms [] env h = h
 exceptions_named ins outs terms (w ∷ ws) env h = exceptions_named ins outs terms ws _ h
 
-as_expression_named : (ins outs : ℕ) (s : Sense) → IsNamedSense ins outs s → IsNamed ins outs (as_expression s)
+as_expression_named : (ins outs : ℕ) (s : Denotation) → IsNamedDenotation ins outs s → IsNamed ins outs (as_expression s)
 as_expression_named ins outs (expression e) h = h
 as_expression_named ins outs (trace f) h = flag_of_kind false
 
-as_named : (ins outs : ℕ) (s : Sense) (n : Numbers) → IsNamedSense ins outs s → AreNamed ins outs (as_trace s n).expanded
+as_named : (ins outs : ℕ) (s : Denotation) (n : Numbers) → IsNamedDenotation ins outs s → AreNamed ins outs (as_trace s n).expanded
 as_named ins outs (expression e) n h = h
 as_named ins outs (trace f) n h = h n
 
 -- a trace that a place in a text stands for, wherever the names are known
-abbrev IsNamedBody : ℕ → ℕ → (Environment Sense → Numbers → Numbered) → Type 0
-IsNamedBody ins outs body = (env : Environment Sense) → AreKnownNames ins outs env.names → (n : Numbers) → AreNamed ins outs (body env n).expanded
+abbrev IsNamedBody : ℕ → ℕ → (Environment Denotation → Numbers → Numbered) → Type 0
+IsNamedBody ins outs body = (env : Environment Denotation) → AreKnownNames ins outs env.names → (n : Numbers) → AreNamed ins outs (body env n).expanded
 
 -- a trace of two others names what these do
 abbrev Joins : (Expanded → Expanded → Expanded) → Type 0
@@ -179,119 +179,119 @@ repeated_named ins outs None body h n = h (behind_term n)
 repeated_named ins outs (Some b) body h n = h (behind_counter n)
 
 locals_named : (ins outs : ℕ) (declares : Word → Declared) → ((w : Word) → IsDomain (declares w).kind (declares w).range)
-    → (ws : List Word) (env : Environment Sense) (body : Environment Sense → Numbers → Numbered) → IsNamedBody ins outs body
+    → (ws : List Word) (env : Environment Denotation) (body : Environment Denotation → Numbers → Numbered) → IsNamedBody ins outs body
     → AreKnownNames ins outs env.names → (n : Numbers) → AreNamed ins outs (in_locals declares ws env body n).expanded
 locals_named ins outs declares d [] env body h g n = h env g n
 locals_named ins outs declares d (w ∷ ws) env body h g n =
     (d w, locals_named ins outs declares d ws (with_name w.text (variable role.Local n.local) env) body h (tt, g) (behind_local n))
 
-group_named : (ins outs : ℕ) (env : Environment Sense) (gr : Grouping) (body : Environment Sense → Numbers → Numbered) → IsNamedBody ins outs body → AreKnownNames ins outs env.names → (n : Numbers)
+group_named : (ins outs : ℕ) (env : Environment Denotation) (gr : Grouping) (body : Environment Denotation → Numbers → Numbered) → IsNamedBody ins outs body → AreKnownNames ins outs env.names → (n : Numbers)
     → AreNamed ins outs (in_group env gr body n).expanded
 group_named ins outs env (s.grouping ws type ref range first) body h g n =
     locals_named ins outs (declared_as role.Local env type range (first_of env first)) (λ w. range_domain env.decimals role.Local (kind_of type) range) ws env body h g n
 
-groups_named : (ins outs : ℕ) (env : Environment Sense) (gs : Groupings) (body : Environment Sense → Numbers → Numbered) → IsNamedBody ins outs body → AreKnownNames ins outs env.names
+groups_named : (ins outs : ℕ) (env : Environment Denotation) (gs : Groupings) (body : Environment Denotation → Numbers → Numbered) → IsNamedBody ins outs body → AreKnownNames ins outs env.names
     → (n : Numbers) → AreNamed ins outs (in_groups env gs body n).expanded
 groups_named ins outs env s.no_groups body h g n = h env g n
 groups_named ins outs env (s.one_group gr gs) body h g n = group_named ins outs env gr (λ inner. in_groups inner gs body) (λ inner k m. groups_named ins outs inner gs body h k m) g n
 
-caught_named : (ins outs : ℕ) (env : Environment Sense) (w : Word) (t : Trace) (h : MaybeTrace) → IsNamedSense ins outs (trace_sense env t) → IsNamedSense ins outs (handler_sense env h)
+caught_named : (ins outs : ℕ) (env : Environment Denotation) (w : Word) (t : Trace) (h : MaybeTrace) → IsNamedDenotation ins outs (trace_denotation env t) → IsNamedDenotation ins outs (handler_denotation env h)
     → (n : Numbers)
-    → AreNamed ins outs (caught w env (λ inner. as_trace (trace_sense inner t)) (λ inner. as_trace (handler_sense inner h)) n).expanded
+    → AreNamed ins outs (caught w env (λ inner. as_trace (trace_denotation inner t)) (λ inner. as_trace (handler_denotation inner h)) n).expanded
 caught_named ins outs env w t h f g n =
-    caught_joins (found_exception env.exceptions w.text) ins outs (as_trace (trace_sense env t) (behind_term n)).expanded
-    (as_trace (handler_sense env h) (as_trace (trace_sense env t) (behind_term n)).after).expanded
-    (as_named ins outs (trace_sense env t) (behind_term n) f)
-    (as_named ins outs (handler_sense env h) _ g)
+    caught_joins (found_exception env.exceptions w.text) ins outs (as_trace (trace_denotation env t) (behind_term n)).expanded
+    (as_trace (handler_denotation env h) (as_trace (trace_denotation env t) (behind_term n)).after).expanded
+    (as_named ins outs (trace_denotation env t) (behind_term n) f)
+    (as_named ins outs (handler_denotation env h) _ g)
 
 mutual
-  exp_named : (ins outs : ℕ) (env : Environment Sense) (e : Exp) → AreKnownNames ins outs env.names → IsNamedSense ins outs (exp_sense env e)
+  exp_named : (ins outs : ℕ) (env : Environment Denotation) (e : Exp) → AreKnownNames ins outs env.names → IsNamedDenotation ins outs (exp_denotation env e)
   exp_named ins outs env (s.number f) h = number_of_kind _ _
   exp_named ins outs env (s.flag b at) h = flag_of_kind b
   exp_named ins outs env (s.named w) h = standing_named ins outs w.span (found env.names w.text) [] (found_named ins outs env.names w.text h) tt
   exp_named ins outs env (s.called w args) h =
-      standing_named ins outs w.span (found env.names w.text) (argument_senses env args) (found_named ins outs env.names w.text h) (arguments_named ins outs env args h)
+      standing_named ins outs w.span (found env.names w.text) (argument_denotations env args) (found_named ins outs env.names w.text h) (arguments_named ins outs env args h)
   exp_named ins outs env (s.pre w at) h =
       before_named ins outs at (standing_for w.span (found env.names w.text) []) (standing_named ins outs w.span (found env.names w.text) [] (found_named ins outs env.names w.text h) tt)
   exp_named ins outs env (s.paren e at) h = exp_named ins outs env e h
-  exp_named ins outs env (s.unary op e at) h = as_expression_named ins outs (exp_sense env e) (exp_named ins outs env e h)
+  exp_named ins outs env (s.unary op e at) h = as_expression_named ins outs (exp_denotation env e) (exp_named ins outs env e h)
   exp_named ins outs env (s.binary op d e at) h =
-      (as_expression_named ins outs (exp_sense env d) (exp_named ins outs env d h), as_expression_named ins outs (exp_sense env e) (exp_named ins outs env e h))
+      (as_expression_named ins outs (exp_denotation env d) (exp_named ins outs env d h), as_expression_named ins outs (exp_denotation env e) (exp_named ins outs env e h))
   exp_named ins outs env (s.choose c d e at) h = (
-    as_expression_named ins outs (exp_sense env c)
+    as_expression_named ins outs (exp_denotation env c)
         (exp_named ins outs env c h),
-    (as_expression_named ins outs (exp_sense env d) (exp_named ins outs env d h), as_expression_named ins outs (exp_sense env e) (exp_named ins outs env e h)),
+    (as_expression_named ins outs (exp_denotation env d) (exp_named ins outs env d h), as_expression_named ins outs (exp_denotation env e) (exp_named ins outs env e h)),
   )
 
-  argument_named : (ins outs : ℕ) (env : Environment Sense) (a : Argument) → AreKnownNames ins outs env.names → IsNamedSense ins outs (argument_sense env a)
+  argument_named : (ins outs : ℕ) (env : Environment Denotation) (a : Argument) → AreKnownNames ins outs env.names → IsNamedDenotation ins outs (argument_denotation env a)
   argument_named ins outs env (s.value_argument e) h = exp_named ins outs env e h
   argument_named ins outs env (s.trace_argument b at) h = braces_named ins outs env b h
 
-  arguments_named : (ins outs : ℕ) (env : Environment Sense) (args : Arguments) → AreKnownNames ins outs env.names → AreNamedSenses ins outs (argument_senses env args)
+  arguments_named : (ins outs : ℕ) (env : Environment Denotation) (args : Arguments) → AreKnownNames ins outs env.names → AreNamedDenotations ins outs (argument_denotations env args)
   arguments_named ins outs env s.no_arguments h = tt
   arguments_named ins outs env (s.argument a rest) h = (argument_named ins outs env a h, arguments_named ins outs env rest h)
 
-  braces_named : (ins outs : ℕ) (env : Environment Sense) (b : Braces) → AreKnownNames ins outs env.names → IsNamedSense ins outs (braces_sense env b)
+  braces_named : (ins outs : ℕ) (env : Environment Denotation) (b : Braces) → AreKnownNames ins outs env.names → IsNamedDenotation ins outs (braces_denotation env b)
   braces_named ins outs env (s.plain t) h = trace_named ins outs env t h
   braces_named ins outs env (s.choice lead ps) h = λ n. parts_named ins outs env ps h (behind_term n)
   braces_named ins outs env (s.priority lead ts) h = traces_named ins outs env pri (λ ins outs x y g h. (g, h)) ts h
   braces_named ins outs env (s.parallel lead ts) h = traces_named ins outs env par (λ ins outs x y g h. (g, h)) ts h
 
-  weight_named : (ins outs : ℕ) (env : Environment Sense) (a : Alternative) → AreKnownNames ins outs env.names → IsNamed ins outs (weight_of env a)
+  weight_named : (ins outs : ℕ) (env : Environment Denotation) (a : Alternative) → AreKnownNames ins outs env.names → IsNamed ins outs (weight_of env a)
   weight_named ins outs env (s.unweighted t) h = refl
-  weight_named ins outs env (s.weighted e t) h = as_expression_named ins outs (exp_sense env e) (exp_named ins outs env e h)
+  weight_named ins outs env (s.weighted e t) h = as_expression_named ins outs (exp_denotation env e) (exp_named ins outs env e h)
 
-  alternative_named : (ins outs : ℕ) (env : Environment Sense) (a : Alternative) → AreKnownNames ins outs env.names → IsNamedSense ins outs (alternative_sense env a)
+  alternative_named : (ins outs : ℕ) (env : Environment Denotation) (a : Alternative) → AreKnownNames ins outs env.names → IsNamedDenotation ins outs (alternative_denotation env a)
   alternative_named ins outs env (s.unweighted t) h = trace_named ins outs env t h
   alternative_named ins outs env (s.weighted e t) h = trace_named ins outs env t h
 
-  parts_named : (ins outs : ℕ) (env : Environment Sense) (ps : Alternatives) → AreKnownNames ins outs env.names → (n : Numbers) → AreEachNamed ins outs (parts_of env ps n).parts
+  parts_named : (ins outs : ℕ) (env : Environment Denotation) (ps : Alternatives) → AreKnownNames ins outs env.names → (n : Numbers) → AreEachNamed ins outs (parts_of env ps n).parts
   parts_named ins outs env s.no_alternatives h n = tt
   parts_named ins outs env (s.alternative a rest) h n = (
     weight_named ins outs env a
         h,
-    (as_named ins outs (alternative_sense env a) n (alternative_named ins outs env a h), parts_named ins outs env rest h (as_trace (alternative_sense env a) n).after),
+    (as_named ins outs (alternative_denotation env a) n (alternative_named ins outs env a h), parts_named ins outs env rest h (as_trace (alternative_denotation env a) n).after),
   )
 
-  traces_named : (ins outs : ℕ) (env : Environment Sense) (f : Expanded → Expanded → Expanded) → Joins f → (ts : Traces) → AreKnownNames ins outs env.names
-      → IsNamedSense ins outs (traces_sense env f ts)
+  traces_named : (ins outs : ℕ) (env : Environment Denotation) (f : Expanded → Expanded → Expanded) → Joins f → (ts : Traces) → AreKnownNames ins outs env.names
+      → IsNamedDenotation ins outs (traces_denotation env f ts)
   traces_named ins outs env f j s.no_traces h = λ n. tt
   traces_named ins outs env f j (s.one_trace t s.no_traces) h = trace_named ins outs env t h
   traces_named ins outs env f j (s.one_trace t (s.one_trace u us)) h = λ n.
-      j ins outs (as_trace (trace_sense env t) (behind_term n)).expanded (as_trace (traces_sense env f (s.one_trace u us)) (as_trace (trace_sense env t) (behind_term n)).after).expanded
-      (as_named ins outs (trace_sense env t) (behind_term n) (trace_named ins outs env t h))
-      (as_named ins outs (traces_sense env f (s.one_trace u us)) _ (traces_named ins outs env f j (s.one_trace u us) h))
+      j ins outs (as_trace (trace_denotation env t) (behind_term n)).expanded (as_trace (traces_denotation env f (s.one_trace u us)) (as_trace (trace_denotation env t) (behind_term n)).after).expanded
+      (as_named ins outs (trace_denotation env t) (behind_term n) (trace_named ins outs env t h))
+      (as_named ins outs (traces_denotation env f (s.one_trace u us)) _ (traces_named ins outs env f j (s.one_trace u us) h))
 
-  handler_named : (ins outs : ℕ) (env : Environment Sense) (h : MaybeTrace) → AreKnownNames ins outs env.names → IsNamedSense ins outs (handler_sense env h)
+  handler_named : (ins outs : ℕ) (env : Environment Denotation) (h : MaybeTrace) → AreKnownNames ins outs env.names → IsNamedDenotation ins outs (handler_denotation env h)
   handler_named ins outs env s.no_trace g = λ n. tt
   handler_named ins outs env (s.a_trace t) g = trace_named ins outs env t g
 
-  meaning_named : (ins outs : ℕ) (env : Environment Sense) (m : Meaning) → AreKnownNames ins outs env.names → IsNamedSense ins outs (meaning_sense env m)
+  meaning_named : (ins outs : ℕ) (env : Environment Denotation) (m : Meaning) → AreKnownNames ins outs env.names → IsNamedDenotation ins outs (meaning_denotation env m)
   meaning_named ins outs env (s.trace_meaning t) h = trace_named ins outs env t h
   meaning_named ins outs env (s.value_meaning e) h = exp_named ins outs env e h
 
-  macro_named : (ins outs : ℕ) (env : Environment Sense) (m : Macro) (ss : List Sense) → AreKnownNames ins outs env.names → AreNamedSenses ins outs ss → IsNamedSense ins outs (macro_sense env m ss)
+  macro_named : (ins outs : ℕ) (env : Environment Denotation) (m : Macro) (ss : List Denotation) → AreKnownNames ins outs env.names → AreNamedDenotations ins outs ss → IsNamedDenotation ins outs (macro_denotation env m ss)
   macro_named ins outs env (s.macro w ps type m) ss h g = meaning_named ins outs (with_arguments (parameter_names ps) ss env) m (bound_named ins outs (parameter_names ps) ss env g h)
 
-  trace_named : (ins outs : ℕ) (env : Environment Sense) (t : Trace) → AreKnownNames ins outs env.names → IsNamedSense ins outs (trace_sense env t)
+  trace_named : (ins outs : ℕ) (env : Environment Denotation) (t : Trace) → AreKnownNames ins outs env.names → IsNamedDenotation ins outs (trace_denotation env t)
   trace_named ins outs env (s.sequence ts) h = traces_named ins outs env seq (λ ins outs x y g h. (g, h)) ts h
   trace_named ins outs env (s.braces b at) h = braces_named ins outs env b h
   trace_named ins outs env (s.loop l t) h =
-      λ n. repeated_named ins outs (bounds_of env l) (as_trace (trace_sense env t)) (λ m. as_named ins outs (trace_sense env t) m (trace_named ins outs env t h)) n
+      λ n. repeated_named ins outs (bounds_of env l) (as_trace (trace_denotation env t)) (λ m. as_named ins outs (trace_denotation env t) m (trace_named ins outs env t h)) n
   trace_named ins outs env (s.raise w) h = λ n. raised_named ins outs (found_exception env.exceptions w.text)
   trace_named ins outs env (s.assert e t) h =
-      λ n. (as_expression_named ins outs (exp_sense env e) (exp_named ins outs env e h), as_named ins outs (trace_sense env t) (behind_term n) (trace_named ins outs env t h))
+      λ n. (as_expression_named ins outs (exp_denotation env e) (exp_named ins outs env e h), as_named ins outs (trace_denotation env t) (behind_term n) (trace_named ins outs env t h))
   trace_named ins outs env (s.exist gs t) h =
-      λ n. groups_named ins outs env gs (λ inner. as_trace (trace_sense inner t)) (λ inner g m. as_named ins outs (trace_sense inner t) m (trace_named ins outs inner t g)) h n
-  trace_named ins outs env (s.define m t) h = trace_named ins outs (with_name (macro_name m) (macro (macro_sense env m)) env) t ((λ ss g. macro_named ins outs env m ss h g), h)
+      λ n. groups_named ins outs env gs (λ inner. as_trace (trace_denotation inner t)) (λ inner g m. as_named ins outs (trace_denotation inner t) m (trace_named ins outs inner t g)) h n
+  trace_named ins outs env (s.define m t) h = trace_named ins outs (with_name (macro_name m) (macro (macro_denotation env m)) env) t ((λ ss g. macro_named ins outs env m ss h g), h)
   trace_named ins outs env (s.exceptions ws t) h =
-      λ n. as_named ins outs (trace_sense (with_exceptions n.term ws env) t) n (trace_named ins outs (with_exceptions n.term ws env) t (exceptions_named ins outs n.term ws env h))
+      λ n. as_named ins outs (trace_denotation (with_exceptions n.term ws env) t) n (trace_named ins outs (with_exceptions n.term ws env) t (exceptions_named ins outs n.term ws env h))
   trace_named ins outs env (s.catch w t h) g = λ n. caught_named ins outs env w t h (trace_named ins outs env t g) (handler_named ins outs env h g) n
   trace_named ins outs env (s.trap w t h) g =
       λ n. caught_named ins outs (with_exceptions n.term (w ∷ []) env) w t h (trace_named ins outs (with_exceptions n.term (w ∷ []) env) t g)
       (handler_named ins outs (with_exceptions n.term (w ∷ []) env) h g) n
   trace_named ins outs env (s.try t h) g =
-      λ n. (as_named ins outs (trace_sense env t) (behind_term n) (trace_named ins outs env t g), as_named ins outs (handler_sense env h) _ (handler_named ins outs env h g))
+      λ n. (as_named ins outs (trace_denotation env t) (behind_term n) (trace_named ins outs env t g), as_named ins outs (handler_denotation env h) _ (handler_named ins outs env h g))
   trace_named ins outs env (s.value e) h = exp_named ins outs env e h
 
 -- Variables.
@@ -312,27 +312,27 @@ room_first ins outs r i a b h = λ k low high. h k low (omega arith)
 room_second : (ins outs : ℕ) (r : Role) (i a b : ℕ) → HasRoom ins outs r i (a + b) → HasRoom ins outs r (i + a) b
 room_second ins outs r i a b h = λ k low high. h k (omega arith) (omega arith)
 
-variables_named : (ins outs : ℕ) (r : Role) (i : ℕ) (ws : List Word) (env : Environment Sense) → HasRoom ins outs r i (length ws) → AreKnownNames ins outs env.names
+variables_named : (ins outs : ℕ) (r : Role) (i : ℕ) (ws : List Word) (env : Environment Denotation) → HasRoom ins outs r i (length ws) → AreKnownNames ins outs env.names
     → AreKnownNames ins outs (with_variables r i ws env).names
 variables_named ins outs r i [] env room h = h
 variables_named ins outs r i (w ∷ ws) env room h =
     variables_named ins outs r (suc i) ws (with_name w.text (variable r i) env) (room_next ins outs r i (length ws) room) (room_here ins outs r i (length ws) room, h)
 
-group_known : (ins outs : ℕ) (r : Role) (i : ℕ) (g : Grouping) (env : Environment Sense) → HasRoom ins outs r i (length (group_names g)) → AreKnownNames ins outs env.names
+group_known : (ins outs : ℕ) (r : Role) (i : ℕ) (g : Grouping) (env : Environment Denotation) → HasRoom ins outs r i (length (group_names g)) → AreKnownNames ins outs env.names
     → AreKnownNames ins outs (with_group r i g env).names
 group_known ins outs r i (s.grouping ws type ref range first) env room h =
     variables_named ins outs r i ws env (subst (HasRoom ins outs r i) (length-map ws (λ w. w.text)) room) h
 
-group_many : (r : Role) (env : Environment Sense) (g : Grouping) → length (group_variables r env g) ≡ length (group_names g)
+group_many : (r : Role) (env : Environment Denotation) (g : Grouping) → length (group_variables r env g) ≡ length (group_names g)
 group_many r env (s.grouping ws type ref range first) = length-map ws (declared_as r env type range (first_of env first)) ∙ sym (length-map ws (λ w. w.text))
 
-groups_many : (r : Role) (i : ℕ) (env : Environment Sense) (g : Grouping) (gs : Groupings)
+groups_many : (r : Role) (i : ℕ) (env : Environment Denotation) (g : Grouping) (gs : Groupings)
     → length (groups_variables r i env (s.one_group g gs)) ≡ length (group_names g) + length (groups_variables r (i + length (group_names g)) (with_group r i g env) gs)
 groups_many r i env g gs =
     let rest = groups_variables r (i + length (group_names g)) (with_group r i g env) gs in
     length-append (group_variables r env g) rest ∙ ap (λ n. n + length rest) (group_many r env g)
 
-groups_known : (ins outs : ℕ) (r : Role) (i : ℕ) (gs : Groupings) (env : Environment Sense) → HasRoom ins outs r i (length (groups_variables r i env gs)) → AreKnownNames ins outs env.names
+groups_known : (ins outs : ℕ) (r : Role) (i : ℕ) (gs : Groupings) (env : Environment Denotation) → HasRoom ins outs r i (length (groups_variables r i env gs)) → AreKnownNames ins outs env.names
     → AreKnownNames ins outs (with_groups r i gs env).names
 groups_known ins outs r i s.no_groups env room h = h
 groups_known ins outs r i (s.one_group g gs) env room h =
@@ -349,10 +349,10 @@ domains_both : (ds es : List Declared) → HaveDomains ds → HaveDomains es →
 domains_both [] es g h = h
 domains_both (d ∷ ds) es g h = (g.0, domains_both ds es g.1 h)
 
-group_domains : (r : Role) (env : Environment Sense) (g : Grouping) → HaveDomains (group_variables r env g)
+group_domains : (r : Role) (env : Environment Denotation) (g : Grouping) → HaveDomains (group_variables r env g)
 group_domains r env (s.grouping ws type ref range first) = words_domains (declared_as r env type range (first_of env first)) (λ w. range_domain env.decimals r (kind_of type) range) ws
 
-groups_domains : (r : Role) (i : ℕ) (env : Environment Sense) (gs : Groupings) → HaveDomains (groups_variables r i env gs)
+groups_domains : (r : Role) (i : ℕ) (env : Environment Denotation) (gs : Groupings) → HaveDomains (groups_variables r i env gs)
 groups_domains r i env s.no_groups = tt
 groups_domains r i env (s.one_group g gs) = domains_both (group_variables r env g) _ (group_domains r env g) (groups_domains r (i + length (group_names g)) (with_group r i g env) gs)
 
@@ -365,10 +365,10 @@ all_outputs ins outs = λ k low high. omega arith
 -- Nodes.
 
 -- names that stand for no variable of a node, whatever node it is
-abbrev AreGlobal : Environment Sense → Type 0
+abbrev AreGlobal : Environment Denotation → Type 0
 AreGlobal env = (ins outs : ℕ) → AreKnownNames ins outs env.names
 
-node_named : (env : Environment Sense) (w : Word) (ins outs : Groupings) (t : Trace) → AreGlobal env → NamesWhatIsThere (node_of env w ins outs t)
+node_named : (env : Environment Denotation) (w : Word) (ins outs : Groupings) (t : Trace) → AreGlobal env → NamesWhatIsThere (node_of env w ins outs t)
 node_named env w ins outs t h =
     let inner = with_groups role.Input 0 ins env in
     let a = length (groups_variables role.Input 0 env ins) in
@@ -378,19 +378,19 @@ node_named env w ins outs t h =
     record {
       inputs = groups_domains role.Input 0 env ins;
       outputs = groups_domains role.Output 0 inner outs;
-      body = as_named a b (trace_sense (with_groups role.Output 0 outs inner) t) (record { term = 0; local = 0; counter = 0 }) (trace_named a b (with_groups role.Output 0 outs inner) t known);
+      body = as_named a b (trace_denotation (with_groups role.Output 0 outs inner) t) (record { term = 0; local = 0; counter = 0 }) (trace_named a b (with_groups role.Output 0 outs inner) t known);
     }
 
 one_holds : (P : Node → Type 0) (b : Bool) (one node : Node) (other : Option Node) → P one → (other ≡ Some node → P node) → (if b then Some one else other) ≡ Some node → P node
 one_holds P true one node other p q e = let same : one ≡ node = cc in subst P same p
 one_holds P false one node other p q e = q e
 
-named_among : (env : Environment Sense) (wanted : Option (List ℕ)) (ds : List Declaration) (node : Node) → AreGlobal env → node_among env wanted ds ≡ Some node → NamesWhatIsThere node
+named_among : (env : Environment Denotation) (wanted : Option (List ℕ)) (ds : List Declaration) (node : Node) → AreGlobal env → node_among env wanted ds ≡ Some node → NamesWhatIsThere node
 named_among env wanted [] node h e = absurd (cc)
 named_among env wanted (s.node w ins outs t ∷ ds) node h e =
     one_holds NamesWhatIsThere (is_wanted wanted w) (node_of env w ins outs t) node (node_among env wanted ds) (node_named env w ins outs t h) (named_among env wanted ds node h) e
 named_among env wanted (s.macro_declaration m ∷ ds) node h e =
-    named_among (with_name (macro_name m) (macro (macro_sense env m)) env) wanted ds node (λ ins outs. ((λ ss g. macro_named ins outs env m ss (h ins outs) g), h ins outs)) e
+    named_among (with_name (macro_name m) (macro (macro_denotation env m)) env) wanted ds node (λ ins outs. ((λ ss g. macro_named ins outs env m ss (h ins outs) g), h ins outs)) e
 named_among env wanted (s.exception_declaration ws ∷ ds) node h e = named_among (with_exceptions 0 ws env) wanted ds node (λ ins outs. exceptions_named ins outs 0 ws env (h ins outs)) e
 
 pub names_are_there : NamesAreThere

@@ -8,7 +8,7 @@ use Rattle.lt_formula.specs.declared.role.Role.{Role}
 use Rattle.lt_formula.specs.declared.role.Role.TheVariants as role
 use Rattle.lt_macros.specs.Expanded.{Expanded, eps, dead, con, raise, seq, loop, count, any, pri, par, assert, exist, catch, try, Parts, no_part, part, Node}
 use Rattle.lt_macros.specs.Environment.{macro, Environment, at_start, with_name, with_exceptions}
-use Rattle.lt_macros.specs.Senses.{Sense, group_names, macro_name, macro_sense}
+use Rattle.lt_macros.specs.Denotation.{Denotation, group_names, macro_name, macro_denotation}
 use Rattle.lt_macros.specs.Expansion.{with_group, with_groups, node_of, is_wanted, node_among}
 use Rattle.lt_macros.specs.Numbering.{local_numbers, local_numbers_in, counter_numbers, counter_numbers_in, Follow, IsNumbered, PartsAreNumbered}
 use Rattle.lt_macros.specs.Preorder.{Item, items, items_in, local_at, counter_at}
@@ -73,30 +73,30 @@ mutual
 
 -- Names of variables.
 
-group_sound : (r : Role) (i : ℕ) (g : Grouping) (env : Environment Sense) → AreSoundNames env.names → AreSoundNames (with_group r i g env).names
+group_sound : (r : Role) (i : ℕ) (g : Grouping) (env : Environment Denotation) → AreSoundNames env.names → AreSoundNames (with_group r i g env).names
 group_sound r i (s.grouping ws type ref range first) env h = variables_sound r i ws env h
 
-groups_sound : (r : Role) (i : ℕ) (gs : Groupings) (env : Environment Sense) → AreSoundNames env.names → AreSoundNames (with_groups r i gs env).names
+groups_sound : (r : Role) (i : ℕ) (gs : Groupings) (env : Environment Denotation) → AreSoundNames env.names → AreSoundNames (with_groups r i gs env).names
 groups_sound r i s.no_groups env h = h
 groups_sound r i (s.one_group g gs) env h = groups_sound r (i + length (group_names g)) gs (with_group r i g env) (group_sound r i g env h)
 
-input_group_closed : (i : ℕ) (g : Grouping) (env : Environment Sense) → AreClosedNames [] env.names → AreClosedNames [] (with_group role.Input i g env).names
+input_group_closed : (i : ℕ) (g : Grouping) (env : Environment Denotation) → AreClosedNames [] env.names → AreClosedNames [] (with_group role.Input i g env).names
 input_group_closed i (s.grouping ws type ref range first) env h = inputs_closed [] i ws env h
 
-inputs_groups_closed : (i : ℕ) (gs : Groupings) (env : Environment Sense) → AreClosedNames [] env.names → AreClosedNames [] (with_groups role.Input i gs env).names
+inputs_groups_closed : (i : ℕ) (gs : Groupings) (env : Environment Denotation) → AreClosedNames [] env.names → AreClosedNames [] (with_groups role.Input i gs env).names
 inputs_groups_closed i s.no_groups env h = h
 inputs_groups_closed i (s.one_group g gs) env h = inputs_groups_closed (i + length (group_names g)) gs (with_group role.Input i g env) (input_group_closed i g env h)
 
-output_group_closed : (i : ℕ) (g : Grouping) (env : Environment Sense) → AreClosedNames [] env.names → AreClosedNames [] (with_group role.Output i g env).names
+output_group_closed : (i : ℕ) (g : Grouping) (env : Environment Denotation) → AreClosedNames [] env.names → AreClosedNames [] (with_group role.Output i g env).names
 output_group_closed i (s.grouping ws type ref range first) env h = outputs_closed [] i ws env h
 
-outputs_groups_closed : (i : ℕ) (gs : Groupings) (env : Environment Sense) → AreClosedNames [] env.names → AreClosedNames [] (with_groups role.Output i gs env).names
+outputs_groups_closed : (i : ℕ) (gs : Groupings) (env : Environment Denotation) → AreClosedNames [] env.names → AreClosedNames [] (with_groups role.Output i gs env).names
 outputs_groups_closed i s.no_groups env h = h
 outputs_groups_closed i (s.one_group g gs) env h = outputs_groups_closed (i + length (group_names g)) gs (with_group role.Output i g env) (output_group_closed i g env h)
 
 -- Nodes.
 
-node_numbered : (env : Environment Sense) (w : Word) (ins outs : Groupings) (t : Trace) → AreSoundNames env.names → IsNumbered (node_of env w ins outs t)
+node_numbered : (env : Environment Denotation) (w : Word) (ins outs : Groupings) (t : Trace) → AreSoundNames env.names → IsNumbered (node_of env w ins outs t)
 node_numbered env w ins outs t h =
     let inner = with_groups role.Output 0 outs (with_groups role.Input 0 ins env) in
     let u = trace_uses inner t (record { term = 0; local = 0; counter = 0 }) (groups_sound role.Output 0 outs (with_groups role.Input 0 ins env) (groups_sound role.Input 0 ins env h)) in
@@ -106,7 +106,7 @@ node_numbered env w ins outs t h =
       counters = all_follow (counter_numbers body) _ _ u.counters (counters_many body);
     }
 
-node_inside : (env : Environment Sense) (w : Word) (ins outs : Groupings) (t : Trace) → AreClosedNames [] env.names → AreInside [] (node_of env w ins outs t).body
+node_inside : (env : Environment Denotation) (w : Word) (ins outs : Groupings) (t : Trace) → AreClosedNames [] env.names → AreInside [] (node_of env w ins outs t).body
 node_inside env w ins outs t h =
     trace_inside (with_groups role.Output 0 outs (with_groups role.Input 0 ins env)) t (record { term = 0; local = 0; counter = 0 }) (outputs_groups_closed 0 outs (with_groups role.Input 0 ins env) (inputs_groups_closed 0 ins env h))
 
@@ -115,16 +115,16 @@ one_holds : (P : Node → Type 0) (b : Bool) (one node : Node) (other : Option N
 one_holds P true one node other p q e = let same : one ≡ node = cc in subst P same p
 one_holds P false one node other p q e = q e
 
-numbered_among : (env : Environment Sense) (wanted : Option (List ℕ)) (ds : List Declaration) (node : Node) → AreSoundNames env.names → node_among env wanted ds ≡ Some node → IsNumbered node
+numbered_among : (env : Environment Denotation) (wanted : Option (List ℕ)) (ds : List Declaration) (node : Node) → AreSoundNames env.names → node_among env wanted ds ≡ Some node → IsNumbered node
 numbered_among env wanted [] node h e = absurd (cc)
 numbered_among env wanted (s.node w ins outs t ∷ ds) node h e = one_holds IsNumbered (is_wanted wanted w) (node_of env w ins outs t) node (node_among env wanted ds) (node_numbered env w ins outs t h) (numbered_among env wanted ds node h) e
-numbered_among env wanted (s.macro_declaration m ∷ ds) node h e = numbered_among (with_name (macro_name m) (macro (macro_sense env m)) env) wanted ds node ((λ ss g. macro_sound env m ss h g), h) e
+numbered_among env wanted (s.macro_declaration m ∷ ds) node h e = numbered_among (with_name (macro_name m) (macro (macro_denotation env m)) env) wanted ds node ((λ ss g. macro_sound env m ss h g), h) e
 numbered_among env wanted (s.exception_declaration ws ∷ ds) node h e = numbered_among (with_exceptions 0 ws env) wanted ds node (exceptions_sound 0 ws env h) e
 
-inside_among : (env : Environment Sense) (wanted : Option (List ℕ)) (ds : List Declaration) (node : Node) → AreClosedNames [] env.names → node_among env wanted ds ≡ Some node → AreInside [] node.body
+inside_among : (env : Environment Denotation) (wanted : Option (List ℕ)) (ds : List Declaration) (node : Node) → AreClosedNames [] env.names → node_among env wanted ds ≡ Some node → AreInside [] node.body
 inside_among env wanted [] node h e = absurd (cc)
 inside_among env wanted (s.node w ins outs t ∷ ds) node h e = one_holds (λ n. AreInside [] n.body) (is_wanted wanted w) (node_of env w ins outs t) node (node_among env wanted ds) (node_inside env w ins outs t h) (inside_among env wanted ds node h) e
-inside_among env wanted (s.macro_declaration m ∷ ds) node h e = inside_among (with_name (macro_name m) (macro (macro_sense env m)) env) wanted ds node ((λ more a ss g. macro_closed more env m ss (names_more [] more env.names a h) g), h) e
+inside_among env wanted (s.macro_declaration m ∷ ds) node h e = inside_among (with_name (macro_name m) (macro (macro_denotation env m)) env) wanted ds node ((λ more a ss g. macro_closed more env m ss (names_more [] more env.names a h) g), h) e
 inside_among env wanted (s.exception_declaration ws ∷ ds) node h e = inside_among (with_exceptions 0 ws env) wanted ds node (exceptions_closed [] 0 ws env h) e
 
 pub parts_are_numbered : PartsAreNumbered

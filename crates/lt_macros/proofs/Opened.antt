@@ -15,7 +15,7 @@ use Rattle.lt_macros.specs.Environment.{Environment}
 use Rattle.lt_macros.specs.Expanded.{Declared, Node}
 use Rattle.lt_macros.specs.Expansion.{group_variables, groups_variables, node_of, with_group, with_groups}
 use Rattle.lt_macros.specs.Limits.{passed_limits}
-use Rattle.lt_macros.specs.Senses.{Numbers, Numbered, Sense, as_trace, declared_as, first_of, group_names, trace_sense}
+use Rattle.lt_macros.specs.Denotation.{Numbers, Numbered, Denotation, as_trace, declared_as, first_of, group_names, trace_denotation}
 use Rattle.lt_macros.specs.inner.Counting.{AreWithin, IsTallied, pending_figure, sum_of, waiting}
 use Rattle.lt_macros.specs.inner.Figures.{Figure, expanded_figure, first_figure, limit_by, node_figure, variables_figure}
 use Rattle.lt_macros.specs.inner.Numbers.{numbers_view}
@@ -26,8 +26,8 @@ use Rattle.lt_macros.specs.declared.counting.Count.{Count}
 use Rattle.lt_macros.specs.declared.counting.Left.TheVariants.{Trace as Trace'}
 use Rattle.lt_macros.specs.declared.counting.Pending.{Pending}
 use Rattle.lt_macros.specs.declared.scope.Entry.{Entry}
-use Rattle.lt_macros.specs.declared.scope.Source.{Source}
-use Rattle.lt_macros.specs.declared.scope.Source.TheVariants as source
+use Rattle.lt_macros.specs.declared.scope.Phrase.{Phrase as CodePhrase}
+use Rattle.lt_macros.specs.declared.scope.Phrase.TheVariants as code_phrase
 use Rattle.lt_macros.specs.declared.tally.Tally.{Tally}
 use Rattle.lt_macros.proofs.Counted.{first_passed}
 use Rattle.lt_macros.proofs.Grouped.{groups_from, next_place}
@@ -44,7 +44,7 @@ variables_both f [] ys = omega arith
 variables_both f (x ∷ xs) ys = omega (arith, variables_both f xs ys)
 
 -- one more group is put
-pub group_put : (f : Figure) (role : Role) (env inner : Environment Sense) (n next : ℕ) (groups : List Group) (place : ℕ) (g : Group) (before after all : ℕ) → place < length groups → g ≡ get_or groups place g
+pub group_put : (f : Figure) (role : Role) (env inner : Environment Denotation) (n next : ℕ) (groups : List Group) (place : ℕ) (g : Group) (before after all : ℕ) → place < length groups → g ≡ get_or groups place g
     → after ≡ before + variables_figure f (group_variables role env (group_of g)) → inner ≡ with_group role n (group_of g) env → next ≡ n + length g.names.items.items
     → before + variables_figure f (groups_variables role n env (groups_of (map group_of (drop place groups)))) ≡ all
     → after + variables_figure f (groups_variables role next inner (groups_of (map group_of (drop (place + 1) groups)))) ≡ all
@@ -67,11 +67,11 @@ mapped h [] = refl
 mapped h (x ∷ xs) = ap suc (mapped h xs)
 
 -- as many variables as names
-group_length : (role : Role) (env : Environment Sense) (g : Grouping) → length (group_variables role env g) ≡ length (group_names g)
+group_length : (role : Role) (env : Environment Denotation) (g : Grouping) → length (group_variables role env g) ≡ length (group_names g)
 group_length role env (s.grouping ws type ref range first) = mapped (declared_as role env type range (first_of env first)) ws ∙ sym (mapped (λ (w : Word). w.text) ws)
 
 -- how many there are depends neither on what is visible nor on the first place
-pub as_many : (role : Role) (n m : ℕ) (env other : Environment Sense) (gs : Groupings) → length (groups_variables role n env gs) ≡ length (groups_variables role m other gs)
+pub as_many : (role : Role) (n m : ℕ) (env other : Environment Denotation) (gs : Groupings) → length (groups_variables role n env gs) ≡ length (groups_variables role m other gs)
 as_many role n m env other s.no_groups = refl
 as_many role n m env other (s.one_group g gs) =
     let k = length (group_names g) in
@@ -85,7 +85,7 @@ as_many role n m env other (s.one_group g gs) =
     )
 
 -- one more group is counted
-pub group_counted : (role : Role) (n m : ℕ) (env other : Environment Sense) (next after all : ℕ) (groups : List Group) (place : ℕ) (g : Group) → place < length groups → g ≡ get_or groups place g → after ≡ next + length g.names.items.items
+pub group_counted : (role : Role) (n m : ℕ) (env other : Environment Denotation) (next after all : ℕ) (groups : List Group) (place : ℕ) (g : Group) → place < length groups → g ≡ get_or groups place g → after ≡ next + length g.names.items.items
     → next + length (groups_variables role n env (groups_of (map group_of (drop place groups)))) ≡ all
     → after + length (groups_variables role m other (groups_of (map group_of (drop (place + 1) groups)))) ≡ all
 group_counted role n m env other next after all groups place g h is moved so_far =
@@ -102,13 +102,13 @@ group_counted role n m env other next after all groups place g h is moved so_far
     )
 
 -- a node's trace, and behind it the first values of its variables, are all that is counted of it
-pub node_counted : (f : Figure) (env inside here : Environment Sense) (w : Word) (ins outs : Groupings) (t : Trace) (start inputs behind : ℕ)
+pub node_counted : (f : Figure) (env inside here : Environment Denotation) (w : Word) (ins outs : Groupings) (t : Trace) (start inputs behind : ℕ)
     → inside ≡ with_groups Input 0 ins env → here ≡ with_groups Output 0 outs inside
     → start ≡ 0 → inputs ≡ start + variables_figure f (groups_variables Input 0 env ins) → behind ≡ inputs + variables_figure f (groups_variables Output 0 inside outs)
-    → expanded_figure f 1 (as_trace (trace_sense here t) (record { term = 0; local = 0; counter = 0 })).expanded + behind ≡ node_figure (node_of env w ins outs t) f
+    → expanded_figure f 1 (as_trace (trace_denotation here t) (record { term = 0; local = 0; counter = 0 })).expanded + behind ≡ node_figure (node_of env w ins outs t) f
 node_counted f env inside here w ins outs t start inputs behind inside_is here_is start_is inputs_are behind_is =
     let node = node_of env w ins outs t in
-    let read = λ (e : Environment Sense). expanded_figure f 1 (as_trace (trace_sense e t) (record { term = 0; local = 0; counter = 0 })).expanded in
+    let read = λ (e : Environment Denotation). expanded_figure f 1 (as_trace (trace_denotation e t) (record { term = 0; local = 0; counter = 0 })).expanded in
     let body : read here ≡ expanded_figure f 1 node.body = ap read (here_is ∙ ap (with_groups Output 0 outs) inside_is) in
     let outputs : variables_figure f (groups_variables Output 0 inside outs) ≡ variables_figure f node.outputs = ap (λ e. variables_figure f (groups_variables Output 0 e outs)) inside_is in
     let inputs_all : variables_figure f (groups_variables Input 0 env ins) ≡ variables_figure f node.inputs = refl in
@@ -124,11 +124,11 @@ first_limit t figure node inputs outputs is same ins outs =
 
 -- a node's trace is put before what is left
 pub trace_put : (decimals : ℕ) (rows : List Entry) (f : Figure) (k len : ℕ) (t : Bor TraceExpr) (n : Numbers) (before after : Count)
-    → waiting after ≡ record { left = Trace' (source.Trace t); at = record { environment = k; depth = 1; len = len } } ∷ waiting before → after.tally ≡ before.tally → numbers_view after.numbers ≡ n
+    → waiting after ≡ record { left = Trace' (code_phrase.Trace t); at = record { environment = k; depth = 1; len = len } } ∷ waiting before → after.tally ≡ before.tally → numbers_view after.numbers ≡ n
     → sum_of decimals rows f after
-    ≡ expanded_figure f 1 (as_trace (trace_sense (environment (meant decimals) rows k) (trace_view t.now)) n).expanded + sum_from decimals rows f before (as_trace (trace_sense (environment (meant decimals) rows k) (trace_view t.now)) n).after
+    ≡ expanded_figure f 1 (as_trace (trace_denotation (environment (meant decimals) rows k) (trace_view t.now)) n).expanded + sum_from decimals rows f before (as_trace (trace_denotation (environment (meant decimals) rows k) (trace_view t.now)) n).after
 trace_put decimals rows f k len t n before after left tally numbers =
-    let first : Numbered = as_trace (trace_sense (environment (meant decimals) rows k) (trace_view t.now)) n in
+    let first : Numbered = as_trace (trace_denotation (environment (meant decimals) rows k) (trace_view t.now)) n in
     let here : pending_figure decimals rows f (waiting after) (numbers_view after.numbers) ≡ expanded_figure f 1 first.expanded + pending_figure decimals rows f (waiting before) first.after = λ i. pending_figure decimals rows f (left i) (numbers i) in
     omega (arith, here, ap (λ (t : Tally). counted t f) tally)
 
@@ -141,7 +141,7 @@ pub nothing_left : (base : ℕ) (items : List Pending) → items ≡ [] → AreW
 nothing_left base items is = subst (λ ps. AreWithin base base (reverse ps)) (sym is) (omega arith)
 
 -- a node's trace is within what there is when it is put
-pub trace_within : (base count k len : ℕ) (t : Source) (before after : List Pending) → after ≡ record { left = Trace' t; at = record { environment = k; depth = 1; len = len } } ∷ before → len ≡ count → k ≤ count → AreWithin base count before
+pub trace_within : (base count k len : ℕ) (t : CodePhrase) (before after : List Pending) → after ≡ record { left = Trace' t; at = record { environment = k; depth = 1; len = len } } ∷ before → len ≡ count → k ≤ count → AreWithin base count before
     → AreWithin base count after
 trace_within base count k len t before after is n h w =
     subst (AreWithin base count) (sym is) (omega (arith, n, h), (tt, (omega (arith, n), subst (λ m. AreWithin base m before) (sym n) w)))

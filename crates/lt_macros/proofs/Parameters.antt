@@ -9,8 +9,8 @@ use Rattle.lt_ast.specs.View.{groupings, macro as macro_view, meaning, parameter
 use Rattle.lt_ast.specs.declared.group.Groups.{Groups, out-Groups}
 use Rattle.lt_ast.specs.declared.trace.MacroDecl.{MacroDecl, MacroDecl', out-MacroDecl, view-MacroDecl-params, Held-MacroDecl-params, MacroDecl-params-None', MacroDecl-params-Some'}
 use Rattle.lt_ast.proofs.Public.{groups_list}
-use Rattle.lt_macros.specs.Senses.{groups_names}
-use Rattle.lt_macros.specs.inner.Binding.{parameters_view}
+use Rattle.lt_macros.specs.Denotation.{groups_names}
+use Rattle.lt_macros.specs.inner.Parameters.{parameters_view}
 use denote.Hole.Carrier.{out}
 
 -- the next one

@@ -11,15 +11,15 @@ use Rattle.lt_ast.specs.inner.Lists.{arguments_of}
 use Rattle.lt_ast.specs.View.{word, exp, named_exp, argument}
 use Rattle.lt_ast.proofs.Public.{arguments_list}
 use Rattle.lt_macros.specs.Environment.{Environment, found}
-use Rattle.lt_macros.specs.Senses.{Sense, standing_for, argument_sense, argument_senses}
+use Rattle.lt_macros.specs.Denotation.{Denotation, standing_for, argument_denotation, argument_denotations}
 use Rattle.lt_macros.specs.inner.Phrase.{value}
 use Rattle.lt_macros.specs.inner.Work.{used, argument_work, argument_works}
 use Rattle.lt_macros.specs.inner.Size.{argument_size, arguments_size}
 use Rattle.lt_macros.specs.inner.Uses.{IsUse, given}
 
-senses_same : (env : Environment Sense) (args : List Argument) → argument_senses env (arguments_of args) ≡ map (λ a. argument_sense env a) args
-senses_same env [] = refl
-senses_same env (a ∷ rest) = ap (λ ss. argument_sense env a ∷ ss) (senses_same env rest)
+denotations_same : (env : Environment Denotation) (args : List Argument) → argument_denotations env (arguments_of args) ≡ map (λ a. argument_denotation env a) args
+denotations_same env [] = refl
+denotations_same env (a ∷ rest) = ap (λ ss. argument_denotation env a ∷ ss) (denotations_same env rest)
 
 works_same : (env : Environment ℕ) (args : List Argument) → argument_works env (arguments_of args) ≡ map (λ a. argument_work env a) args
 works_same env [] = refl
@@ -30,12 +30,12 @@ sizes_same [] = refl
 sizes_same (a ∷ rest) = omega (arith, sizes_same rest, sum_by-cons argument_size a rest)
 
 pub named_use : (n : Name) (o : Option Args) → IsUse (value (named_exp n (back-Expr-Named-1 o))) (word n) (map argument (given o))
-named_use n None = record { sense = λ env. refl; work = λ env. omega arith; size = omega arith }
+named_use n None = record { denotation = λ env. refl; work = λ env. omega arith; size = omega arith }
 named_use n (Some args) =
     let row = arguments_list args.items in
     let list = map argument args.items.items in
     record {
-      sense = λ env. ap (λ r. standing_for (word n).span (found env.names (word n).text) (argument_senses env r)) row ∙ ap (standing_for (word n).span (found env.names (word n).text)) (senses_same env list);
+      denotation = λ env. ap (λ r. standing_for (word n).span (found env.names (word n).text) (argument_denotations env r)) row ∙ ap (standing_for (word n).span (found env.names (word n).text)) (denotations_same env list);
       work = λ env. omega (arith, ap (λ r. used (found env.names (word n).text) (argument_works env r)) row ∙ ap (used (found env.names (word n).text)) (works_same env list));
       size = omega (arith, ap arguments_size row ∙ sizes_same list);
     }

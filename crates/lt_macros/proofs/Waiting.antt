@@ -16,8 +16,8 @@ use Rattle.lt_ast.proofs.Public.{alternatives_list, groups_list}
 use Rattle.lt_macros.specs.Environment.{Environment, variable, with_name}
 use Rattle.lt_macros.specs.Expanded.{Expanded}
 use Rattle.lt_macros.specs.Nodes.{parts_count}
-use Rattle.lt_macros.specs.Senses.{Numbers, Numbered, Sense, alternative_sense, as_expression, as_trace, behind_local, behind_term, first_of, in_locals, parts_of, trace_sense, traces_sense, weight_of}
-use Rattle.lt_macros.specs.inner.Counting.{AreWithin, IsLeftWithin, IsTallied, group_declares, groups_trace, left_then, locals_trace, parts_then, pending_figure, seen_then, sense_at, trace_then}
+use Rattle.lt_macros.specs.Denotation.{Numbers, Numbered, Denotation, alternative_denotation, as_expression, as_trace, behind_local, behind_term, first_of, in_locals, parts_of, trace_denotation, traces_denotation, weight_of}
+use Rattle.lt_macros.specs.inner.Counting.{AreWithin, IsLeftWithin, IsTallied, group_declares, groups_trace, left_then, locals_trace, parts_then, pending_figure, seen_then, denotation_at, trace_then}
 use Rattle.lt_macros.specs.inner.Figures.{Figure, nodes, deep_terms, deep_expressions, wide_choices, locals, expanded_figure, expression_figure, expression_weight, first_figure, limit_by, local_weight, term_weight}
 use Rattle.lt_macros.specs.inner.Seen.{Seen}
 use Rattle.lt_macros.specs.inner.Tallies.{counted}
@@ -26,14 +26,14 @@ use Rattle.lt_macros.specs.Limits.{most_nodes}
 use Rattle.lt_macros.specs.declared.tally.Tally.{Tally}
 use Rattle.lt_macros.specs.declared.limit.Limit.TheVariants.{Nodes, Depth, Children, Variables}
 use Rattle.lt_formula.specs.declared.role.Role.TheVariants as role
-use Rattle.lt_macros.specs.inner.Heads.{AddsTo, IsWithin, head_reads}
+use Rattle.lt_macros.specs.inner.HeadNormalForm.{AddsTo, IsWithin, form_reads}
 use Rattle.lt_macros.specs.inner.Phrase.{joined_by}
 use Rattle.lt_macros.specs.declared.scope.Join.{Join}
 use Rattle.lt_macros.specs.declared.scope.Join.TheVariants.{Seq, Pri, Par}
-use Rattle.lt_macros.specs.declared.scope.Source.TheVariants as source
-use Rattle.lt_macros.specs.declared.heads.Head.{Head}
-use Rattle.lt_macros.specs.declared.heads.Head.TheVariants.{Meaningless, Variable, Previous, Number, Flag, Unary, Binary, If, Nothing, Joined, Loop, Choice, Raise, Assert, Exist, Catch, Try}
-use Rattle.lt_macros.specs.inner.Reading.{environment, meant, source_view}
+use Rattle.lt_macros.specs.declared.scope.Phrase.TheVariants as code_phrase
+use Rattle.lt_macros.specs.declared.head_normal_form.HeadNormalForm.{HeadNormalForm}
+use Rattle.lt_macros.specs.declared.head_normal_form.HeadNormalForm.TheVariants.{Meaningless, Variable, Previous, Number, Flag, Unary, Binary, If, Nothing, Joined, Loop, Choice, Raise, Assert, Exist, Catch, Try}
+use Rattle.lt_macros.specs.inner.Reading.{environment, meant, phrase_view}
 use Rattle.lt_macros.specs.declared.scope.Entry.{Entry}
 use Rattle.lt_macros.specs.declared.counting.Locals.{Locals}
 use Rattle.lt_macros.specs.declared.counting.Left.{Left}
@@ -48,21 +48,21 @@ turned ps p = reverse-append ps (p ∷ [])
 -- EXPRESSIONS
 
 -- whether there are expressions in an expression
-abbrev pub has_parts : Head → Bool
+abbrev pub has_parts : HeadNormalForm → Bool
 has_parts (Unary op e at k) = true
 has_parts (Binary op d e at k) = true
 has_parts (If c d e at k) = true
 has_parts other = false
 
 -- traces that are joined are no expression
-joined_alone : (env : Environment Sense) (g : Expanded → Expanded → Expanded) (f : Figure) (depth : ℕ) (t : Trace) (us : List TraceExpr) → 0 < length us
-    → expression_figure f depth (as_expression (traces_sense env g (s.one_trace t (traces_of (map trace_view us))))) ≡ expression_weight f depth
+joined_alone : (env : Environment Denotation) (g : Expanded → Expanded → Expanded) (f : Figure) (depth : ℕ) (t : Trace) (us : List TraceExpr) → 0 < length us
+    → expression_figure f depth (as_expression (traces_denotation env g (s.one_trace t (traces_of (map trace_view us))))) ≡ expression_weight f depth
 joined_alone env g f depth t [] h = absurd (omega (arith, h))
 joined_alone env g f depth t (u ∷ us) h = refl
 
 -- an expression without others in it is one node
-pub alone_figure : (decimals : ℕ) (rows : List Entry) (f : Figure) (depth len : ℕ) (head : Head) → IsWithin len head → has_parts head ≡ false
-    → expression_figure f depth (as_expression (head_reads (meant decimals) rows head)) ≡ expression_weight f depth
+pub alone_figure : (decimals : ℕ) (rows : List Entry) (f : Figure) (depth len : ℕ) (form : HeadNormalForm) → IsWithin len form → has_parts form ≡ false
+    → expression_figure f depth (as_expression (form_reads (meant decimals) rows form)) ≡ expression_weight f depth
 alone_figure decimals rows f depth len (Unary op e at k) w h = absurd (cc)
 alone_figure decimals rows f depth len (Binary op d e at k) w h = absurd (cc)
 alone_figure decimals rows f depth len (If c d e at k) w h = absurd (cc)
@@ -84,25 +84,25 @@ alone_figure decimals rows f depth len (Try t h' k) w h = refl
 -- TRACES
 
 -- as many alternatives stand in the tree as in the text
-pub counted_parts : (env : Environment Sense) (ps : List Part) (n : Numbers) → parts_count (parts_of env (alternatives_of (map part_of ps)) n).parts ≡ length ps
+pub counted_parts : (env : Environment Denotation) (ps : List Part) (n : Numbers) → parts_count (parts_of env (alternatives_of (map part_of ps)) n).parts ≡ length ps
 counted_parts env [] n = refl
-counted_parts env (p ∷ ps) n = ap suc (counted_parts env ps (as_trace (alternative_sense env (part_of p)) n).after)
+counted_parts env (p ∷ ps) n = ap suc (counted_parts env ps (as_trace (alternative_denotation env (part_of p)) n).after)
 
 -- the trace of an alternative, with a weight or without
-weighed_sense : (env : Environment Sense) (weight : Option Expr) (body : TraceExpr) → alternative_sense env (weighed weight body) ≡ trace_sense env (trace_view body)
-weighed_sense env None body = refl
-weighed_sense env (Some e) body = refl
+weighed_denotation : (env : Environment Denotation) (weight : Option Expr) (body : TraceExpr) → alternative_denotation env (weighed weight body) ≡ trace_denotation env (trace_view body)
+weighed_denotation env None body = refl
+weighed_denotation env (Some e) body = refl
 
 -- the first alternative, and then the others
-pub alternative_read : (env : Environment Sense) (f : Figure) (depth : ℕ) (all : List Part) (p : Part) (others : List Part) (rest : Numbers → ℕ) (n : Numbers) → all ≡ p ∷ others
+pub alternative_read : (env : Environment Denotation) (f : Figure) (depth : ℕ) (all : List Part) (p : Part) (others : List Part) (rest : Numbers → ℕ) (n : Numbers) → all ≡ p ∷ others
     → parts_then f depth (parts_of env (alternatives_of (map part_of all)) n) rest
-    ≡ expression_figure f 1 (weight_of env (weighed p.weight p.body)) + trace_then f depth (as_trace (trace_sense env (trace_view p.body)) n) (λ m. parts_then f depth (parts_of env (alternatives_of (map part_of others)) m) rest)
+    ≡ expression_figure f 1 (weight_of env (weighed p.weight p.body)) + trace_then f depth (as_trace (trace_denotation env (trace_view p.body)) n) (λ m. parts_then f depth (parts_of env (alternatives_of (map part_of others)) m) rest)
 alternative_read env f depth all p others rest n is =
     let weight = expression_figure f 1 (weight_of env (weighed p.weight p.body)) in
     let behind : Numbers → ℕ = λ m. parts_then f depth (parts_of env (alternatives_of (map part_of others)) m) rest in
-    let first : Numbered = as_trace (alternative_sense env (part_of p)) n in
+    let first : Numbered = as_trace (alternative_denotation env (part_of p)) n in
     let split : parts_then f depth (parts_of env (alternatives_of (map part_of (p ∷ others))) n) rest ≡ weight + trace_then f depth first behind = omega arith in
-    ap (λ ps. parts_then f depth (parts_of env (alternatives_of (map part_of ps)) n) rest) is ∙ split ∙ ap (λ sense. weight + trace_then f depth (as_trace sense n) behind) (weighed_sense env p.weight p.body)
+    ap (λ ps. parts_then f depth (parts_of env (alternatives_of (map part_of ps)) n) rest) is ∙ split ∙ ap (λ denotation. weight + trace_then f depth (as_trace denotation n) behind) (weighed_denotation env p.weight p.body)
 
 -- how two traces are joined doesn't matter
 joined_figure : (j : Join) (f : Figure) (depth : ℕ) (x y : Expanded) → expanded_figure f depth (joined_by j x y) ≡ term_weight f depth + (expanded_figure f (depth + 1) x + expanded_figure f (depth + 1) y)
@@ -111,20 +111,20 @@ joined_figure Pri f depth x y = refl
 joined_figure Par f depth x y = refl
 
 -- a trace that is joined with others
-joined_some : (env : Environment Sense) (j : Join) (f : Figure) (depth : ℕ) (t : Trace) (us : List TraceExpr) (rest : Numbers → ℕ) (n : Numbers) → 0 < length us
-    → trace_then f depth (as_trace (traces_sense env (joined_by j) (s.one_trace t (traces_of (map trace_view us)))) n) rest
-    ≡ term_weight f depth + trace_then f (depth + 1) (as_trace (trace_sense env t) (behind_term n)) (λ m. trace_then f (depth + 1) (as_trace (traces_sense env (joined_by j) (traces_of (map trace_view us))) m) rest)
+joined_some : (env : Environment Denotation) (j : Join) (f : Figure) (depth : ℕ) (t : Trace) (us : List TraceExpr) (rest : Numbers → ℕ) (n : Numbers) → 0 < length us
+    → trace_then f depth (as_trace (traces_denotation env (joined_by j) (s.one_trace t (traces_of (map trace_view us)))) n) rest
+    ≡ term_weight f depth + trace_then f (depth + 1) (as_trace (trace_denotation env t) (behind_term n)) (λ m. trace_then f (depth + 1) (as_trace (traces_denotation env (joined_by j) (traces_of (map trace_view us))) m) rest)
 joined_some env j f depth t [] rest n h = absurd (omega (arith, h))
 joined_some env j f depth t (u ∷ us) rest n h =
-    let first : Numbered = as_trace (trace_sense env t) (behind_term n) in
-    let second : Numbered = as_trace (traces_sense env (joined_by j) (traces_of (map trace_view (u ∷ us)))) first.after in
+    let first : Numbered = as_trace (trace_denotation env t) (behind_term n) in
+    let second : Numbered = as_trace (traces_denotation env (joined_by j) (traces_of (map trace_view (u ∷ us)))) first.after in
     omega (arith, joined_figure j f depth first.expanded second.expanded)
 
-pub joined_read : (decimals : ℕ) (rows : List Entry) (f : Figure) (depth len : ℕ) (j : Join) (t : Bor TraceExpr) (ts : Bor (List TraceExpr)) (k : ℕ) (head : Head) (rest : Numbers → ℕ) (n : Numbers) → head ≡ Joined j t ts k → IsWithin len head
-    → trace_then f depth (as_trace (head_reads (meant decimals) rows head) n) rest
-    ≡ term_weight f depth + trace_then f (depth + 1) (as_trace (sense_at decimals rows k (source.Trace t)) (behind_term n)) (λ m. trace_then f (depth + 1) (as_trace (sense_at decimals rows k (source.Joined j ts)) m) rest)
-joined_read decimals rows f depth len j t ts k head rest n is w =
-    ap (λ h. trace_then f depth (as_trace (head_reads (meant decimals) rows h) n) rest) is
+pub joined_read : (decimals : ℕ) (rows : List Entry) (f : Figure) (depth len : ℕ) (j : Join) (t : Bor TraceExpr) (ts : Bor (List TraceExpr)) (k : ℕ) (form : HeadNormalForm) (rest : Numbers → ℕ) (n : Numbers) → form ≡ Joined j t ts k → IsWithin len form
+    → trace_then f depth (as_trace (form_reads (meant decimals) rows form) n) rest
+    ≡ term_weight f depth + trace_then f (depth + 1) (as_trace (denotation_at decimals rows k (code_phrase.Trace t)) (behind_term n)) (λ m. trace_then f (depth + 1) (as_trace (denotation_at decimals rows k (code_phrase.Joined j ts)) m) rest)
+joined_read decimals rows f depth len j t ts k form rest n is w =
+    ap (λ h. trace_then f depth (as_trace (form_reads (meant decimals) rows h) n) rest) is
     ∙ joined_some (environment (meant decimals) rows k) j f depth (trace_view t.now) ts.now rest n (subst (IsWithin len) is w).1
 
 -- the lists of a tree are those that the code has
@@ -135,8 +135,8 @@ pub ruleset reads = (alternatives_list, groups_list)
 -- so many entries are enough where fewer are
 pub left_more : (least more : ℕ) (left : Left) → least ≤ more → IsLeftWithin least left → IsLeftWithin more left
 left_more least more (Names l) h w = omega (arith, h, w)
-left_more least more (TraceLeft source) h w = tt
-left_more least more (Expression source) h w = tt
+left_more least more (TraceLeft phrase) h w = tt
+left_more least more (Expression phrase) h w = tt
 left_more least more (Alternatives ps) h w = tt
 left_more least more (Groups gs body) h w = tt
 
@@ -152,10 +152,10 @@ within_least least count (p ∷ ps) w = omega (arith, w.1.1.0, within_least leas
 -- more entries leave what is left as it is
 pub left_kept : (decimals : ℕ) (old new : List Entry) (f : Figure) (k depth : ℕ) (left : Left) (before behind : Numbers → ℕ) (n : Numbers) → AddsTo old new → k ≤ length old → IsLeftWithin (length old) left → ((m : Numbers) → behind m ≡ before m)
     → left_then decimals new f k depth left behind n ≡ left_then decimals old f k depth left before n
-left_kept decimals old new f k depth (TraceLeft source) before behind n a h w same =
-    λ i. trace_then f depth (as_trace ((meant decimals).phrase (environment_kept (meant decimals) old new k a h i) (source_view source)) n) (λ m. same m i)
-left_kept decimals old new f k depth (Expression source) before behind n a h w same =
-    λ i. expression_figure f depth (as_expression ((meant decimals).phrase (environment_kept (meant decimals) old new k a h i) (source_view source))) + same n i
+left_kept decimals old new f k depth (TraceLeft phrase) before behind n a h w same =
+    λ i. trace_then f depth (as_trace ((meant decimals).phrase (environment_kept (meant decimals) old new k a h i) (phrase_view phrase)) n) (λ m. same m i)
+left_kept decimals old new f k depth (Expression phrase) before behind n a h w same =
+    λ i. expression_figure f depth (as_expression ((meant decimals).phrase (environment_kept (meant decimals) old new k a h i) (phrase_view phrase))) + same n i
 left_kept decimals old new f k depth (Alternatives ps) before behind n a h w same =
     λ i. parts_then f depth (parts_of (environment_kept (meant decimals) old new k a h i) (alternatives_of (map part_of ps.now)) n) (λ m. same m i)
 left_kept decimals old new f k depth (Groups gs body) before behind n a h w same =
@@ -191,7 +191,7 @@ pub name_read : (decimals : ℕ) (old new : List Entry) (f : Figure) (depth k in
     ≡ left_then decimals old f k depth (Names l) (pending_figure decimals old f ps) n
 name_read decimals old new f depth k inner l name names ps n a is w ws made =
     let outer = environment_kept (meant decimals) old new l.outer a w in
-    let env : Environment Sense = environment (meant decimals) old k in
+    let env : Environment Denotation = environment (meant decimals) old k in
     let rest : Numbers → ℕ = pending_figure decimals old f ps in
     let others : Numbered = locals_trace (record l { names = names }) (environment (meant decimals) old l.outer) (with_name (word name).text (variable role.Local n.local) env) (behind_local n) in
     let split : term_weight f depth + (local_weight f + (first_figure f (first_of (environment (meant decimals) old l.outer) (maybe_exp l.group.now.first)) + trace_then f (depth + 1) others rest))

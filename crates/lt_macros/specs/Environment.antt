@@ -1,5 +1,5 @@
 -- What names stand for at a place of a text. Lists of names have the newest name first, so an inner name hides an outer one.
--- Senses are what expressions and traces stand for; of which kind they are is left open here.
+-- Denotations are what expressions and traces stand for; of which kind they are is left open here.
 use Rattle.std.specs.Prelude.{ℕ, suc, List, [], ◌∷◌, codes, bytes_eq, if◌then◌else◌}
 use Rattle.std.specs.declared.option.Option.{Option}
 use Rattle.std.specs.declared.option.Option.TheVariants.{None, Some}
@@ -7,19 +7,19 @@ use Rattle.lt_ast.specs.Syntax.{Word}
 use Rattle.lt_formula.specs.declared.role.Role.{Role}
 use Rattle.lt_macros.specs.Expanded.{Exception}
 
--- what a name stands for
-pub data Entity (S : Type 0) : Type 0 where
+-- what a name is bound to
+pub data Binding (S : Type 0) : Type 0 where
   -- the variable of a role at a place among those of its role
-  variable : Role → ℕ → Entity S
+  variable : Role → ℕ → Binding S
   -- what an argument stands for
-  parameter : S → Entity S
-  -- a macro: it makes a sense of those of its arguments
-  macro : (List S → S) → Entity S
+  parameter : S → Binding S
+  -- a macro: it makes a denotation of those of its arguments
+  macro : (List S → S) → Binding S
 
--- a name and what it stands for
-pub record Binding (S : Type 0) : Type 0 where
+-- a name and its binding
+pub record NamedBinding (S : Type 0) : Type 0 where
   pub name : List ℕ
-  pub entity : Entity S
+  pub binding : Binding S
 
 -- what the name of an exception stands for
 pub data Raised : Type 0 where
@@ -38,17 +38,17 @@ pub record Environment (S : Type 0) : Type 0 where
   -- how many decimals a real has
   pub decimals : ℕ
   -- variables, parameters and macros
-  pub names : List (Binding S)
+  pub names : List (NamedBinding S)
   pub exceptions : List Raisable
 
 -- before the first declaration of a text: an exception is there from the start
 abbrev pub at_start : {S : Type 0} → ℕ → Environment S
 at_start decimals = record { decimals = decimals; names = []; exceptions = record { name = codes "Deadlock"; raised = deadlock } ∷ [] }
 
--- what a name stands for, if anything
-abbrev pub found : {S : Type 0} → List (Binding S) → List ℕ → Option (Entity S)
+-- what a name is bound to, if anything
+abbrev pub found : {S : Type 0} → List (NamedBinding S) → List ℕ → Option (Binding S)
 found [] name = None
-found (b ∷ bs) name = if bytes_eq name b.name then Some b.entity else found bs name
+found (b ∷ bs) name = if bytes_eq name b.name then Some b.binding else found bs name
 
 -- what the name of an exception stands for; an unknown one, which by the rules of types no text has, is as `Deadlock`
 abbrev pub found_exception : List Raisable → List ℕ → Raised
@@ -56,8 +56,8 @@ found_exception [] name = deadlock
 found_exception (z ∷ zs) name = if bytes_eq name z.name then z.raised else found_exception zs name
 
 -- where one more name is visible
-abbrev pub with_name : {S : Type 0} → List ℕ → Entity S → Environment S → Environment S
-with_name name entity env = record env { names = record { name = name; entity = entity } ∷ env.names }
+abbrev pub with_name : {S : Type 0} → List ℕ → Binding S → Environment S → Environment S
+with_name name binding env = record env { names = record { name = name; binding = binding } ∷ env.names }
 
 -- where the parameters are visible too, each as its argument
 abbrev pub with_arguments : {S : Type 0} → List (List ℕ) → List S → Environment S → Environment S

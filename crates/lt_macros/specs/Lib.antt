@@ -9,7 +9,7 @@ pub mod Environment
 -- What literals, types and operators of a text are in a scenario.
 pub mod Literals
 -- What phrases of a text stand for.
-pub mod Senses
+pub mod Denotation
 -- What the nodes of a text stand for.
 pub mod Expansion
 -- What fails a test.

@@ -9,22 +9,22 @@ ghost use Rattle.lt_ast.specs.View.{exp};
 ghost use Rattle.lt_num.specs.Bounds.{most_decimals};
 ghost use Rattle.lt_macros.specs.Expanded as x;
 ghost use Rattle.lt_macros.specs.Expansion.{node_of};
-ghost use Rattle.lt_macros.specs.Senses.{alone, around_two, as_expression, as_trace, behind_term, bounds_of as limits_bounds, caught_as, chosen, parts_of, raised_as as raised_tree, weight_of};
+ghost use Rattle.lt_macros.specs.Denotation.{alone, around_two, as_expression, as_trace, behind_term, bounds_of as limits_bounds, caught_as, chosen, parts_of, raised_as as raised_tree, weight_of};
 ghost use Rattle.lt_macros.specs.inner.Built.{AreBuilt, behind_turns, boxed, in_all, in_two, looped, numbered, numbered_parts};
 ghost use Rattle.lt_macros.specs.inner.Handing.{AreRight};
-ghost use Rattle.lt_macros.specs.inner.Heads.{IsWithin, head_reads};
+ghost use Rattle.lt_macros.specs.inner.HeadNormalForm.{IsWithin, form_reads};
 ghost use Rattle.lt_macros.specs.inner.Numbers.{numbers_view};
 ghost use Rattle.lt_macros.specs.inner.Phrase.{braces, joined, joined_by, trace, value};
-ghost use Rattle.lt_macros.specs.inner.Reading.{environment as environment_of, meant, raised_by, source_view};
+ghost use Rattle.lt_macros.specs.inner.Reading.{environment as environment_of, meant, raised_by, phrase_view};
 ghost use Rattle.lt_macros.specs.inner.Rows.{rows};
 ghost use Rattle.lt_macros.specs.Tree.{bounds as bounds_view, declared as declared_view, exception as exception_view, expanded as expanded_view, node as node_view, placed};
 
-use crate::expressions::{build_expr, build_expr_head};
-use crate::heads::{Head, head_of};
+use crate::expressions::{build_expr, build_expr_form};
+use crate::head_normal_form::{HeadNormalForm, reduce};
 use crate::literals::unwritten_weight;
 use crate::numbers::Numbers;
 use crate::position::Position;
-use crate::scope::{Before, Declared as Raised, Join, Scope, Source};
+use crate::scope::{Before, Declared as Raised, Join, Phrase, Scope};
 use crate::tree::{Bounds, Declared, Exception, Expanded, Node, Part, Parts, Placed};
 use crate::variables::declare_groups;
 use lt_ast::{
@@ -115,7 +115,7 @@ pub(crate) fn build_node<'a>(
         decimals,
         start,
         inside,
-        Source::Trace(&node.body),
+        Phrase::Trace(&node.body),
     )?;
     scope.truncate(before);
     Ok(Node {
@@ -135,39 +135,39 @@ pub(crate) fn build_trace<'a>(
     decimals: u32,
     numbers: Numbers,
     environment: usize,
-    source: Source<'a>,
+    phrase: Phrase<'a>,
 ) -> Result<Numbered, Memory>
     requires few { decimals ≤ most_decimals }
     requires within { environment ≤ length (rows scope.old) }
     requires right { AreRight (rows scope.old) }
-    ensures tree { IfOk result (λ b. numbered b ≡ as_trace ((meant decimals).phrase (environment_of (meant decimals) (rows scope.old) environment) (source_view source.entry)) (numbers_view numbers)) }
+    ensures tree { IfOk result (λ b. numbered b ≡ as_trace ((meant decimals).phrase (environment_of (meant decimals) (rows scope.old) environment) (phrase_view phrase.entry)) (numbers_view numbers)) }
     ensures kept { OnOk result (rows scope.new ≡ rows scope.old) }
 {
     let before = scope.len();
-    let head = head_of(scope, Position::Trace(numbers), environment, source)?;
-    let built = build_trace_head(alloc, scope, decimals, numbers, head)?;
+    let form = reduce(scope, Position::Trace(numbers), environment, phrase)?;
+    let built = build_trace_form(alloc, scope, decimals, numbers, form)?;
     scope.truncate(before);
     Ok(built)
 }
 
 // What is met as a trace; an expression is a constraint.
 #[cycle(build_trace)]
-fn build_trace_head<'a>(
+fn build_trace_form<'a>(
     alloc: Global,
     scope: &mut Scope<'a>,
     decimals: u32,
     numbers: Numbers,
-    head: Head<'a>,
+    form: HeadNormalForm<'a>,
 ) -> Result<Numbered, Memory>
     requires few { decimals ≤ most_decimals }
-    requires within { IsWithin (length (rows scope.old)) head }
+    requires within { IsWithin (length (rows scope.old)) form }
     requires right { AreRight (rows scope.old) }
-    ensures tree { IfOk result (λ b. numbered b ≡ as_trace (head_reads (meant decimals) (rows scope.old) head.entry) (numbers_view numbers)) }
+    ensures tree { IfOk result (λ b. numbered b ≡ as_trace (form_reads (meant decimals) (rows scope.old) form.entry) (numbers_view numbers)) }
     ensures kept { OnOk result (rows scope.new ≡ rows scope.old) }
 {
-    match head {
-        Head::Nothing => put_alone(Expanded::Eps, numbers),
-        Head::Joined(join, first, rest, environment) => {
+    match form {
+        HeadNormalForm::Nothing => put_alone(Expanded::Eps, numbers),
+        HeadNormalForm::Joined(join, first, rest, environment) => {
             build_joined(
                 alloc,
                 scope,
@@ -179,23 +179,23 @@ fn build_trace_head<'a>(
                 rest,
             )
         }
-        Head::Loop(bounds, body, environment) => {
+        HeadNormalForm::Loop(bounds, body, environment) => {
             build_loop(alloc, scope, decimals, numbers, environment, bounds, body)
         }
-        Head::Choice(parts, environment) => {
+        HeadNormalForm::Choice(parts, environment) => {
             build_choice(alloc, scope, decimals, numbers, environment, parts)
         }
-        Head::Raise(name, environment) => {
+        HeadNormalForm::Raise(name, environment) => {
             let raised = put_raise(alloc, scope.exception(environment, &name.text))?;
             put_alone(raised, numbers)
         }
-        Head::Assert(always, body, environment) => {
+        HeadNormalForm::Assert(always, body, environment) => {
             build_assert(alloc, scope, decimals, numbers, environment, always, body)
         }
-        Head::Exist(groups, body, environment) => {
+        HeadNormalForm::Exist(groups, body, environment) => {
             build_exist(alloc, scope, decimals, numbers, environment, groups, body)
         }
-        Head::Catch(name, body, handler, environment) => {
+        HeadNormalForm::Catch(name, body, handler, environment) => {
             build_catch(
                 alloc,
                 scope,
@@ -207,17 +207,19 @@ fn build_trace_head<'a>(
                 handler,
             )
         }
-        Head::Try(body, handler, environment) => {
+        HeadNormalForm::Try(body, handler, environment) => {
             build_try(alloc, scope, decimals, numbers, environment, body, handler)
         }
-        Head::Meaningless
-        | Head::Variable(_, _, _)
-        | Head::Previous(_, _, _)
-        | Head::Number(_)
-        | Head::Flag(_, _)
-        | Head::Unary(_, _, _, _)
-        | Head::Binary(_, _, _, _, _)
-        | Head::If(_, _, _, _, _) => { build_constraint(alloc, scope, decimals, numbers, head) }
+        HeadNormalForm::Meaningless
+        | HeadNormalForm::Variable(_, _, _)
+        | HeadNormalForm::Previous(_, _, _)
+        | HeadNormalForm::Number(_)
+        | HeadNormalForm::Flag(_, _)
+        | HeadNormalForm::Unary(_, _, _, _)
+        | HeadNormalForm::Binary(_, _, _, _, _)
+        | HeadNormalForm::If(_, _, _, _, _) => {
+            build_constraint(alloc, scope, decimals, numbers, form)
+        }
     }
 }
 
@@ -241,7 +243,7 @@ fn build_joined<'a>(
     ensures tree { IfOk result (λ b. numbered b ≡ as_trace ((meant decimals).phrase (environment_of (meant decimals) (rows scope.old) environment) (joined join (s.one_trace (trace_view first.now) (traces_of (map trace_view rest.now))))) (numbers_view numbers)) }
     ensures kept { OnOk result (rows scope.new ≡ rows scope.old) }
 {
-    let (first, rest) = (Source::Trace(first), Source::Joined(join, rest));
+    let (first, rest) = (Phrase::Trace(first), Phrase::Joined(join, rest));
     let two = build_two(alloc, scope, decimals, numbers, environment, first, rest)?;
     Ok(put_joined(join, two))
 }
@@ -287,7 +289,7 @@ fn build_catch<'a>(
     ensures tree { IfOk result (λ b. numbered b ≡ as_trace ((meant decimals).phrase (environment_of (meant decimals) (rows scope.old) environment) (trace (s.catch (word name.now) (trace_view body.now) (maybe_trace handler.now)))) (numbers_view numbers)) }
     ensures kept { OnOk result (rows scope.new ≡ rows scope.old) }
 {
-    let (body, handler) = (Source::Trace(body), Source::Handler(handler));
+    let (body, handler) = (Phrase::Trace(body), Phrase::Handler(handler));
     let two = build_two(alloc, scope, decimals, numbers, environment, body, handler)?;
     put_catch(alloc, scope.exception(environment, &name.text), two)
 }
@@ -310,7 +312,7 @@ fn build_try<'a>(
     ensures tree { IfOk result (λ b. numbered b ≡ as_trace ((meant decimals).phrase (environment_of (meant decimals) (rows scope.old) environment) (trace (s.try (trace_view body.now) (maybe_trace handler.now)))) (numbers_view numbers)) }
     ensures kept { OnOk result (rows scope.new ≡ rows scope.old) }
 {
-    let (body, handler) = (Source::Trace(body), Source::Handler(handler));
+    let (body, handler) = (Phrase::Trace(body), Phrase::Handler(handler));
     let two = build_two(alloc, scope, decimals, numbers, environment, body, handler)?;
     Ok(put_try(two))
 }
@@ -322,15 +324,15 @@ fn build_constraint<'a>(
     scope: &mut Scope<'a>,
     decimals: u32,
     numbers: Numbers,
-    head: Head<'a>,
+    form: HeadNormalForm<'a>,
 ) -> Result<Numbered, Memory>
     requires few { decimals ≤ most_decimals }
-    requires within { IsWithin (length (rows scope.old)) head }
+    requires within { IsWithin (length (rows scope.old)) form }
     requires right { AreRight (rows scope.old) }
-    ensures tree { IfOk result (λ b. numbered b ≡ alone (x.con (as_expression (head_reads (meant decimals) (rows scope.old) head.entry))) (numbers_view numbers)) }
+    ensures tree { IfOk result (λ b. numbered b ≡ alone (x.con (as_expression (form_reads (meant decimals) (rows scope.old) form.entry))) (numbers_view numbers)) }
     ensures kept { OnOk result (rows scope.new ≡ rows scope.old) }
 {
-    let condition = build_expr_head(alloc, scope, decimals, head)?;
+    let condition = build_expr_form(alloc, scope, decimals, form)?;
     put_alone(Expanded::Con(condition), numbers)
 }
 
@@ -343,13 +345,13 @@ fn build_two<'a>(
     decimals: u32,
     numbers: Numbers,
     environment: usize,
-    first: Source<'a>,
-    second: Source<'a>,
+    first: Phrase<'a>,
+    second: Phrase<'a>,
 ) -> Result<Two, Memory>
     requires few { decimals ≤ most_decimals }
     requires within { environment ≤ length (rows scope.old) }
     requires right { AreRight (rows scope.old) }
-    ensures trees { IfOk result (λ two. AreBuilt two (as_trace ((meant decimals).phrase (environment_of (meant decimals) (rows scope.old) environment) (source_view first.entry)) (behind_term (numbers_view numbers))) (as_trace ((meant decimals).phrase (environment_of (meant decimals) (rows scope.old) environment) (source_view second.entry)))) }
+    ensures trees { IfOk result (λ two. AreBuilt two (as_trace ((meant decimals).phrase (environment_of (meant decimals) (rows scope.old) environment) (phrase_view first.entry)) (behind_term (numbers_view numbers))) (as_trace ((meant decimals).phrase (environment_of (meant decimals) (rows scope.old) environment) (phrase_view second.entry)))) }
     ensures kept { OnOk result (rows scope.new ≡ rows scope.old) }
 {
     let inside = numbers.behind_term()?;
@@ -371,15 +373,15 @@ fn build_boxed<'a>(
     decimals: u32,
     numbers: Numbers,
     environment: usize,
-    source: Source<'a>,
+    phrase: Phrase<'a>,
 ) -> Result<Boxed, Memory>
     requires few { decimals ≤ most_decimals }
     requires within { environment ≤ length (rows scope.old) }
     requires right { AreRight (rows scope.old) }
-    ensures tree { IfOk result (λ b. boxed b ≡ as_trace ((meant decimals).phrase (environment_of (meant decimals) (rows scope.old) environment) (source_view source.entry)) (numbers_view numbers)) }
+    ensures tree { IfOk result (λ b. boxed b ≡ as_trace ((meant decimals).phrase (environment_of (meant decimals) (rows scope.old) environment) (phrase_view phrase.entry)) (numbers_view numbers)) }
     ensures kept { OnOk result (rows scope.new ≡ rows scope.old) }
 {
-    let built = build_trace(alloc, scope, decimals, numbers, environment, source)?;
+    let built = build_trace(alloc, scope, decimals, numbers, environment, phrase)?;
     let after = built.after;
     let trace = Box::new(alloc, built.expanded)?;
     Ok(Boxed { trace, after })
@@ -403,8 +405,8 @@ fn build_loop<'a>(
     ensures tree { IfOk result (λ b. numbered b ≡ as_trace ((meant decimals).phrase (environment_of (meant decimals) (rows scope.old) environment) (trace (s.loop (limits written.now) (trace_view body.now)))) (numbers_view numbers)) }
     ensures kept { OnOk result (rows scope.new ≡ rows scope.old) }
 {
-    let (inside, source) = (behind_loop(numbers, written)?, Source::Trace(body));
-    let turn = build_boxed(alloc, scope, decimals, inside, environment, source)?;
+    let (inside, phrase) = (behind_loop(numbers, written)?, Phrase::Trace(body));
+    let turn = build_boxed(alloc, scope, decimals, inside, environment, phrase)?;
     let bounds = build_bounds(alloc, scope, decimals, environment, written)?;
     Ok(put_loop(numbers.counter, bounds, turn.trace, turn.after))
 }
@@ -476,8 +478,8 @@ fn build_pair<'a>(
     ensures second { IfOk result (λ p. placed p.second ≡ as_expression ((meant decimals).phrase (environment_of (meant decimals) (rows scope.old) environment) (value (exp second.now)))) }
     ensures kept { OnOk result (rows scope.new ≡ rows scope.old) }
 {
-    let first = build_expr(alloc, scope, decimals, environment, Source::Value(first))?;
-    let second = build_expr(alloc, scope, decimals, environment, Source::Value(second))?;
+    let first = build_expr(alloc, scope, decimals, environment, Phrase::Value(first))?;
+    let second = build_expr(alloc, scope, decimals, environment, Phrase::Value(second))?;
     Ok(Pair { first, second })
 }
 
@@ -502,8 +504,8 @@ fn build_parts<'a>(
     let mut numbers = before;
     for part in written {
         let weight = build_weight(alloc, scope, decimals, environment, part)?;
-        let source = Source::Trace(&part.body);
-        let built = build_trace(alloc, scope, decimals, numbers, environment, source)?;
+        let phrase = Phrase::Trace(&part.body);
+        let built = build_trace(alloc, scope, decimals, numbers, environment, phrase)?;
         let body = built.expanded;
         items.push(Part { weight, body })?;
         numbers = built.after;
@@ -529,7 +531,7 @@ fn build_weight<'a>(
 {
     match &part.weight {
         None => Ok(unwritten_weight()),
-        Some(expr) => build_expr(alloc, scope, decimals, environment, Source::Value(expr)),
+        Some(expr) => build_expr(alloc, scope, decimals, environment, Phrase::Value(expr)),
     }
 }
 
@@ -551,9 +553,9 @@ fn build_assert<'a>(
     ensures tree { IfOk result (λ b. numbered b ≡ as_trace ((meant decimals).phrase (environment_of (meant decimals) (rows scope.old) environment) (trace (s.assert (exp always.now) (trace_view body.now)))) (numbers_view numbers)) }
     ensures kept { OnOk result (rows scope.new ≡ rows scope.old) }
 {
-    let (inside, source) = (numbers.behind_term()?, Source::Trace(body));
-    let inner = build_boxed(alloc, scope, decimals, inside, environment, source)?;
-    let constraint = build_expr(alloc, scope, decimals, environment, Source::Value(always))?;
+    let (inside, phrase) = (numbers.behind_term()?, Phrase::Trace(body));
+    let inner = build_boxed(alloc, scope, decimals, inside, environment, phrase)?;
+    let constraint = build_expr(alloc, scope, decimals, environment, Phrase::Value(always))?;
     let after = inner.after;
     let expanded = Expanded::Assert(constraint, inner.trace);
     Ok(Numbered { expanded, after })
@@ -587,8 +589,8 @@ fn build_exist<'a>(
         environment,
         groups,
     )?;
-    let (inside, source) = (numbers.behind_locals(locals.next)?, Source::Trace(body));
-    let inner = build_trace(alloc, scope, decimals, inside, locals.environment, source)?;
+    let (inside, phrase) = (numbers.behind_locals(locals.next)?, Phrase::Trace(body));
+    let inner = build_trace(alloc, scope, decimals, inside, locals.environment, phrase)?;
     scope.truncate(before);
     put_locals(alloc, locals.declared, locals.next, inner)
 }

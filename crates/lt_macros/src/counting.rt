@@ -8,11 +8,11 @@ ghost use Rattle.lt_ast.specs.declared.trace.TraceExpr.{TraceExpr};
 ghost use Rattle.lt_macros.specs.Environment.{Environment};
 ghost use Rattle.lt_macros.specs.Expansion.{group_variables, groups_variables, node_of, with_group, with_groups};
 ghost use Rattle.lt_macros.specs.Limits.{passed_limits};
-ghost use Rattle.lt_macros.specs.Senses.{Numbers as NumbersBefore, Sense, as_expression, as_trace, behind_counter, behind_local, behind_term, bounds_of, chosen, first_of, parts_of, repeated, weight_of};
-ghost use Rattle.lt_macros.specs.inner.Counting.{AreWithin, IsLeftWithin, IsTallied, left_then, pending_figure, sense_at, sum_of, trace_then, waiting};
+ghost use Rattle.lt_macros.specs.Denotation.{Numbers as NumbersBefore, Denotation, as_expression, as_trace, behind_counter, behind_local, behind_term, bounds_of, chosen, first_of, parts_of, repeated, weight_of};
+ghost use Rattle.lt_macros.specs.inner.Counting.{AreWithin, IsLeftWithin, IsTallied, left_then, pending_figure, denotation_at, sum_of, trace_then, waiting};
 ghost use Rattle.lt_macros.specs.inner.Figures.{Figure, expression_figure, first_figure, local_weight, term_weight, variables_figure};
 ghost use Rattle.lt_macros.specs.inner.Handing.{AreRight};
-ghost use Rattle.lt_macros.specs.inner.Heads.{AddsTo, IsWithin, head_reads};
+ghost use Rattle.lt_macros.specs.inner.HeadNormalForm.{AddsTo, IsWithin, form_reads};
 ghost use Rattle.lt_macros.specs.inner.Numbers.{numbers_view};
 ghost use Rattle.lt_macros.specs.inner.Reading.{environment as environment_of, meant};
 ghost use Rattle.lt_macros.specs.inner.Rows.{rows};
@@ -20,11 +20,11 @@ ghost use Rattle.lt_macros.specs.inner.Started.{sum_from};
 ghost use Rattle.lt_macros.specs.inner.Tallies.{counted};
 ghost use Rattle.lt_macros.specs.declared.scope.Entry.{Entry};
 
-use crate::heads::{Head, head_of};
+use crate::head_normal_form::{HeadNormalForm, reduce};
 use crate::limit::Limit;
 use crate::numbers::Numbers;
 use crate::position::Position;
-use crate::scope::{Scope, Source};
+use crate::scope::{Phrase, Scope};
 use crate::tally::{MOST_NODES, Tally};
 use crate::variables::{Visible, show_name, show_names};
 use lt_ast::{Bounds, Expr, Group, Name, NodeDecl, Part, TraceExpr};
@@ -35,10 +35,10 @@ use std::alloc::Global;
 #[derive(Clone, Copy)]
 enum Left<'a> {
     /// A trace.
-    Trace(Source<'a>),
+    Trace(Phrase<'a>),
 
     /// An expression.
-    Expression(Source<'a>),
+    Expression(Phrase<'a>),
 
     /// Alternatives of a choice.
     Alternatives(&'a [Part]),
@@ -127,56 +127,56 @@ fn put_expression<'a>(
     count: &mut Count<'a>,
     depth: u32,
     len: usize,
-    head: Head<'a>,
+    form: HeadNormalForm<'a>,
 ) -> Result<(), Memory>
-    requires { IsWithin len head }
-    ensures figures { OnOk result ((decimals : ℕ) (rows : List Entry) (f : Figure) → sum_of decimals rows f count.new ≡ counted count.old.tally f + (expression_figure f depth (as_expression (head_reads (meant decimals) rows head.entry)) + pending_figure decimals rows f (waiting count.old) (numbers_view count.old.numbers))) }
+    requires { IsWithin len form }
+    ensures figures { OnOk result ((decimals : ℕ) (rows : List Entry) (f : Figure) → sum_of decimals rows f count.new ≡ counted count.old.tally f + (expression_figure f depth (as_expression (form_reads (meant decimals) rows form.entry)) + pending_figure decimals rows f (waiting count.old) (numbers_view count.old.numbers))) }
     ensures within { OnOk result ((least : ℕ) → AreWithin least len (waiting count.old) → AreWithin least len (waiting count.new)) }
 {
     count.tally = count.tally.with_expression(depth)?;
     let depth = deeper(depth)?;
-    match head {
-        Head::Unary(_, part, _, environment) => {
+    match form {
+        HeadNormalForm::Unary(_, part, _, environment) => {
             let at = Place {
                 environment,
                 depth,
                 len,
             };
-            put(count, Left::Expression(Source::Value(part)), at)
+            put(count, Left::Expression(Phrase::Value(part)), at)
         }
-        Head::Binary(_, left, right, _, environment) => {
+        HeadNormalForm::Binary(_, left, right, _, environment) => {
             let at = Place {
                 environment,
                 depth,
                 len,
             };
-            put(count, Left::Expression(Source::Value(right)), at)?;
-            put(count, Left::Expression(Source::Value(left)), at)
+            put(count, Left::Expression(Phrase::Value(right)), at)?;
+            put(count, Left::Expression(Phrase::Value(left)), at)
         }
-        Head::If(condition, then, other, _, environment) => {
+        HeadNormalForm::If(condition, then, other, _, environment) => {
             let at = Place {
                 environment,
                 depth,
                 len,
             };
-            put(count, Left::Expression(Source::Value(other)), at)?;
-            put(count, Left::Expression(Source::Value(then)), at)?;
-            put(count, Left::Expression(Source::Value(condition)), at)
+            put(count, Left::Expression(Phrase::Value(other)), at)?;
+            put(count, Left::Expression(Phrase::Value(then)), at)?;
+            put(count, Left::Expression(Phrase::Value(condition)), at)
         }
-        Head::Meaningless
-        | Head::Variable(_, _, _)
-        | Head::Previous(_, _, _)
-        | Head::Number(_)
-        | Head::Flag(_, _)
-        | Head::Nothing
-        | Head::Joined(_, _, _, _)
-        | Head::Loop(_, _, _)
-        | Head::Choice(_, _)
-        | Head::Raise(_, _)
-        | Head::Assert(_, _, _)
-        | Head::Exist(_, _, _)
-        | Head::Catch(_, _, _, _)
-        | Head::Try(_, _, _) => Ok(()),
+        HeadNormalForm::Meaningless
+        | HeadNormalForm::Variable(_, _, _)
+        | HeadNormalForm::Previous(_, _, _)
+        | HeadNormalForm::Number(_)
+        | HeadNormalForm::Flag(_, _)
+        | HeadNormalForm::Nothing
+        | HeadNormalForm::Joined(_, _, _, _)
+        | HeadNormalForm::Loop(_, _, _)
+        | HeadNormalForm::Choice(_, _)
+        | HeadNormalForm::Raise(_, _)
+        | HeadNormalForm::Assert(_, _, _)
+        | HeadNormalForm::Exist(_, _, _)
+        | HeadNormalForm::Catch(_, _, _, _)
+        | HeadNormalForm::Try(_, _, _) => Ok(()),
     }
 }
 
@@ -185,8 +185,8 @@ fn put_two<'a>(
     count: &mut Count<'a>,
     depth: u32,
     at: Place,
-    first: Source<'a>,
-    second: Source<'a>,
+    first: Phrase<'a>,
+    second: Phrase<'a>,
 ) -> Result<(), Memory>
     requires depth { at.depth ≡ depth + 1 }
     requires within { at.environment ≤ at.len }
@@ -194,7 +194,7 @@ fn put_two<'a>(
         sum_of decimals rows f count.new
         ≡ counted count.old.tally f
         + (term_weight f depth
-        + trace_then f (depth + 1) (as_trace (sense_at decimals rows at.environment first.entry) (behind_term (numbers_view count.old.numbers))) (λ m. trace_then f (depth + 1) (as_trace (sense_at decimals rows at.environment second.entry) m) (pending_figure decimals rows f (waiting count.old))))) }
+        + trace_then f (depth + 1) (as_trace (denotation_at decimals rows at.environment first.entry) (behind_term (numbers_view count.old.numbers))) (λ m. trace_then f (depth + 1) (as_trace (denotation_at decimals rows at.environment second.entry) m) (pending_figure decimals rows f (waiting count.old))))) }
     ensures within { OnOk result ((least : ℕ) → AreWithin least at.len (waiting count.old) → AreWithin least at.len (waiting count.new)) }
 {
     count.tally = count.tally.with_term(depth)?;
@@ -218,17 +218,17 @@ fn put_counted<'a>(
         sum_of decimals rows f count.new
         ≡ counted count.old.tally f
         + (term_weight f depth
-        + (expression_figure f 1 (as_expression (sense_at decimals rows at.environment (Source.Value first.entry)))
-        + (expression_figure f 1 (as_expression (sense_at decimals rows at.environment (Source.Value second.entry)))
-        + trace_then f (depth + 1) (as_trace (sense_at decimals rows at.environment (Source.Trace body.entry)) (behind_counter (numbers_view count.old.numbers))) (pending_figure decimals rows f (waiting count.old)))))) }
+        + (expression_figure f 1 (as_expression (denotation_at decimals rows at.environment (Phrase.Value first.entry)))
+        + (expression_figure f 1 (as_expression (denotation_at decimals rows at.environment (Phrase.Value second.entry)))
+        + trace_then f (depth + 1) (as_trace (denotation_at decimals rows at.environment (Phrase.Trace body.entry)) (behind_counter (numbers_view count.old.numbers))) (pending_figure decimals rows f (waiting count.old)))))) }
     ensures within { OnOk result ((least : ℕ) → AreWithin least at.len (waiting count.old) → AreWithin least at.len (waiting count.new)) }
 {
     count.tally = count.tally.with_term(depth)?;
     count.numbers = count.numbers.behind_counter()?;
     let alone = Place { depth: 1, ..at };
-    put(count, Left::Trace(Source::Trace(body)), at)?;
-    put(count, Left::Expression(Source::Value(second)), alone)?;
-    put(count, Left::Expression(Source::Value(first)), alone)
+    put(count, Left::Trace(Phrase::Trace(body)), at)?;
+    put(count, Left::Expression(Phrase::Value(second)), alone)?;
+    put(count, Left::Expression(Phrase::Value(first)), alone)
 }
 
 // Counts a loop that stands so deep, and puts what is in it before what is left.
@@ -244,14 +244,14 @@ fn put_loop<'a>(
     ensures figures { OnOk result ((decimals : ℕ) (rows : List Entry) (f : Figure) →
         sum_of decimals rows f count.new
         ≡ counted count.old.tally f
-        + trace_then f depth (repeated (bounds_of (environment_of (meant decimals) rows at.environment) (limits bounds.now)) (as_trace (sense_at decimals rows at.environment (Source.Trace body.entry))) (numbers_view count.old.numbers)) (pending_figure decimals rows f (waiting count.old))) }
+        + trace_then f depth (repeated (bounds_of (environment_of (meant decimals) rows at.environment) (limits bounds.now)) (as_trace (denotation_at decimals rows at.environment (Phrase.Trace body.entry))) (numbers_view count.old.numbers)) (pending_figure decimals rows f (waiting count.old))) }
     ensures within { OnOk result ((least : ℕ) → AreWithin least at.len (waiting count.old) → AreWithin least at.len (waiting count.new)) }
 {
     match bounds {
         Bounds::Forever => {
             count.tally = count.tally.with_term(depth)?;
             count.numbers = count.numbers.behind_term()?;
-            put(count, Left::Trace(Source::Trace(body)), at)
+            put(count, Left::Trace(Phrase::Trace(body)), at)
         }
         Bounds::Between(low, high) => put_counted(count, depth, at, low, high, body),
         Bounds::Around(average, deviation) => {
@@ -274,16 +274,16 @@ fn put_assert<'a>(
         sum_of decimals rows f count.new
         ≡ counted count.old.tally f
         + (term_weight f depth
-        + (expression_figure f 1 (as_expression (sense_at decimals rows at.environment (Source.Value always.entry)))
-        + trace_then f (depth + 1) (as_trace (sense_at decimals rows at.environment (Source.Trace body.entry)) (behind_term (numbers_view count.old.numbers))) (pending_figure decimals rows f (waiting count.old))))) }
+        + (expression_figure f 1 (as_expression (denotation_at decimals rows at.environment (Phrase.Value always.entry)))
+        + trace_then f (depth + 1) (as_trace (denotation_at decimals rows at.environment (Phrase.Trace body.entry)) (behind_term (numbers_view count.old.numbers))) (pending_figure decimals rows f (waiting count.old))))) }
     ensures within { OnOk result ((least : ℕ) → AreWithin least at.len (waiting count.old) → AreWithin least at.len (waiting count.new)) }
 {
     count.tally = count.tally.with_term(depth)?;
     count.numbers = count.numbers.behind_term()?;
-    put(count, Left::Trace(Source::Trace(body)), at)?;
+    put(count, Left::Trace(Phrase::Trace(body)), at)?;
     put(
         count,
-        Left::Expression(Source::Value(always)),
+        Left::Expression(Phrase::Value(always)),
         Place { depth: 1, ..at },
     )
 }
@@ -316,20 +316,20 @@ fn put_trace<'a>(
     count: &mut Count<'a>,
     depth: u32,
     len: usize,
-    head: Head<'a>,
+    form: HeadNormalForm<'a>,
 ) -> Result<(), Memory>
-    requires { IsWithin len head }
-    ensures figures { OnOk result ((decimals : ℕ) (rows : List Entry) (f : Figure) → sum_of decimals rows f count.new ≡ counted count.old.tally f + trace_then f depth (as_trace (head_reads (meant decimals) rows head.entry) (numbers_view count.old.numbers)) (pending_figure decimals rows f (waiting count.old))) }
+    requires { IsWithin len form }
+    ensures figures { OnOk result ((decimals : ℕ) (rows : List Entry) (f : Figure) → sum_of decimals rows f count.new ≡ counted count.old.tally f + trace_then f depth (as_trace (form_reads (meant decimals) rows form.entry) (numbers_view count.old.numbers)) (pending_figure decimals rows f (waiting count.old))) }
     ensures within { OnOk result ((least : ℕ) → AreWithin least len (waiting count.old) → AreWithin least len (waiting count.new)) }
 {
     let below = deeper(depth)?;
-    match head {
-        Head::Nothing | Head::Raise(_, _) => {
+    match form {
+        HeadNormalForm::Nothing | HeadNormalForm::Raise(_, _) => {
             count.tally = count.tally.with_term(depth)?;
             count.numbers = count.numbers.behind_term()?;
             Ok(())
         }
-        Head::Joined(join, first, rest, environment) => {
+        HeadNormalForm::Joined(join, first, rest, environment) => {
             let at = Place {
                 environment,
                 depth: below,
@@ -339,11 +339,11 @@ fn put_trace<'a>(
                 count,
                 depth,
                 at,
-                Source::Trace(first),
-                Source::Joined(join, rest),
+                Phrase::Trace(first),
+                Phrase::Joined(join, rest),
             )
         }
-        Head::Loop(bounds, body, environment) => {
+        HeadNormalForm::Loop(bounds, body, environment) => {
             let at = Place {
                 environment,
                 depth: below,
@@ -351,7 +351,7 @@ fn put_trace<'a>(
             };
             put_loop(count, depth, at, bounds, body)
         }
-        Head::Choice(alternatives, environment) => {
+        HeadNormalForm::Choice(alternatives, environment) => {
             let at = Place {
                 environment,
                 depth: below,
@@ -359,7 +359,7 @@ fn put_trace<'a>(
             };
             put_choice(count, depth, at, &alternatives.items)
         }
-        Head::Assert(always, body, environment) => {
+        HeadNormalForm::Assert(always, body, environment) => {
             let at = Place {
                 environment,
                 depth: below,
@@ -367,7 +367,7 @@ fn put_trace<'a>(
             };
             put_assert(count, depth, at, always, body)
         }
-        Head::Exist(groups, body, environment) => {
+        HeadNormalForm::Exist(groups, body, environment) => {
             let at = Place {
                 environment,
                 depth,
@@ -375,7 +375,8 @@ fn put_trace<'a>(
             };
             put(count, Left::Groups(&groups.items, body), at)
         }
-        Head::Catch(_, body, handler, environment) | Head::Try(body, handler, environment) => {
+        HeadNormalForm::Catch(_, body, handler, environment)
+        | HeadNormalForm::Try(body, handler, environment) => {
             let at = Place {
                 environment,
                 depth: below,
@@ -385,21 +386,21 @@ fn put_trace<'a>(
                 count,
                 depth,
                 at,
-                Source::Trace(body),
-                Source::Handler(handler),
+                Phrase::Trace(body),
+                Phrase::Handler(handler),
             )
         }
-        Head::Meaningless
-        | Head::Variable(_, _, _)
-        | Head::Previous(_, _, _)
-        | Head::Number(_)
-        | Head::Flag(_, _)
-        | Head::Unary(_, _, _, _)
-        | Head::Binary(_, _, _, _, _)
-        | Head::If(_, _, _, _, _) => {
+        HeadNormalForm::Meaningless
+        | HeadNormalForm::Variable(_, _, _)
+        | HeadNormalForm::Previous(_, _, _)
+        | HeadNormalForm::Number(_)
+        | HeadNormalForm::Flag(_, _)
+        | HeadNormalForm::Unary(_, _, _, _)
+        | HeadNormalForm::Binary(_, _, _, _, _)
+        | HeadNormalForm::If(_, _, _, _, _) => {
             count.tally = count.tally.with_term(depth)?;
             count.numbers = count.numbers.behind_term()?;
-            put_expression(count, 1, len, head)
+            put_expression(count, 1, len, form)
         }
     }
 }
@@ -414,7 +415,7 @@ fn put_first<'a>(count: &mut Count<'a>, at: Place, first: &'a Option<Expr>) -> R
 {
     match first {
         None => Ok(()),
-        Some(expr) => put(count, Left::Expression(Source::Value(expr)), at),
+        Some(expr) => put(count, Left::Expression(Phrase::Value(expr)), at),
     }
 }
 
@@ -432,7 +433,7 @@ fn take_alternatives<'a>(
         return Ok(());
     };
     put(count, Left::Alternatives(rest), at)?;
-    put(count, Left::Trace(Source::Trace(&first.body)), at)?;
+    put(count, Left::Trace(Phrase::Trace(&first.body)), at)?;
     put_weight(count, Place { depth: 1, ..at }, &first.weight)
 }
 
@@ -451,7 +452,7 @@ fn put_weight<'a>(count: &mut Count<'a>, at: Place, weight: &'a Option<Expr>) ->
             count.tally = count.tally.with_expression(1)?;
             Ok(())
         }
-        Some(expr) => put(count, Left::Expression(Source::Value(expr)), at),
+        Some(expr) => put(count, Left::Expression(Phrase::Value(expr)), at),
     }
 }
 
@@ -467,7 +468,7 @@ fn take_groups<'a>(
     ensures within { OnOk result ((least : ℕ) → AreWithin least at.len (waiting count.old) → AreWithin least at.len (waiting count.new)) }
 {
     match groups.split_first() {
-        None => put(count, Left::Trace(Source::Trace(body)), at),
+        None => put(count, Left::Trace(Phrase::Trace(body)), at),
         Some((group, rest)) => {
             let locals = Locals {
                 group,
@@ -521,20 +522,20 @@ fn take_trace<'a>(
     count: &mut Count<'a>,
     scope: &mut Scope<'a>,
     at: Place,
-    source: Source<'a>,
+    phrase: Phrase<'a>,
 ) -> Result<(), Memory>
     requires len { at.len ≡ length (rows scope.old) }
     requires environment { at.environment ≤ at.len }
     requires within { AreWithin 0 (length (rows scope.old)) (waiting count.old) }
     requires right { AreRight (rows scope.old) }
-    ensures figures { OnOk result ((decimals : ℕ) (f : Figure) → sum_of decimals (rows scope.new) f count.new ≡ counted count.old.tally f + left_then decimals (rows scope.old) f at.environment at.depth (Left.Trace source.entry) (pending_figure decimals (rows scope.old) f (waiting count.old)) (numbers_view count.old.numbers)) }
+    ensures figures { OnOk result ((decimals : ℕ) (f : Figure) → sum_of decimals (rows scope.new) f count.new ≡ counted count.old.tally f + left_then decimals (rows scope.old) f at.environment at.depth (Left.Trace phrase.entry) (pending_figure decimals (rows scope.old) f (waiting count.old)) (numbers_view count.old.numbers)) }
     ensures within { OnOk result ((least : ℕ) → AreWithin least (length (rows scope.old)) (waiting count.old) → AreWithin least (length (rows scope.new)) (waiting count.new)) }
     ensures adds { OnOk result (AddsTo (rows scope.old) (rows scope.new)) }
     ensures right { OnOk result (AreRight (rows scope.new)) }
 {
     let position = Position::Trace(count.numbers);
-    let head = head_of(scope, position, at.environment, source)?;
-    put_trace(count, at.depth, scope.len(), head)?;
+    let form = reduce(scope, position, at.environment, phrase)?;
+    put_trace(count, at.depth, scope.len(), form)?;
     Ok(())
 }
 
@@ -543,20 +544,20 @@ fn take_expression<'a>(
     count: &mut Count<'a>,
     scope: &mut Scope<'a>,
     at: Place,
-    source: Source<'a>,
+    phrase: Phrase<'a>,
 ) -> Result<(), Memory>
     requires len { at.len ≡ length (rows scope.old) }
     requires environment { at.environment ≤ at.len }
     requires within { AreWithin 0 (length (rows scope.old)) (waiting count.old) }
     requires right { AreRight (rows scope.old) }
     ensures figures { OnOk result ((decimals : ℕ) (f : Figure) → sum_of decimals (rows scope.new) f count.new ≡ counted count.old.tally f
-        + left_then decimals (rows scope.old) f at.environment at.depth (Left.Expression source.entry) (pending_figure decimals (rows scope.old) f (waiting count.old)) (numbers_view count.old.numbers)) }
+        + left_then decimals (rows scope.old) f at.environment at.depth (Left.Expression phrase.entry) (pending_figure decimals (rows scope.old) f (waiting count.old)) (numbers_view count.old.numbers)) }
     ensures within { OnOk result ((least : ℕ) → AreWithin least (length (rows scope.old)) (waiting count.old) → AreWithin least (length (rows scope.new)) (waiting count.new)) }
     ensures adds { OnOk result (AddsTo (rows scope.old) (rows scope.new)) }
     ensures right { OnOk result (AreRight (rows scope.new)) }
 {
-    let head = head_of(scope, Position::Expression, at.environment, source)?;
-    put_expression(count, at.depth, scope.len(), head)?;
+    let form = reduce(scope, Position::Expression, at.environment, phrase)?;
+    put_expression(count, at.depth, scope.len(), form)?;
     Ok(())
 }
 
@@ -643,8 +644,8 @@ fn take<'a>(
     ensures right { OnOk result (AreRight (rows scope.new)) }
 {
     match left {
-        Left::Trace(source) => take_trace(count, scope, at, source),
-        Left::Expression(source) => take_expression(count, scope, at, source),
+        Left::Trace(phrase) => take_trace(count, scope, at, phrase),
+        Left::Expression(phrase) => take_expression(count, scope, at, phrase),
         Left::Alternatives(alternatives) => {
             take_alternatives(count, at, alternatives)?;
             Ok(())
@@ -736,7 +737,7 @@ fn put_variables<'a>(
     requires right { AreRight (rows scope.old) }
     ensures figures { OnOk result ((decimals : ℕ) (f : Figure) (n : NumbersBefore) → sum_from decimals (rows scope.new) f count.new n ≡ sum_from decimals (rows scope.old) f count.old n + variables_figure f (groups_variables role 0 (environment_of (meant decimals) (rows scope.old) outer) (groups_of (map group_of groups.now)))) }
     ensures visible { IfOk result (λ v. (decimals : ℕ) → environment_of (meant decimals) (rows scope.new) v.environment ≡ with_groups role 0 (groups_of (map group_of groups.now)) (environment_of (meant decimals) (rows scope.old) outer)) }
-    ensures next { IfOk result (λ v. (n : ℕ) (env : Environment Sense) → v.next ≡ length (groups_variables role n env (groups_of (map group_of groups.now)))) }
+    ensures next { IfOk result (λ v. (n : ℕ) (env : Environment Denotation) → v.next ≡ length (groups_variables role n env (groups_of (map group_of groups.now)))) }
     ensures inside { IfOk result (λ v. v.environment ≤ length (rows scope.new)) }
     ensures numbers { OnOk result (count.new.numbers ≡ count.old.numbers) }
     ensures within { OnOk result ((least : ℕ) → AreWithin least (length (rows scope.old)) (waiting count.old) → AreWithin least (length (rows scope.new)) (waiting count.new)) }
@@ -785,7 +786,7 @@ pub(crate) fn passed_limit<'a>(
         depth: 1,
         len: scope.len(),
     };
-    put(&mut count, Left::Trace(Source::Trace(&node.body)), at)?;
+    put(&mut count, Left::Trace(Phrase::Trace(&node.body)), at)?;
     run(&mut count, scope)?;
     scope.truncate(base);
     Ok(count.tally.limit(inputs.next, outputs.next))

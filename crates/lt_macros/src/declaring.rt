@@ -4,17 +4,17 @@ ghost use Rattle.std.specs.Prelude.{◌≡◌, ◌≤◌, ◌++◌, ◌∷◌, [
 ghost use Rattle.lt_ast.specs.View.{argument, groupings, macro, word, words};
 ghost use Rattle.lt_ast.specs.inner.Rows.{group_of};
 ghost use Rattle.lt_macros.specs.Environment.{with_arguments, with_exceptions};
-ghost use Rattle.lt_macros.specs.Senses.{Sense, group_names, groups_names, parameter_names};
-ghost use Rattle.lt_macros.specs.inner.Binding.{Binds, name_text, parameters_view};
+ghost use Rattle.lt_macros.specs.Denotation.{Denotation, group_names, groups_names, parameter_names};
+ghost use Rattle.lt_macros.specs.inner.Parameters.{Binds, name_text, parameters_view};
 ghost use Rattle.lt_macros.specs.inner.Handing.{AreRight};
-ghost use Rattle.lt_macros.specs.inner.Heads.{AddsTo};
+ghost use Rattle.lt_macros.specs.inner.HeadNormalForm.{AddsTo};
 ghost use Rattle.lt_macros.specs.inner.Leads.{IsReached, IsReachedBy, LeadsTo, cover_index, cover_with, is_plain, parameters, with_macro};
-ghost use Rattle.lt_macros.specs.inner.Reading.{Reading, environment as environment_of, is_chosen, source_view};
+ghost use Rattle.lt_macros.specs.inner.Reading.{Reading, environment as environment_of, is_chosen, phrase_view};
 ghost use Rattle.lt_macros.specs.inner.Rows.{rows};
 
-use crate::looks::{Look, look_at, source_of_argument, source_of_body};
-use crate::naming::{handed_on, reached_by};
-use crate::scope::{Before, Entity, Entry, Handed, Reached, Scope, Source, Target};
+use crate::resolution::{handed_on, reached_by};
+use crate::scope::{Before, Binding, Entry, Handed, Phrase, Reached, Scope, Target};
+use crate::shape::{Shape, phrase_of_argument, phrase_of_body, shape_of};
 use lt_ast::{Arg, Group, Groups, MacroDecl, Name, Names, Span};
 use lt_formula::Memory;
 use std::alloc::Global;
@@ -78,7 +78,7 @@ pub(crate) fn bind<'a>(
     requires outer { outer ≤ length (rows scope.old) }
     requires written { written ≤ length (rows scope.old) }
     requires right { AreRight (rows scope.old) }
-    ensures sense { IfOk result (λ number. (r : Reading Sense) → Binds r (rows scope.old) (rows scope.new) (map name_text params.now) (map argument args.now) outer written number) }
+    ensures denotation { IfOk result (λ number. (r : Reading Denotation) → Binds r (rows scope.old) (rows scope.new) (map name_text params.now) (map argument args.now) outer written number) }
     ensures work { IfOk result (λ number. (r : Reading ℕ) → Binds r (rows scope.old) (rows scope.new) (map name_text params.now) (map argument args.now) outer written number) }
     ensures within { IfOk result (λ number. number ≤ length (rows scope.new)) }
     ensures adds { OnOk result (AddsTo (rows scope.old) (rows scope.new)) }
@@ -93,7 +93,7 @@ pub(crate) fn bind<'a>(
         environment = scope.push(Entry {
             name: &param.text,
             outer: environment,
-            entity: Entity::Argument(source_of_argument(arg), written),
+            binding: Binding::Argument(phrase_of_argument(arg), written),
         })?;
         args = others;
     }
@@ -108,7 +108,7 @@ fn put_parameters<'a>(
 ) -> Result<usize, Memory>
     requires outer { outer ≤ length (rows scope.old) }
     requires right { AreRight (rows scope.old) }
-    ensures sense { IfOk result (λ number. (r : Reading Sense) → environment_of r (rows scope.new) number ≡ with_arguments (map name_text params.now) (parameters r.parameter (length (rows scope.old)) (map name_text params.now)) (environment_of r (rows scope.old) outer)) }
+    ensures denotation { IfOk result (λ number. (r : Reading Denotation) → environment_of r (rows scope.new) number ≡ with_arguments (map name_text params.now) (parameters r.parameter (length (rows scope.old)) (map name_text params.now)) (environment_of r (rows scope.old) outer)) }
     ensures work { IfOk result (λ number. (r : Reading ℕ) → environment_of r (rows scope.new) number ≡ with_arguments (map name_text params.now) (parameters r.parameter (length (rows scope.old)) (map name_text params.now)) (environment_of r (rows scope.old) outer)) }
     ensures within { IfOk result (λ number. number ≤ length (rows scope.new)) }
     ensures adds { OnOk result (AddsTo (rows scope.old) (rows scope.new)) }
@@ -120,7 +120,7 @@ fn put_parameters<'a>(
         environment = scope.push(Entry {
             name: &param.text,
             outer: environment,
-            entity: Entity::Parameter(number),
+            binding: Binding::Parameter(number),
         })?;
     }
     Ok(environment)
@@ -136,7 +136,7 @@ pub(crate) fn put_exception<'a>(
     requires outer { outer ≤ length (rows scope.old) }
     requires before { IsTrue (is_chosen (length (rows scope.old)) before) }
     requires right { AreRight (rows scope.old) }
-    ensures sense { IfOk result (λ number. (r : Reading Sense) → environment_of r (rows scope.new) number ≡ with_exceptions (r.terms_before before) (word name.now ∷ []) (environment_of r (rows scope.old) outer)) }
+    ensures denotation { IfOk result (λ number. (r : Reading Denotation) → environment_of r (rows scope.new) number ≡ with_exceptions (r.terms_before before) (word name.now ∷ []) (environment_of r (rows scope.old) outer)) }
     ensures work { IfOk result (λ number. (r : Reading ℕ) → environment_of r (rows scope.new) number ≡ with_exceptions (r.terms_before before) (word name.now ∷ []) (environment_of r (rows scope.old) outer)) }
     ensures within { IfOk result (λ number. number ≤ length (rows scope.new)) }
     ensures adds { OnOk result (AddsTo (rows scope.old) (rows scope.new)) }
@@ -145,7 +145,7 @@ pub(crate) fn put_exception<'a>(
     Ok(scope.push(Entry {
         name: &name.text,
         outer,
-        entity: Entity::Exception(name.span.start, before),
+        binding: Binding::Exception(name.span.start, before),
     })?)
 }
 
@@ -159,7 +159,7 @@ pub(crate) fn put_exceptions<'a>(
     requires outer { outer ≤ length (rows scope.old) }
     requires before { IsTrue (is_chosen (length (rows scope.old)) before) }
     requires right { AreRight (rows scope.old) }
-    ensures sense { IfOk result (λ number. (r : Reading Sense) → environment_of r (rows scope.new) number ≡ with_exceptions (r.terms_before before) (words names.now) (environment_of r (rows scope.old) outer)) }
+    ensures denotation { IfOk result (λ number. (r : Reading Denotation) → environment_of r (rows scope.new) number ≡ with_exceptions (r.terms_before before) (words names.now) (environment_of r (rows scope.old) outer)) }
     ensures work { IfOk result (λ number. (r : Reading ℕ) → environment_of r (rows scope.new) number ≡ with_exceptions (r.terms_before before) (words names.now) (environment_of r (rows scope.old) outer)) }
     ensures within { IfOk result (λ number. number ≤ length (rows scope.new)) }
     ensures adds { OnOk result (AddsTo (rows scope.old) (rows scope.new)) }
@@ -182,7 +182,8 @@ fn cover_index(cover: Option<usize>, count: usize) -> usize
     }
 }
 
-// .. where it may be that there is one more.
+// Behind how many entries the exceptions are declared that stand around a phrase, if there are some, where one more
+// may stand there.
 fn cover_with(cover: Option<usize>, covered: bool, count: usize) -> Option<usize>
     ensures { result ≡ cover_with cover covered count }
 {
@@ -193,12 +194,12 @@ fn cover_with(cover: Option<usize>, covered: bool, count: usize) -> Option<usize
 }
 
 // Whether a name is no macro.
-fn is_plain(entity: Entity<'_>) -> bool
-    ensures { result ≡ is_plain entity.entry }
+fn is_plain(binding: Binding<'_>) -> bool
+    ensures { result ≡ is_plain binding.entry }
 {
-    match entity {
-        Entity::Variable(_, _) | Entity::Argument(_, _) | Entity::Parameter(_) => true,
-        Entity::Macro(_, _) | Entity::Exception(_, _) => false,
+    match binding {
+        Binding::Variable(_, _) | Binding::Argument(_, _) | Binding::Parameter(_) => true,
+        Binding::Macro(_, _) | Binding::Exception(_, _) => false,
     }
 }
 
@@ -216,7 +217,7 @@ fn target_led(scope: &Scope<'_>, led: Led, before: usize, count: usize) -> Optio
             covered,
         }));
     }
-    let Entity::Parameter(parameter) = scope.newest(led.environment)?.entity else {
+    let Binding::Parameter(parameter) = scope.newest(led.environment)?.binding else {
         return None;
     };
     let place = parameter.checked_sub(before)?;
@@ -248,7 +249,7 @@ pub(crate) fn declare<'a>(
 ) -> Result<usize, Memory>
     requires within { environment ≤ length (rows scope.old) }
     requires right { AreRight (rows scope.old) }
-    ensures sense { IfOk result (λ number. (r : Reading Sense) → environment_of r (rows scope.new) number ≡ with_macro r (macro declared.now) (environment_of r (rows scope.old) environment)) }
+    ensures denotation { IfOk result (λ number. (r : Reading Denotation) → environment_of r (rows scope.new) number ≡ with_macro r (macro declared.now) (environment_of r (rows scope.old) environment)) }
     ensures work { IfOk result (λ number. (r : Reading ℕ) → environment_of r (rows scope.new) number ≡ with_macro r (macro declared.now) (environment_of r (rows scope.old) environment)) }
     ensures within { IfOk result (λ number. number ≤ length (rows scope.new)) }
     ensures adds { OnOk result (AddsTo (rows scope.old) (rows scope.new)) }
@@ -257,13 +258,13 @@ pub(crate) fn declare<'a>(
     let before = scope.len();
     let params = parameters_of(scope.alloc(), &declared.params)?;
     let inner = put_parameters(scope, environment, &params)?;
-    let led = led_to(scope, inner, source_of_body(&declared.body))?;
+    let led = led_to(scope, inner, phrase_of_body(&declared.body))?;
     let handed = handed_by(scope, led, before, params.len());
     scope.truncate(before);
     Ok(scope.push(Entry {
         name: &declared.name.text,
         outer: environment,
-        entity: Entity::Macro(declared, handed),
+        binding: Binding::Macro(declared, handed),
     })?)
 }
 
@@ -272,51 +273,51 @@ pub(crate) fn declare<'a>(
 fn led_to<'a>(
     scope: &mut Scope<'a>,
     environment: usize,
-    source: Source<'a>,
+    phrase: Phrase<'a>,
 ) -> Result<Option<Led>, Memory>
     requires within { environment ≤ length (rows scope.old) }
     requires right { AreRight (rows scope.old) }
-    ensures leads { IfOk result (λ led. IfSome led (LeadsTo (rows scope.old) (rows scope.new) environment (source_view source.entry))) }
+    ensures leads { IfOk result (λ led. IfSome led (LeadsTo (rows scope.old) (rows scope.new) environment (phrase_view phrase.entry))) }
     ensures adds { OnOk result (AddsTo (rows scope.old) (rows scope.new)) }
     ensures right { OnOk result (AreRight (rows scope.new)) }
 {
     let mut environment = environment;
-    let mut source = source;
+    let mut phrase = phrase;
     let mut cover = None;
     loop {
-        match look_at(source) {
-            Look::Cover(inner) => source = inner,
-            Look::Let(declared, body) => {
+        match shape_of(phrase) {
+            Shape::Cover(inner) => phrase = inner,
+            Shape::Let(declared, body) => {
                 environment = declare(scope, environment, declared)?;
-                source = Source::Trace(body);
+                phrase = Phrase::Trace(body);
             }
-            Look::Exceptions(names, body) => {
+            Shape::Exceptions(names, body) => {
                 let index = cover_index(cover, scope.len());
                 let before = Before::Chosen(index);
                 environment = put_exceptions(scope, environment, names, before)?;
-                source = Source::Trace(body);
+                phrase = Phrase::Trace(body);
                 cover = Some(index);
             }
-            Look::Use(used) => {
+            Shape::Use(used) => {
                 let reached = reached_by(scope, environment, used);
                 let named = cover_with(cover, reached.covered, scope.len());
                 let Some(entry) = scope.newest(reached.environment) else {
                     return Ok(None);
                 };
-                if is_plain(entry.entity) {
+                if is_plain(entry.binding) {
                     return Ok(Some(Led {
                         environment: reached.environment,
                         at: reached.at,
                         cover: named,
                     }));
                 }
-                let Some(handed) = handed_on(entry.entity, used.args) else {
+                let Some(handed) = handed_on(entry.binding, used.args) else {
                     return Ok(None);
                 };
-                source = source_of_argument(handed.argument);
+                phrase = phrase_of_argument(handed.argument);
                 cover = cover_with(named, handed.covered, scope.len());
             }
-            Look::Pre(_, _) | Look::Trap(_, _, _) | Look::Head => return Ok(None),
+            Shape::Pre(_, _) | Shape::Trap(_, _, _) | Shape::HeadNormalForm => return Ok(None),
         }
     }
 }

@@ -4,18 +4,18 @@ ghost use Rattle.std.specs.Prelude.{◌≡◌, ◌≤◌, IfOk, OnOk, length};
 ghost use Rattle.lt_ast.specs.Syntax as s;
 ghost use Rattle.lt_ast.specs.View.{exp};
 ghost use Rattle.lt_num.specs.Bounds.{most_decimals};
-ghost use Rattle.lt_macros.specs.Senses.{as_expression};
+ghost use Rattle.lt_macros.specs.Denotation.{as_expression};
 ghost use Rattle.lt_macros.specs.inner.Handing.{AreRight};
-ghost use Rattle.lt_macros.specs.inner.Heads.{IsWithin, head_reads};
+ghost use Rattle.lt_macros.specs.inner.HeadNormalForm.{IsWithin, form_reads};
 ghost use Rattle.lt_macros.specs.inner.Phrase.{value};
-ghost use Rattle.lt_macros.specs.inner.Reading.{environment as environment_of, meant, source_view};
+ghost use Rattle.lt_macros.specs.inner.Reading.{environment as environment_of, meant, phrase_view};
 ghost use Rattle.lt_macros.specs.inner.Rows.{rows};
 ghost use Rattle.lt_macros.specs.Tree.{placed};
 
-use crate::heads::{Head, head_of};
+use crate::head_normal_form::{HeadNormalForm, reduce};
 use crate::literals::{binary_operator, meaningless, number_at, unary_operator};
 use crate::position::Position;
-use crate::scope::{Scope, Source};
+use crate::scope::{Phrase, Scope};
 use crate::tree::Placed;
 use lt_ast::{BinOp, Expr, Span, UnOp};
 use lt_formula::Memory;
@@ -30,17 +30,17 @@ pub(crate) fn build_expr<'a>(
     scope: &mut Scope<'a>,
     decimals: u32,
     environment: usize,
-    source: Source<'a>,
+    phrase: Phrase<'a>,
 ) -> Result<Placed, Memory>
     requires few { decimals ≤ most_decimals }
     requires within { environment ≤ length (rows scope.old) }
     requires right { AreRight (rows scope.old) }
-    ensures tree { IfOk result (λ e. placed e ≡ as_expression ((meant decimals).phrase (environment_of (meant decimals) (rows scope.old) environment) (source_view source.entry))) }
+    ensures tree { IfOk result (λ e. placed e ≡ as_expression ((meant decimals).phrase (environment_of (meant decimals) (rows scope.old) environment) (phrase_view phrase.entry))) }
     ensures kept { OnOk result (rows scope.new ≡ rows scope.old) }
 {
     let before = scope.len();
-    let head = head_of(scope, Position::Expression, environment, source)?;
-    let expr = build_expr_head(alloc, scope, decimals, head)?;
+    let form = reduce(scope, Position::Expression, environment, phrase)?;
+    let expr = build_expr_form(alloc, scope, decimals, form)?;
     scope.truncate(before);
     Ok(expr)
 }
@@ -48,27 +48,27 @@ pub(crate) fn build_expr<'a>(
 // What is met as an expression; a trace means nothing there.
 #[cycle(build_expr)]
 #[inline(never)]
-pub(crate) fn build_expr_head<'a>(
+pub(crate) fn build_expr_form<'a>(
     alloc: Global,
     scope: &mut Scope<'a>,
     decimals: u32,
-    head: Head<'a>,
+    form: HeadNormalForm<'a>,
 ) -> Result<Placed, Memory>
     requires few { decimals ≤ most_decimals }
-    requires within { IsWithin (length (rows scope.old)) head }
+    requires within { IsWithin (length (rows scope.old)) form }
     requires right { AreRight (rows scope.old) }
-    ensures tree { IfOk result (λ e. placed e ≡ as_expression (head_reads (meant decimals) (rows scope.old) head.entry)) }
+    ensures tree { IfOk result (λ e. placed e ≡ as_expression (form_reads (meant decimals) (rows scope.old) form.entry)) }
     ensures kept { OnOk result (rows scope.new ≡ rows scope.old) }
 {
-    match head {
-        Head::Variable(role, place, at) => Ok(Placed::Variable(role, place, at)),
-        Head::Previous(role, place, at) => Ok(Placed::Previous(role, place, at)),
-        Head::Number(literal) => number_at(alloc, decimals, literal),
-        Head::Flag(flag, at) => Ok(Placed::Constant(Kind::Bool, Value::Bool(flag), at)),
-        Head::Unary(operator, part, at, environment) => {
+    match form {
+        HeadNormalForm::Variable(role, place, at) => Ok(Placed::Variable(role, place, at)),
+        HeadNormalForm::Previous(role, place, at) => Ok(Placed::Previous(role, place, at)),
+        HeadNormalForm::Number(literal) => number_at(alloc, decimals, literal),
+        HeadNormalForm::Flag(flag, at) => Ok(Placed::Constant(Kind::Bool, Value::Bool(flag), at)),
+        HeadNormalForm::Unary(operator, part, at, environment) => {
             build_unary(alloc, scope, decimals, environment, operator, part, at)
         }
-        Head::Binary(operator, left, right, at, environment) => {
+        HeadNormalForm::Binary(operator, left, right, at, environment) => {
             build_binary(
                 alloc,
                 scope,
@@ -80,7 +80,7 @@ pub(crate) fn build_expr_head<'a>(
                 at,
             )
         }
-        Head::If(condition, holds, otherwise, at, environment) => {
+        HeadNormalForm::If(condition, holds, otherwise, at, environment) => {
             build_if(
                 alloc,
                 scope,
@@ -92,16 +92,16 @@ pub(crate) fn build_expr_head<'a>(
                 at,
             )
         }
-        Head::Meaningless
-        | Head::Nothing
-        | Head::Joined(_, _, _, _)
-        | Head::Loop(_, _, _)
-        | Head::Choice(_, _)
-        | Head::Raise(_, _)
-        | Head::Assert(_, _, _)
-        | Head::Exist(_, _, _)
-        | Head::Catch(_, _, _, _)
-        | Head::Try(_, _, _) => Ok(meaningless()),
+        HeadNormalForm::Meaningless
+        | HeadNormalForm::Nothing
+        | HeadNormalForm::Joined(_, _, _, _)
+        | HeadNormalForm::Loop(_, _, _)
+        | HeadNormalForm::Choice(_, _)
+        | HeadNormalForm::Raise(_, _)
+        | HeadNormalForm::Assert(_, _, _)
+        | HeadNormalForm::Exist(_, _, _)
+        | HeadNormalForm::Catch(_, _, _, _)
+        | HeadNormalForm::Try(_, _, _) => Ok(meaningless()),
     }
 }
 
@@ -192,6 +192,6 @@ fn build_part<'a>(
     ensures tree { IfOk result (λ e. placed e.value ≡ as_expression ((meant decimals).phrase (environment_of (meant decimals) (rows scope.old) environment) (value (exp part.now)))) }
     ensures kept { OnOk result (rows scope.new ≡ rows scope.old) }
 {
-    let part = build_expr(alloc, scope, decimals, environment, Source::Value(part))?;
+    let part = build_expr(alloc, scope, decimals, environment, Phrase::Value(part))?;
     Ok(Box::new(alloc, part)?)
 }

@@ -8,29 +8,29 @@
 #![tactic(auto)]
 
 mod build;
+mod constructors;
 mod counting;
 mod declarations;
 mod declaring;
-mod expanding;
+mod expansion;
 mod expressions;
-mod heads;
+mod head_normal_form;
 mod index;
 mod key;
 mod laws;
 mod limit;
 mod literals;
-mod looks;
-mod meeting;
-mod naming;
 mod numbers;
 mod position;
 mod refusal;
+mod resolution;
 mod scope;
+mod shape;
 mod tally;
 mod tree;
 mod variables;
 
-pub use expanding::expanded_node;
+pub use expansion::expanded_node;
 pub use laws::{locals_are_inside, names_are_there, parts_are_numbered};
 pub use limit::Limit;
 pub use refusal::NodeRefusal;

@@ -1,7 +1,7 @@
 //! What stands before a place of an expansion.
 
 ghost use Rattle.std.specs.Prelude.{◌≡◌, ◌≤◌, ◌+◌, ◌-◌, IfOk, OnOk};
-ghost use Rattle.lt_macros.specs.Senses.{behind_counter, behind_local, behind_term};
+ghost use Rattle.lt_macros.specs.Denotation.{behind_counter, behind_local, behind_term};
 ghost use Rattle.lt_macros.specs.inner.Numbers.{numbers_view};
 
 use lt_formula::Memory;

@@ -2,9 +2,9 @@
 
 ghost use Rattle.std.specs.Prelude.{◌≡◌, ◌<◌, ◌≤◌, Some, slice_get, ◌+◌, ◌-◌, ℕ, drop, IfOk, IfSome, IsTrue, OnErr, OnOk, [], ◌∷◌, reverse, length};
 ghost use Rattle.lt_macros.specs.Environment.{found_exception};
-ghost use Rattle.lt_macros.specs.Senses.{Sense};
+ghost use Rattle.lt_macros.specs.Denotation.{Denotation};
 ghost use Rattle.lt_macros.specs.inner.Handing.{AreRight, IsRight};
-ghost use Rattle.lt_macros.specs.inner.Heads.{AddsTo};
+ghost use Rattle.lt_macros.specs.inner.HeadNormalForm.{AddsTo};
 ghost use Rattle.lt_macros.specs.inner.Hidden.{AreKeyed, key_in, kind_of, newest_below, outer_in, run_from, run_of};
 ghost use Rattle.lt_macros.specs.inner.Keyed.{keys};
 ghost use Rattle.lt_macros.specs.inner.Reading.{IsFound, IsNewest, Reading, are_linked, environment as environment_of, declared_by, is_linked, is_name, raised_by};
@@ -15,9 +15,9 @@ use lt_ast::{Braced, Expr, MacroDecl, Span, TraceExpr};
 use lt_formula::Role;
 use std::alloc::{AllocError, Global};
 
-/// What is expanded.
+/// A phrase: what is expanded.
 #[derive(Clone, Copy)]
-pub(crate) enum Source<'a> {
+pub(crate) enum Phrase<'a> {
     /// An expression.
     Value(&'a Expr),
 
@@ -97,14 +97,14 @@ pub(crate) enum Before {
     Chosen(usize),
 }
 
-/// What a name stands for.
+/// What a name is bound to.
 #[derive(Clone, Copy)]
-pub(crate) enum Entity<'a> {
+pub(crate) enum Binding<'a> {
     /// A variable of a role, by its place among those.
     Variable(Role, u32),
 
     /// A parameter: its argument, and the environment in which that is written.
-    Argument(Source<'a>, usize),
+    Argument(Phrase<'a>, usize),
 
     /// A parameter of a macro that is looked at without arguments, by the number of entries before it.
     Parameter(usize),
@@ -127,7 +127,7 @@ pub(crate) struct Entry<'a> {
     pub(crate) outer: usize,
 
     /// What it stands for.
-    pub(crate) entity: Entity<'a>,
+    pub(crate) binding: Binding<'a>,
 }
 
 /// The declaration of an exception.
@@ -191,7 +191,7 @@ impl<'a> Scope<'a> {
     {
         let key = Key {
             run: self.run_from(entry.outer),
-            kind: kind_of(entry.entity),
+            kind: kind_of(entry.binding),
             name: entry.name,
         };
         self.entries.push(entry)?;
@@ -219,7 +219,7 @@ impl<'a> Scope<'a> {
     // The environment whose newest name a name is in an environment: 0 where it is unknown.
     pub(crate) fn number(&self, environment: usize, name: &str) -> usize
         requires { environment ≤ length (rows self.now) }
-        ensures sense { (r : Reading Sense) → IsFound r (rows self.now) environment name.now result }
+        ensures denotation { (r : Reading Denotation) → IsFound r (rows self.now) environment name.now result }
         ensures work { (r : Reading ℕ) → IsFound r (rows self.now) environment name.now result }
         ensures within { result ≤ length (rows self.now) }
     {
@@ -257,16 +257,16 @@ impl<'a> Scope<'a> {
     // The entry of the newest name of an environment.
     pub(crate) fn newest(&self, number: usize) -> Option<Entry<'a>>
         requires { number ≤ length (rows self.now) }
-        ensures sense { (r : Reading Sense) → IsNewest r (rows self.now) number result }
+        ensures denotation { (r : Reading Denotation) → IsNewest r (rows self.now) number result }
         ensures work { (r : Reading ℕ) → IsNewest r (rows self.now) number result }
         ensures linked { IfSome result (λ entry. IsTrue (is_linked (length (rows self.now)) entry)) }
-        ensures name { IfSome result (λ entry. IsTrue (is_name entry.entity)) }
+        ensures name { IfSome result (λ entry. IsTrue (is_name entry.binding)) }
         ensures right { AreRight (rows self.now) → IfSome result (IsRight (rows self.now)) }
     {
         let mut environment = number;
         while environment > 0 {
             let entry = self.entries[environment - 1];
-            if is_name(entry.entity) {
+            if is_name(entry.binding) {
                 return Some(entry);
             }
             environment = entry.outer;
@@ -278,7 +278,7 @@ impl<'a> Scope<'a> {
     #[inline(never)]
     pub(crate) fn exception(&self, environment: usize, name: &str) -> Option<Declared<'a>>
         requires { environment ≤ length (rows self.now) }
-        ensures { (r : Reading Sense) → found_exception (environment_of r (rows self.now) environment).exceptions name.now ≡ raised_by r result }
+        ensures { (r : Reading Denotation) → found_exception (environment_of r (rows self.now) environment).exceptions name.now ≡ raised_by r result }
     {
         let mut environment = environment;
         while environment > 0 {
@@ -306,17 +306,17 @@ impl<'a> Scope<'a> {
 }
 
 // Whether what a name stands for is no exception.
-fn is_name(entity: Entity<'_>) -> bool
-    ensures { result ≡ is_name entity.entry }
+fn is_name(binding: Binding<'_>) -> bool
+    ensures { result ≡ is_name binding.entry }
 {
-    !matches!(entity, Entity::Exception(_, _))
+    !matches!(binding, Binding::Exception(_, _))
 }
 
 // The kind of the name of what it stands for.
-fn kind_of(entity: Entity<'_>) -> NameKind
-    ensures { result ≡ kind_of (is_name entity.entry) }
+fn kind_of(binding: Binding<'_>) -> NameKind
+    ensures { result ≡ kind_of (is_name binding.entry) }
 {
-    if is_name(entity) {
+    if is_name(binding) {
         NameKind::Name
     } else {
         NameKind::Exception
@@ -325,10 +325,10 @@ fn kind_of(entity: Entity<'_>) -> NameKind
 
 // The declaration of an exception of this name, where an entry is one.
 fn declared_as<'a>(entry: Entry<'a>, name: &str) -> Option<Declared<'a>>
-    ensures { result ≡ declared_by name.now entry.entry entry.entry.entity }
+    ensures { result ≡ declared_by name.now entry.entry entry.entry.binding }
 {
-    match entry.entity {
-        Entity::Exception(place, before) => {
+    match entry.binding {
+        Binding::Exception(place, before) => {
             if name == entry.name {
                 Some(Declared {
                     name: entry.name,
@@ -339,9 +339,9 @@ fn declared_as<'a>(entry: Entry<'a>, name: &str) -> Option<Declared<'a>>
                 None
             }
         }
-        Entity::Variable(_, _)
-        | Entity::Argument(_, _)
-        | Entity::Parameter(_)
-        | Entity::Macro(_, _) => None,
+        Binding::Variable(_, _)
+        | Binding::Argument(_, _)
+        | Binding::Parameter(_)
+        | Binding::Macro(_, _) => None,
     }
 }

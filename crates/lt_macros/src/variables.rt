@@ -6,9 +6,9 @@ ghost use Rattle.lt_ast.specs.inner.Rows.{maybe_exp};
 ghost use Rattle.lt_num.specs.Bounds.{most_decimals};
 ghost use Rattle.lt_macros.specs.Environment.{Environment, parameter, variable, with_name, with_variables};
 ghost use Rattle.lt_macros.specs.Expansion.{groups_variables, with_groups};
-ghost use Rattle.lt_macros.specs.Senses.{declared_as, first_of};
+ghost use Rattle.lt_macros.specs.Denotation.{declared_as, first_of};
 ghost use Rattle.lt_macros.specs.inner.Handing.{AreRight};
-ghost use Rattle.lt_macros.specs.inner.Heads.{AddsTo};
+ghost use Rattle.lt_macros.specs.inner.HeadNormalForm.{AddsTo};
 ghost use Rattle.lt_macros.specs.inner.Reading.{environment as environment_of, meant, worked};
 ghost use Rattle.lt_macros.specs.inner.Rows.{rows};
 ghost use Rattle.lt_macros.specs.Tree.{declared as declared_view, placed};
@@ -16,7 +16,7 @@ ghost use Rattle.lt_macros.specs.inner.Work.{groups_work, with_ones};
 
 use crate::expressions::build_expr;
 use crate::literals::{kind_of, range_of};
-use crate::scope::{Entity, Entry, Scope, Source};
+use crate::scope::{Binding, Entry, Phrase, Scope};
 use crate::tree::{Declared, Placed};
 use lt_ast::{Expr, Group, Groups, Name};
 use lt_formula::{Memory, Role};
@@ -159,7 +159,7 @@ fn build_first<'a>(
     match first {
         None => Ok(None),
         Some(expr) => {
-            let first = build_expr(alloc, scope, decimals, environment, Source::Value(expr))?;
+            let first = build_expr(alloc, scope, decimals, environment, Phrase::Value(expr))?;
             Ok(Some(first))
         }
     }
@@ -210,7 +210,7 @@ pub(crate) fn show_name<'a>(
     let number = scope.push(Entry {
         name: &name.text,
         outer,
-        entity: Entity::Variable(role, place),
+        binding: Binding::Variable(role, place),
     })?;
     Ok(number)
 }

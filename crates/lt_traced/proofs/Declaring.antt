@@ -10,9 +10,9 @@ use Rattle.lt_formula.specs.declared.role.Role.{Role}
 use Rattle.lt_formula.specs.declared.role.Role.TheVariants as role
 use Rattle.lt_macros.specs.Placed as p
 use Rattle.lt_macros.specs.Expanded.{Declared, Bounds, Expanded, eps, dead, con, raise, seq, loop, count, any, pri, par, assert, exist, catch, try, Parts, no_part, part, Node}
-use Rattle.lt_macros.specs.Environment.{Entity, variable, parameter, macro, Raised, deadlock, declared, Binding, Environment, at_start, found, found_exception, with_name, with_arguments, with_variables, with_exceptions}
+use Rattle.lt_macros.specs.Environment.{Binding, variable, parameter, macro, Raised, deadlock, declared, NamedBinding, Environment, at_start, found, found_exception, with_name, with_arguments, with_variables, with_exceptions}
 use Rattle.lt_macros.specs.Expansion.{expanded_node, group_variables, groups_variables, with_group, with_groups, node_of, is_wanted, node_among}
-use Rattle.lt_macros.specs.Senses.{Numbers, Numbered, behind_term, behind_local, behind_counter, Sense, expression, trace, as_trace, standing_for, before, macro_name, parameter_names, declared_as, first_of, group_names, caught_as, raised_as, repeated, bounds_of, in_locals, in_group, in_groups, caught, exp_sense, argument_sense, argument_senses, braces_sense, alternative_sense, parts_of, traces_sense, handler_sense, meaning_sense, macro_sense, trace_sense}
+use Rattle.lt_macros.specs.Denotation.{Numbers, Numbered, behind_term, behind_local, behind_counter, Denotation, expression, trace, as_trace, standing_for, before, macro_name, parameter_names, declared_as, first_of, group_names, caught_as, raised_as, repeated, bounds_of, in_locals, in_group, in_groups, caught, exp_denotation, argument_denotation, argument_denotations, braces_denotation, alternative_denotation, parts_of, traces_denotation, handler_denotation, meaning_denotation, macro_denotation, trace_denotation}
 use Rattle.lt_traced.proofs.Words.{AreOnLines, IsOnLine, front, back}
 
 -- ---- locals
@@ -55,46 +55,46 @@ pub each_append : (P : Declared → Type 0) (ds es : List Declared) → Each P d
 each_append P [] es g h = h
 each_append P (d ∷ ds) es g h = (g.0, each_append P ds es g.1 h)
 
--- ---- senses
+-- ---- denotations
 
--- a sense declares only locals whose names are on lines
-abbrev IsLinedSense : Sense → Type 0
-IsLinedSense (expression e) = Unit {0}
-IsLinedSense (trace f) = (n : Numbers) → HaveLines (f n).expanded
+-- a denotation declares only locals whose names are on lines
+abbrev IsLinedDenotation : Denotation → Type 0
+IsLinedDenotation (expression e) = Unit {0}
+IsLinedDenotation (trace f) = (n : Numbers) → HaveLines (f n).expanded
 
-abbrev AreLinedSenses : List Sense → Type 0
-AreLinedSenses [] = Unit {0}
-AreLinedSenses (x ∷ xs) = IsLinedSense x × AreLinedSenses xs
+abbrev AreLinedDenotations : List Denotation → Type 0
+AreLinedDenotations [] = Unit {0}
+AreLinedDenotations (x ∷ xs) = IsLinedDenotation x × AreLinedDenotations xs
 
--- a macro keeps senses so
-abbrev IsLinedEntity : Entity Sense → Type 0
-IsLinedEntity (variable r i) = Unit {0}
-IsLinedEntity (parameter x) = IsLinedSense x
-IsLinedEntity (macro f) = (xs : List Sense) → AreLinedSenses xs → IsLinedSense (f xs)
+-- a macro keeps denotations so
+abbrev IsLinedBinding : Binding Denotation → Type 0
+IsLinedBinding (variable r i) = Unit {0}
+IsLinedBinding (parameter x) = IsLinedDenotation x
+IsLinedBinding (macro f) = (xs : List Denotation) → AreLinedDenotations xs → IsLinedDenotation (f xs)
 
-abbrev IsLinedOption : Option (Entity Sense) → Type 0
+abbrev IsLinedOption : Option (Binding Denotation) → Type 0
 IsLinedOption None = Unit {0}
-IsLinedOption (Some x) = IsLinedEntity x
+IsLinedOption (Some x) = IsLinedBinding x
 
-abbrev AreLinedNames : List (Binding Sense) → Type 0
+abbrev AreLinedNames : List (NamedBinding Denotation) → Type 0
 AreLinedNames [] = Unit {0}
-AreLinedNames (b ∷ bs) = IsLinedEntity b.entity × AreLinedNames bs
+AreLinedNames (b ∷ bs) = IsLinedBinding b.binding × AreLinedNames bs
 
-one_of : (b : Bool) (x : Entity Sense) (o : Option (Entity Sense)) → IsLinedEntity x → IsLinedOption o → IsLinedOption (if b then Some x else o)
+one_of : (b : Bool) (x : Binding Denotation) (o : Option (Binding Denotation)) → IsLinedBinding x → IsLinedOption o → IsLinedOption (if b then Some x else o)
 one_of true x o f g = f
 one_of false x o f g = g
 
-found_lined : (bs : List (Binding Sense)) (name : List ℕ) → AreLinedNames bs → IsLinedOption (found bs name)
+found_lined : (bs : List (NamedBinding Denotation)) (name : List ℕ) → AreLinedNames bs → IsLinedOption (found bs name)
 found_lined [] name h = tt
-found_lined (b ∷ bs) name h = one_of (bytes_eq name b.name) b.entity (found bs name) h.0 (found_lined bs name h.1)
+found_lined (b ∷ bs) name h = one_of (bytes_eq name b.name) b.binding (found bs name) h.0 (found_lined bs name h.1)
 
-standing_lined : (at : Span) (o : Option (Entity Sense)) (xs : List Sense) → IsLinedOption o → AreLinedSenses xs → IsLinedSense (standing_for at o xs)
+standing_lined : (at : Span) (o : Option (Binding Denotation)) (xs : List Denotation) → IsLinedOption o → AreLinedDenotations xs → IsLinedDenotation (standing_for at o xs)
 standing_lined at None xs h g = tt
 standing_lined at (Some (variable r i)) xs h g = tt
 standing_lined at (Some (parameter x)) xs h g = h
 standing_lined at (Some (macro f)) xs h g = h xs g
 
-before_lined : (at : Span) (x : Sense) → IsLinedSense (before at x)
+before_lined : (at : Span) (x : Denotation) → IsLinedDenotation (before at x)
 before_lined at (expression (p.constant k v there)) = tt
 before_lined at (expression (p.variable r i there)) = tt
 before_lined at (expression (p.previous r i there)) = tt
@@ -103,20 +103,20 @@ before_lined at (expression (p.binary op d e there)) = tt
 before_lined at (expression (p.choice c d e there)) = tt
 before_lined at (trace f) = tt
 
-bound_lined : (ns : List (List ℕ)) (xs : List Sense) (env : Environment Sense) → AreLinedSenses xs → AreLinedNames env.names → AreLinedNames (with_arguments ns xs env).names
+bound_lined : (ns : List (List ℕ)) (xs : List Denotation) (env : Environment Denotation) → AreLinedDenotations xs → AreLinedNames env.names → AreLinedNames (with_arguments ns xs env).names
 bound_lined [] xs env g h = h
 bound_lined (n ∷ ns) [] env g h = h
 bound_lined (n ∷ ns) (x ∷ xs) env g h = bound_lined ns xs (with_name n (parameter x) env) g.1 (g.0, h)
 
-exceptions_lined : (terms : ℕ) (ws : List Word) (env : Environment Sense) → AreLinedNames env.names → AreLinedNames (with_exceptions terms ws env).names
+exceptions_lined : (terms : ℕ) (ws : List Word) (env : Environment Denotation) → AreLinedNames env.names → AreLinedNames (with_exceptions terms ws env).names
 exceptions_lined terms [] env h = h
 exceptions_lined terms (w ∷ ws) env h = exceptions_lined terms ws _ h
 
-variables_lined : (r : Role) (i : ℕ) (ws : List Word) (env : Environment Sense) → AreLinedNames env.names → AreLinedNames (with_variables r i ws env).names
+variables_lined : (r : Role) (i : ℕ) (ws : List Word) (env : Environment Denotation) → AreLinedNames env.names → AreLinedNames (with_variables r i ws env).names
 variables_lined r i [] env h = h
 variables_lined r i (w ∷ ws) env h = variables_lined r (suc i) ws (with_name w.text (variable r i) env) (tt, h)
 
-as_lined : (x : Sense) (n : Numbers) → IsLinedSense x → HaveLines (as_trace x n).expanded
+as_lined : (x : Denotation) (n : Numbers) → IsLinedDenotation x → HaveLines (as_trace x n).expanded
 as_lined (expression e) n h = tt
 as_lined (trace f) n h = h n
 
@@ -157,10 +157,10 @@ other_groups s.no_groups h = tt
 other_groups (s.one_group g gs) h = h.1
 
 -- a trace that a place in a text stands for, wherever the names are so
-abbrev IsLinedBody : (Environment Sense → Numbers → Numbered) → Type 0
-IsLinedBody body = (env : Environment Sense) → AreLinedNames env.names → (n : Numbers) → HaveLines (body env n).expanded
+abbrev IsLinedBody : (Environment Denotation → Numbers → Numbered) → Type 0
+IsLinedBody body = (env : Environment Denotation) → AreLinedNames env.names → (n : Numbers) → HaveLines (body env n).expanded
 
-locals_lined : (declares : Word → Declared) → ((w : Word) → (declares w).name ≡ w.text) → (ws : List Word) (env : Environment Sense) (body : Environment Sense → Numbers → Numbered) → IsLinedBody body → AreWords ws
+locals_lined : (declares : Word → Declared) → ((w : Word) → (declares w).name ≡ w.text) → (ws : List Word) (env : Environment Denotation) (body : Environment Denotation → Numbers → Numbered) → IsLinedBody body → AreWords ws
     → AreLinedNames env.names → (n : Numbers) → HaveLines (in_locals declares ws env body n).expanded
 locals_lined declares named [] env body h words g n = h env g n
 locals_lined declares named (w ∷ ws) env body h words g n = (
@@ -168,12 +168,12 @@ locals_lined declares named (w ∷ ws) env body h words g n = (
   locals_lined declares named ws (with_name w.text (variable role.Local n.local) env) body h words.1 (tt, g) (behind_local n),
 )
 
-group_lined : (env : Environment Sense) (gr : Grouping) (body : Environment Sense → Numbers → Numbered) → IsLinedBody body → AreOnLines (grouping_tokens gr) → AreLinedNames env.names → (n : Numbers)
+group_lined : (env : Environment Denotation) (gr : Grouping) (body : Environment Denotation → Numbers → Numbered) → IsLinedBody body → AreOnLines (grouping_tokens gr) → AreLinedNames env.names → (n : Numbers)
     → HaveLines (in_group env gr body n).expanded
 group_lined env (s.grouping ws type ref range first) body h on g n =
     locals_lined (declared_as role.Local env type range (first_of env first)) (λ w. refl) ws env body h (are_words ws (front (names_tokens ws) _ on)) g n
 
-groups_lined : (env : Environment Sense) (gs : Groupings) (body : Environment Sense → Numbers → Numbered) → IsLinedBody body → AreOnLines (groupings_tokens gs) → AreLinedNames env.names → (n : Numbers)
+groups_lined : (env : Environment Denotation) (gs : Groupings) (body : Environment Denotation → Numbers → Numbered) → IsLinedBody body → AreOnLines (groupings_tokens gs) → AreLinedNames env.names → (n : Numbers)
     → HaveLines (in_groups env gs body n).expanded
 groups_lined env s.no_groups body h on g n = h env g n
 groups_lined env (s.one_group gr gs) body h on g n =
@@ -181,13 +181,13 @@ groups_lined env (s.one_group gr gs) body h on g n =
 
 -- ---- phrases
 
-caught_lined : (env : Environment Sense) (w : Word) (x : Trace) (h : MaybeTrace) → IsLinedSense (trace_sense env x) → IsLinedSense (handler_sense env h) → (n : Numbers)
-    → HaveLines (caught w env (λ inner. as_trace (trace_sense inner x)) (λ inner. as_trace (handler_sense inner h)) n).expanded
+caught_lined : (env : Environment Denotation) (w : Word) (x : Trace) (h : MaybeTrace) → IsLinedDenotation (trace_denotation env x) → IsLinedDenotation (handler_denotation env h) → (n : Numbers)
+    → HaveLines (caught w env (λ inner. as_trace (trace_denotation inner x)) (λ inner. as_trace (handler_denotation inner h)) n).expanded
 caught_lined env w x h f g n =
-    caught_joins (found_exception env.exceptions w.text) (as_trace (trace_sense env x) (behind_term n)).expanded
-    (as_trace (handler_sense env h) (as_trace (trace_sense env x) (behind_term n)).after).expanded
-    (as_lined (trace_sense env x) (behind_term n) f)
-    (as_lined (handler_sense env h) _ g)
+    caught_joins (found_exception env.exceptions w.text) (as_trace (trace_denotation env x) (behind_term n)).expanded
+    (as_trace (handler_denotation env h) (as_trace (trace_denotation env x) (behind_term n)).after).expanded
+    (as_lined (trace_denotation env x) (behind_term n) f)
+    (as_lined (handler_denotation env h) _ g)
 
 other_arguments : (args : Arguments) → AreOnLines (more_arguments args) → AreOnLines (arguments_tokens args)
 other_arguments s.no_arguments h = tt
@@ -198,86 +198,86 @@ other_alternatives s.no_alternatives h = tt
 other_alternatives (s.alternative a rest) h = h.1
 
 mutual
-  exp_lined : (env : Environment Sense) (e : Exp) → AreLinedNames env.names → AreOnLines (exp_tokens e) → IsLinedSense (exp_sense env e)
+  exp_lined : (env : Environment Denotation) (e : Exp) → AreLinedNames env.names → AreOnLines (exp_tokens e) → IsLinedDenotation (exp_denotation env e)
   exp_lined env (s.number f) h on = tt
   exp_lined env (s.flag b at) h on = tt
   exp_lined env (s.named w) h on = standing_lined w.span (found env.names w.text) [] (found_lined env.names w.text h) tt
   exp_lined env (s.called w args) h on =
-      standing_lined w.span (found env.names w.text) (argument_senses env args) (found_lined env.names w.text h) (arguments_lined env args h (front (arguments_tokens args) _ on.1.1))
+      standing_lined w.span (found env.names w.text) (argument_denotations env args) (found_lined env.names w.text h) (arguments_lined env args h (front (arguments_tokens args) _ on.1.1))
   exp_lined env (s.pre w at) h on = before_lined at (standing_for w.span (found env.names w.text) [])
   exp_lined env (s.paren e at) h on = exp_lined env e h (front (exp_tokens e) _ on.1)
   exp_lined env (s.unary op e at) h on = tt
   exp_lined env (s.binary op d e at) h on = tt
   exp_lined env (s.choose c d e at) h on = tt
 
-  argument_lined : (env : Environment Sense) (a : Argument) → AreLinedNames env.names → AreOnLines (argument_tokens a) → IsLinedSense (argument_sense env a)
+  argument_lined : (env : Environment Denotation) (a : Argument) → AreLinedNames env.names → AreOnLines (argument_tokens a) → IsLinedDenotation (argument_denotation env a)
   argument_lined env (s.value_argument e) h on = exp_lined env e h on
   argument_lined env (s.trace_argument b at) h on = braces_lined env b h (front (braced_tokens b) _ on.1)
 
-  arguments_lined : (env : Environment Sense) (args : Arguments) → AreLinedNames env.names → AreOnLines (arguments_tokens args) → AreLinedSenses (argument_senses env args)
+  arguments_lined : (env : Environment Denotation) (args : Arguments) → AreLinedNames env.names → AreOnLines (arguments_tokens args) → AreLinedDenotations (argument_denotations env args)
   arguments_lined env s.no_arguments h on = tt
   arguments_lined env (s.argument a rest) h on = (
     argument_lined env a h (front (argument_tokens a) (more_arguments rest) on),
     arguments_lined env rest h (other_arguments rest (back (argument_tokens a) (more_arguments rest) on)),
   )
 
-  braces_lined : (env : Environment Sense) (b : Braces) → AreLinedNames env.names → AreOnLines (braced_tokens b) → IsLinedSense (braces_sense env b)
+  braces_lined : (env : Environment Denotation) (b : Braces) → AreLinedNames env.names → AreOnLines (braced_tokens b) → IsLinedDenotation (braces_denotation env b)
   braces_lined env (s.plain x) h on = trace_lined env x h on
   braces_lined env (s.choice lead ps) h on = λ n. parts_lined env ps h (back (marked_if lead t.Bar) (alternatives_tokens ps) on) (behind_term n)
   braces_lined env (s.priority lead xs) h on = traces_lined env pri (λ x y g h. (g, h)) t.Priority xs h (back (marked_if lead t.Priority) (traces_tokens t.Priority xs) on)
   braces_lined env (s.parallel lead xs) h on = traces_lined env par (λ x y g h. (g, h)) t.Parallel xs h (back (marked_if lead t.Parallel) (traces_tokens t.Parallel xs) on)
 
-  alternative_lined : (env : Environment Sense) (a : Alternative) → AreLinedNames env.names → AreOnLines (alternative_tokens a) → IsLinedSense (alternative_sense env a)
+  alternative_lined : (env : Environment Denotation) (a : Alternative) → AreLinedNames env.names → AreOnLines (alternative_tokens a) → IsLinedDenotation (alternative_denotation env a)
   alternative_lined env (s.unweighted x) h on = trace_lined env x h on
   alternative_lined env (s.weighted e x) h on = let behind = back (exp_tokens e) _ on in trace_lined env x h behind.1
 
-  parts_lined : (env : Environment Sense) (ps : Alternatives) → AreLinedNames env.names → AreOnLines (alternatives_tokens ps) → (n : Numbers) → EachLocalIn IsLined (parts_of env ps n).parts
+  parts_lined : (env : Environment Denotation) (ps : Alternatives) → AreLinedNames env.names → AreOnLines (alternatives_tokens ps) → (n : Numbers) → EachLocalIn IsLined (parts_of env ps n).parts
   parts_lined env s.no_alternatives h on n = tt
   parts_lined env (s.alternative a rest) h on n = (
-    as_lined (alternative_sense env a) n (alternative_lined env a h (front (alternative_tokens a) (more_alternatives rest) on)),
-    parts_lined env rest h (other_alternatives rest (back (alternative_tokens a) (more_alternatives rest) on)) (as_trace (alternative_sense env a) n).after,
+    as_lined (alternative_denotation env a) n (alternative_lined env a h (front (alternative_tokens a) (more_alternatives rest) on)),
+    parts_lined env rest h (other_alternatives rest (back (alternative_tokens a) (more_alternatives rest) on)) (as_trace (alternative_denotation env a) n).after,
   )
 
-  traces_lined : (env : Environment Sense) (f : Expanded → Expanded → Expanded) → Joins f → (sign : Sign) (xs : Traces) → AreLinedNames env.names → AreOnLines (traces_tokens sign xs) → IsLinedSense (traces_sense env f xs)
+  traces_lined : (env : Environment Denotation) (f : Expanded → Expanded → Expanded) → Joins f → (sign : Sign) (xs : Traces) → AreLinedNames env.names → AreOnLines (traces_tokens sign xs) → IsLinedDenotation (traces_denotation env f xs)
   traces_lined env f j sign s.no_traces h on = λ n. tt
   traces_lined env f j sign (s.one_trace x s.no_traces) h on = trace_lined env x h (front (trace_tokens x) (more_traces sign s.no_traces) on)
   traces_lined env f j sign (s.one_trace x (s.one_trace u us)) h on = λ n.
-      j (as_trace (trace_sense env x) (behind_term n)).expanded (as_trace (traces_sense env f (s.one_trace u us)) (as_trace (trace_sense env x) (behind_term n)).after).expanded
-      (as_lined (trace_sense env x) (behind_term n) (trace_lined env x h (front (trace_tokens x) (more_traces sign (s.one_trace u us)) on)))
+      j (as_trace (trace_denotation env x) (behind_term n)).expanded (as_trace (traces_denotation env f (s.one_trace u us)) (as_trace (trace_denotation env x) (behind_term n)).after).expanded
+      (as_lined (trace_denotation env x) (behind_term n) (trace_lined env x h (front (trace_tokens x) (more_traces sign (s.one_trace u us)) on)))
       (let behind = back (trace_tokens x) (more_traces sign (s.one_trace u us)) on in
-      as_lined (traces_sense env f (s.one_trace u us)) _ (traces_lined env f j sign (s.one_trace u us) h behind.1))
+      as_lined (traces_denotation env f (s.one_trace u us)) _ (traces_lined env f j sign (s.one_trace u us) h behind.1))
 
-  handler_lined : (env : Environment Sense) (h : MaybeTrace) → AreLinedNames env.names → AreOnLines (handler_tokens h) → IsLinedSense (handler_sense env h)
+  handler_lined : (env : Environment Denotation) (h : MaybeTrace) → AreLinedNames env.names → AreOnLines (handler_tokens h) → IsLinedDenotation (handler_denotation env h)
   handler_lined env s.no_trace g on = λ n. tt
   handler_lined env (s.a_trace x) g on = trace_lined env x g on.1
 
-  meaning_lined : (env : Environment Sense) (m : Meaning) → AreLinedNames env.names → AreOnLines (meaning_tokens m) → IsLinedSense (meaning_sense env m)
+  meaning_lined : (env : Environment Denotation) (m : Meaning) → AreLinedNames env.names → AreOnLines (meaning_tokens m) → IsLinedDenotation (meaning_denotation env m)
   meaning_lined env (s.trace_meaning x) h on = trace_lined env x h on
   meaning_lined env (s.value_meaning e) h on = exp_lined env e h on
 
-  macro_lined : (env : Environment Sense) (m : Macro) (xs : List Sense) → AreLinedNames env.names → AreOnLines (macro_rest m) → AreLinedSenses xs → IsLinedSense (macro_sense env m xs)
+  macro_lined : (env : Environment Denotation) (m : Macro) (xs : List Denotation) → AreLinedNames env.names → AreOnLines (macro_rest m) → AreLinedDenotations xs → IsLinedDenotation (macro_denotation env m xs)
   macro_lined env (s.macro w ps type m) xs h on g =
       let behind = back (parameters_tokens ps) _ on.1 in
       meaning_lined (with_arguments (parameter_names ps) xs env) m (bound_lined (parameter_names ps) xs env g h) behind.1.1.1
 
-  trace_lined : (env : Environment Sense) (x : Trace) → AreLinedNames env.names → AreOnLines (trace_tokens x) → IsLinedSense (trace_sense env x)
+  trace_lined : (env : Environment Denotation) (x : Trace) → AreLinedNames env.names → AreOnLines (trace_tokens x) → IsLinedDenotation (trace_denotation env x)
   trace_lined env (s.sequence xs) h on = traces_lined env seq (λ x y g h. (g, h)) t.Fby xs h on
   trace_lined env (s.braces b at) h on = braces_lined env b h (front (braced_tokens b) _ on.1)
   trace_lined env (s.loop l x) h on =
       let inner = back (limits_tokens l) (trace_tokens x) on.1 in
-      λ n. repeated_lined (bounds_of env l) (as_trace (trace_sense env x)) (λ m. as_lined (trace_sense env x) m (trace_lined env x h inner)) n
+      λ n. repeated_lined (bounds_of env l) (as_trace (trace_denotation env x)) (λ m. as_lined (trace_denotation env x) m (trace_lined env x h inner)) n
   trace_lined env (s.raise w) h on = λ n. raised_lined (found_exception env.exceptions w.text)
-  trace_lined env (s.assert e x) h on = let inner = back (exp_tokens e) _ on.1 in λ n. as_lined (trace_sense env x) (behind_term n) (trace_lined env x h inner.1)
+  trace_lined env (s.assert e x) h on = let inner = back (exp_tokens e) _ on.1 in λ n. as_lined (trace_denotation env x) (behind_term n) (trace_lined env x h inner.1)
   trace_lined env (s.exist gs x) h on =
       let inner = back (groupings_tokens gs) _ on.1 in
       λ n.
-      groups_lined env gs (λ inside. as_trace (trace_sense inside x)) (λ inside g m. as_lined (trace_sense inside x) m (trace_lined inside x g inner.1)) (front (groupings_tokens gs) _ on.1) h n
+      groups_lined env gs (λ inside. as_trace (trace_denotation inside x)) (λ inside g m. as_lined (trace_denotation inside x) m (trace_lined inside x g inner.1)) (front (groupings_tokens gs) _ on.1) h n
   trace_lined env (s.define m x) h on =
       let inner = back (macro_rest m) _ on.1 in
-      trace_lined (with_name (macro_name m) (macro (macro_sense env m)) env) x ((λ xs g. macro_lined env m xs h (front (macro_rest m) _ on.1) g), h) inner.1
+      trace_lined (with_name (macro_name m) (macro (macro_denotation env m)) env) x ((λ xs g. macro_lined env m xs h (front (macro_rest m) _ on.1) g), h) inner.1
   trace_lined env (s.exceptions ws x) h on =
       let inner = back (names_tokens ws) _ on.1 in
-      λ n. as_lined (trace_sense (with_exceptions n.term ws env) x) n (trace_lined (with_exceptions n.term ws env) x (exceptions_lined n.term ws env h) inner.1)
+      λ n. as_lined (trace_denotation (with_exceptions n.term ws env) x) n (trace_lined (with_exceptions n.term ws env) x (exceptions_lined n.term ws env h) inner.1)
   trace_lined env (s.catch w x k) h on =
       λ n.
       caught_lined env w x k (trace_lined env x h (front (trace_tokens x) (handler_tokens k) on.1.1.1)) (handler_lined env k h (back (trace_tokens x) (handler_tokens k) on.1.1.1)) n
@@ -286,8 +286,8 @@ mutual
       let inner = with_exceptions n.term (w ∷ []) env in
       caught_lined inner w x k (trace_lined inner x h (front (trace_tokens x) (handler_tokens k) on.1.1.1)) (handler_lined inner k h (back (trace_tokens x) (handler_tokens k) on.1.1.1)) n
   trace_lined env (s.try x k) h on = λ n. (
-    as_lined (trace_sense env x) (behind_term n) (trace_lined env x h (front (trace_tokens x) (handler_tokens k) on.1)),
-    as_lined (handler_sense env k) _ (handler_lined env k h (back (trace_tokens x) (handler_tokens k) on.1)),
+    as_lined (trace_denotation env x) (behind_term n) (trace_lined env x h (front (trace_tokens x) (handler_tokens k) on.1)),
+    as_lined (handler_denotation env k) _ (handler_lined env k h (back (trace_tokens x) (handler_tokens k) on.1)),
   )
   trace_lined env (s.value e) h on = exp_lined env e h on
 
@@ -297,19 +297,19 @@ words_declared : (declares : Word → Declared) → ((w : Word) → (declares w)
 words_declared declares named [] h = tt
 words_declared declares named (w ∷ ws) h = (subst IsOnLine (sym (named w)) h.0, words_declared declares named ws h.1)
 
-group_declared : (r : Role) (env : Environment Sense) (g : Grouping) → AreOnLines (grouping_tokens g) → Each IsLined (group_variables r env g)
+group_declared : (r : Role) (env : Environment Denotation) (g : Grouping) → AreOnLines (grouping_tokens g) → Each IsLined (group_variables r env g)
 group_declared r env (s.grouping ws type ref range first) on = words_declared (declared_as r env type range (first_of env first)) (λ w. refl) ws (are_words ws (front (names_tokens ws) _ on))
 
-groups_declared : (r : Role) (i : ℕ) (env : Environment Sense) (gs : Groupings) → AreOnLines (groupings_tokens gs) → Each IsLined (groups_variables r i env gs)
+groups_declared : (r : Role) (i : ℕ) (env : Environment Denotation) (gs : Groupings) → AreOnLines (groupings_tokens gs) → Each IsLined (groups_variables r i env gs)
 groups_declared r i env s.no_groups on = tt
 groups_declared r i env (s.one_group g gs) on =
     each_append IsLined (group_variables r env g) _ (group_declared r env g (front (grouping_tokens g) (more_groupings gs) on))
     (groups_declared r (i + length (group_names g)) (with_group r i g env) gs (other_groups gs (back (grouping_tokens g) (more_groupings gs) on)))
 
-group_known : (r : Role) (i : ℕ) (g : Grouping) (env : Environment Sense) → AreLinedNames env.names → AreLinedNames (with_group r i g env).names
+group_known : (r : Role) (i : ℕ) (g : Grouping) (env : Environment Denotation) → AreLinedNames env.names → AreLinedNames (with_group r i g env).names
 group_known r i (s.grouping ws type ref range first) env h = variables_lined r i ws env h
 
-groups_known : (r : Role) (i : ℕ) (gs : Groupings) (env : Environment Sense) → AreLinedNames env.names → AreLinedNames (with_groups r i gs env).names
+groups_known : (r : Role) (i : ℕ) (gs : Groupings) (env : Environment Denotation) → AreLinedNames env.names → AreLinedNames (with_groups r i gs env).names
 groups_known r i s.no_groups env h = h
 groups_known r i (s.one_group g gs) env h = groups_known r (i + length (group_names g)) gs (with_group r i g env) (group_known r i g env h)
 
@@ -319,7 +319,7 @@ pub record IsLinedNode (node : Node) : Type 0 where
   pub outputs : Each IsLined node.outputs
   pub body : EachLocal IsLined node.body
 
-node_lined : (env : Environment Sense) (w : Word) (ins outs : Groupings) (x : Trace) → AreLinedNames env.names → AreOnLines (declaration_tokens (s.node w ins outs x)) → IsLinedNode (node_of env w ins outs x)
+node_lined : (env : Environment Denotation) (w : Word) (ins outs : Groupings) (x : Trace) → AreLinedNames env.names → AreOnLines (declaration_tokens (s.node w ins outs x)) → IsLinedNode (node_of env w ins outs x)
 node_lined env w ins outs x h on =
     let inner = with_groups role.Input 0 ins env in
     let inside = with_groups role.Output 0 outs inner in
@@ -330,14 +330,14 @@ node_lined env w ins outs x h on =
     record {
       inputs = groups_declared role.Input 0 env ins (front (groupings_tokens ins) _ head.1);
       outputs = groups_declared role.Output 0 inner outs (front (groupings_tokens outs) _ results.1);
-      body = as_lined (trace_sense inside x) (record { term = 0; local = 0; counter = 0 }) (trace_lined inside x (groups_known role.Output 0 outs inner (groups_known role.Input 0 ins env h)) body.1);
+      body = as_lined (trace_denotation inside x) (record { term = 0; local = 0; counter = 0 }) (trace_lined inside x (groups_known role.Output 0 outs inner (groups_known role.Input 0 ins env h)) body.1);
     }
 
 one_holds : (P : Node → Type 0) (b : Bool) (one node : Node) (other : Option Node) → P one → (other ≡ Some node → P node) → (if b then Some one else other) ≡ Some node → P node
 one_holds P true one node other p q e = let same : one ≡ node = cc in subst P same p
 one_holds P false one node other p q e = q e
 
-among_lined : (env : Environment Sense) (wanted : Option (List ℕ)) (ds : List Declaration) (node : Node) → AreLinedNames env.names → AreOnLines (tokens_of ds) → node_among env wanted ds ≡ Some node → IsLinedNode node
+among_lined : (env : Environment Denotation) (wanted : Option (List ℕ)) (ds : List Declaration) (node : Node) → AreLinedNames env.names → AreOnLines (tokens_of ds) → node_among env wanted ds ≡ Some node → IsLinedNode node
 among_lined env wanted [] node h on e = absurd (cc)
 among_lined env wanted (s.node w ins outs x ∷ ds) node h on e =
     let here = front (declaration_tokens (s.node w ins outs x)) (tokens_of ds) on in
@@ -346,7 +346,7 @@ among_lined env wanted (s.node w ins outs x ∷ ds) node h on e =
 among_lined env wanted (s.macro_declaration m ∷ ds) node h on e =
     let here = front (declaration_tokens (s.macro_declaration m)) (tokens_of ds) on in
     let behind = back (declaration_tokens (s.macro_declaration m)) (tokens_of ds) on in
-    among_lined (with_name (macro_name m) (macro (macro_sense env m)) env) wanted ds node ((λ xs g. macro_lined env m xs h here.1 g), h) behind e
+    among_lined (with_name (macro_name m) (macro (macro_denotation env m)) env) wanted ds node ((λ xs g. macro_lined env m xs h here.1 g), h) behind e
 among_lined env wanted (s.exception_declaration ws ∷ ds) node h on e =
     among_lined (with_exceptions 0 ws env) wanted ds node (exceptions_lined 0 ws env h) (back (declaration_tokens (s.exception_declaration ws)) (tokens_of ds) on) e
 

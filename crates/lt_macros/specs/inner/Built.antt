@@ -4,7 +4,7 @@ use Rattle.lt_ast.specs.Syntax as s
 use Rattle.lt_ast.specs.Syntax.{Limits}
 use Rattle.lt_macros.specs.Expanded as x
 use Rattle.lt_macros.specs.Expanded.{Bounds, Declared, Expanded, Parts}
-use Rattle.lt_macros.specs.Senses.{Numbers, Numbered, NumberedParts, behind_counter, behind_term}
+use Rattle.lt_macros.specs.Denotation.{Numbers, Numbered, NumberedParts, behind_counter, behind_term}
 use Rattle.lt_macros.specs.inner.Numbers.{numbers_view}
 use Rattle.lt_macros.specs.Tree.{expanded, parts, placed}
 use Rattle.lt_macros.specs.declared.build.Boxed.{Boxed}
@@ -17,7 +17,7 @@ use Rattle.lt_macros.specs.declared.tree.Part.{Part}
 abbrev pub numbered : code.Numbered → Numbered
 numbered b = record { expanded = expanded b.expanded; after = numbers_view b.after }
 
--- .. in a box
+-- a trace in a box, and the numbers behind it
 abbrev pub boxed : Boxed → Numbered
 boxed b = record { expanded = expanded b.trace.value; after = numbers_view b.after }
 

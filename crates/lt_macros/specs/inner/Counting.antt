@@ -8,16 +8,16 @@ use Rattle.lt_ast.specs.declared.group.Group.{Group}
 use Rattle.lt_formula.specs.declared.role.Role.TheVariants as role
 use Rattle.lt_macros.specs.Environment.{Environment}
 use Rattle.lt_macros.specs.Expanded.{Declared}
-use Rattle.lt_macros.specs.Senses.{Numbers, Numbered, NumberedParts, Sense, as_trace, as_expression, declared_as, first_of, in_groups, in_locals, parts_of, trace_sense}
+use Rattle.lt_macros.specs.Denotation.{Numbers, Numbered, NumberedParts, Denotation, as_trace, as_expression, declared_as, first_of, in_groups, in_locals, parts_of, trace_denotation}
 use Rattle.lt_macros.specs.Limits.{most_nodes}
 use Rattle.lt_macros.specs.inner.Figures.{Figure, nodes, expanded_figure, expression_figure, parts_figure}
 use Rattle.lt_macros.specs.inner.Numbers.{numbers_view}
-use Rattle.lt_macros.specs.inner.Reading.{environment, meant, source_view}
+use Rattle.lt_macros.specs.inner.Reading.{environment, meant, phrase_view}
 use Rattle.lt_macros.specs.inner.Seen.{Seen, an_expression, a_trace}
 use Rattle.lt_macros.specs.inner.Tallies.{counted}
 use Rattle.lt_macros.specs.declared.tally.Tally.{Tally}
 use Rattle.lt_macros.specs.declared.scope.Entry.{Entry}
-use Rattle.lt_macros.specs.declared.scope.Source.{Source}
+use Rattle.lt_macros.specs.declared.scope.Phrase.{Phrase as CodePhrase}
 use Rattle.lt_macros.specs.declared.counting.Count.{Count}
 use Rattle.lt_macros.specs.declared.counting.Left.{Left}
 use Rattle.lt_macros.specs.declared.counting.Left.TheVariants.{Trace as TraceLeft, Expression, Alternatives, Groups, Names}
@@ -29,40 +29,40 @@ abbrev pub seen_then : Figure → ℕ → Seen → (Numbers → ℕ) → Numbers
 seen_then f depth (an_expression e) rest n = expression_figure f depth e + rest n
 seen_then f depth (a_trace x) rest n = expanded_figure f depth x.expanded + rest x.after
 
--- .. of a trace
+-- the figure of a trace at a depth, and then of what stands behind it
 abbrev pub trace_then : Figure → ℕ → Numbered → (Numbers → ℕ) → ℕ
 trace_then f depth x rest = expanded_figure f depth x.expanded + rest x.after
 
--- .. of alternatives
+-- the figure of alternatives at a depth, and then of what stands behind them
 abbrev pub parts_then : Figure → ℕ → NumberedParts → (Numbers → ℕ) → ℕ
 parts_then f depth ps rest = parts_figure f depth ps.parts + rest ps.after
 
 -- what is written in an environment among entries stands for this
-abbrev pub sense_at : ℕ → List Entry → ℕ → Source → Sense
-sense_at decimals rows k source = (meant decimals).phrase (environment (meant decimals) rows k) (source_view source)
+abbrev pub denotation_at : ℕ → List Entry → ℕ → CodePhrase → Denotation
+denotation_at decimals rows k phrase = (meant decimals).phrase (environment (meant decimals) rows k) (phrase_view phrase)
 
 -- what a name of a group declares
-abbrev pub group_declares : Environment Sense → Group → Word → Declared
+abbrev pub group_declares : Environment Denotation → Group → Word → Declared
 group_declares env g w = declared_as role.Local env g.kind (interval g.range) (first_of env (maybe_exp g.first)) w
 
 -- a trace with locals of groups
-abbrev pub groups_trace : Groupings → Trace → Environment Sense → Numbers → Numbered
-groups_trace gs t env = in_groups env gs (λ inner. as_trace (trace_sense inner t))
+abbrev pub groups_trace : Groupings → Trace → Environment Denotation → Numbers → Numbered
+groups_trace gs t env = in_groups env gs (λ inner. as_trace (trace_denotation inner t))
 
 -- a trace with locals of the names of a group that are left, whose first value is written in the first environment, and then of
 -- the groups that are left
-abbrev pub locals_trace : Locals → Environment Sense → Environment Sense → Numbers → Numbered
+abbrev pub locals_trace : Locals → Environment Denotation → Environment Denotation → Numbers → Numbered
 locals_trace l outer env = in_locals (group_declares outer l.group.now) (map word l.names.now) env (groups_trace (groups_of (map group_of l.groups.now)) (trace_view l.body.now))
 
 -- the figure of what is left in an environment at a depth, and then of what stands behind it
 abbrev pub left_then : ℕ → List Entry → Figure → ℕ → ℕ → Left → (Numbers → ℕ) → Numbers → ℕ
-left_then decimals rows f k depth (TraceLeft source) rest n = seen_then f depth (a_trace (as_trace (sense_at decimals rows k source) n)) rest n
-left_then decimals rows f k depth (Expression source) rest n = seen_then f depth (an_expression (as_expression (sense_at decimals rows k source))) rest n
+left_then decimals rows f k depth (TraceLeft phrase) rest n = seen_then f depth (a_trace (as_trace (denotation_at decimals rows k phrase) n)) rest n
+left_then decimals rows f k depth (Expression phrase) rest n = seen_then f depth (an_expression (as_expression (denotation_at decimals rows k phrase))) rest n
 left_then decimals rows f k depth (Alternatives parts) rest n = parts_then f depth (parts_of (environment (meant decimals) rows k) (alternatives_of (map part_of parts.now)) n) rest
 left_then decimals rows f k depth (Groups gs body) rest n = trace_then f depth (groups_trace (groups_of (map group_of gs.now)) (trace_view body.now) (environment (meant decimals) rows k) n) rest
 left_then decimals rows f k depth (Names l) rest n = trace_then f depth (locals_trace l (environment (meant decimals) rows l.outer) (environment (meant decimals) rows k) n) rest
 
--- .. where it stands on the list
+-- the figure of a part that is left, where it stands, and then of what stands behind it
 abbrev pub pending_then : ℕ → List Entry → Figure → Pending → (Numbers → ℕ) → Numbers → ℕ
 pending_then decimals rows f p rest n = left_then decimals rows f p.at.environment p.at.depth p.left rest n
 

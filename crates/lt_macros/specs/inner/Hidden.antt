@@ -67,7 +67,7 @@ run_from ks place outer = if nat_eq outer place then run_before ks place else pl
 
 -- what an entry at a place is found by
 abbrev pub key_of : List Key → ℕ → Entry → Key
-key_of ks place e = record { run = run_from ks place e.outer; kind = kind_of (is_name e.entity); name = e.name }
+key_of ks place e = record { run = run_from ks place e.outer; kind = kind_of (is_name e.binding); name = e.name }
 
 -- a name of a kind in the run of an environment
 abbrev pub key_in : List Key → ℕ → NameKind → Bor (List ℕ) → Key

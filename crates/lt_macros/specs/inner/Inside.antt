@@ -2,13 +2,13 @@
 -- place.
 use Rattle.std.specs.Prelude.{◌≡◌, ◌<◌, ℕ}
 use Rattle.lt_macros.specs.Environment.{Environment}
-use Rattle.lt_macros.specs.Senses.{Sense}
-use Rattle.lt_macros.specs.inner.Phrase.{Phrase, phrase_sense}
+use Rattle.lt_macros.specs.Denotation.{Denotation}
+use Rattle.lt_macros.specs.inner.Phrase.{Phrase, phrase_denotation}
 use Rattle.lt_macros.specs.inner.Work.{phrase_work}
 use Rattle.lt_macros.specs.inner.Size.{phrase_size}
 
 -- A phrase stands for what the inner one does, and is more.
 pub record IsInside (outer inner : Phrase) : Type 0 where
-  pub sense : (env : Environment Sense) → phrase_sense env outer ≡ phrase_sense env inner
+  pub denotation : (env : Environment Denotation) → phrase_denotation env outer ≡ phrase_denotation env inner
   pub work : (env : Environment ℕ) → phrase_work env inner < phrase_work env outer
   pub size : phrase_size inner < phrase_size outer

@@ -1,5 +1,5 @@
 -- What stands before a place, as the code has it.
-use Rattle.lt_macros.specs.Senses.{Numbers}
+use Rattle.lt_macros.specs.Denotation.{Numbers}
 use Rattle.lt_macros.specs.declared.numbers.Numbers as code
 
 -- how many terms, locals and counters stand before a place

@@ -4,7 +4,7 @@ use Rattle.lt_ast.specs.Syntax.{Exp, Argument, Trace, Traces, Braces, MaybeTrace
 use Rattle.lt_macros.specs.Environment.{Environment}
 use Rattle.lt_macros.specs.Expanded as x
 use Rattle.lt_macros.specs.Expanded.{Expanded}
-use Rattle.lt_macros.specs.Senses.{Sense, exp_sense, trace_sense, braces_sense, traces_sense, handler_sense}
+use Rattle.lt_macros.specs.Denotation.{Denotation, exp_denotation, trace_denotation, braces_denotation, traces_denotation, handler_denotation}
 use Rattle.lt_macros.specs.declared.scope.Join.{Join}
 use Rattle.lt_macros.specs.declared.scope.Join.TheVariants.{Seq, Pri, Par}
 
@@ -23,12 +23,12 @@ joined_by Pri = x.pri
 joined_by Par = x.par
 
 -- what it stands for
-abbrev pub phrase_sense : Environment Sense → Phrase → Sense
-phrase_sense env (value e) = exp_sense env e
-phrase_sense env (trace t) = trace_sense env t
-phrase_sense env (braces b) = braces_sense env b
-phrase_sense env (joined j ts) = traces_sense env (joined_by j) ts
-phrase_sense env (handler h) = handler_sense env h
+abbrev pub phrase_denotation : Environment Denotation → Phrase → Denotation
+phrase_denotation env (value e) = exp_denotation env e
+phrase_denotation env (trace t) = trace_denotation env t
+phrase_denotation env (braces b) = braces_denotation env b
+phrase_denotation env (joined j ts) = traces_denotation env (joined_by j) ts
+phrase_denotation env (handler h) = handler_denotation env h
 
 -- an argument
 abbrev pub argument_phrase : Argument → Phrase

@@ -1,6 +1,6 @@
 -- What is to be counted, wherever it stands.
 use Rattle.std.specs.Prelude.{ℕ, ◌+◌, List}
-use Rattle.lt_macros.specs.Senses.{Numbers}
+use Rattle.lt_macros.specs.Denotation.{Numbers}
 use Rattle.lt_macros.specs.inner.Counting.{pending_figure, waiting}
 use Rattle.lt_macros.specs.inner.Figures.{Figure}
 use Rattle.lt_macros.specs.inner.Tallies.{counted}

@@ -4,12 +4,12 @@ use Rattle.std.specs.declared.option.Option.{Option}
 use Rattle.std.specs.declared.option.Option.TheVariants.{None, Some}
 use Rattle.lt_ast.specs.Syntax as s
 use Rattle.lt_ast.specs.Syntax.{Word, Exp, Argument, Arguments, Limits, Braces, Alternative, Alternatives, Trace, Traces, Grouping, Groupings, MaybeExp, MaybeTrace, Meaning, Macro}
-use Rattle.lt_macros.specs.Environment.{Entity, variable, parameter, macro, Environment, found, with_name, with_arguments, with_exceptions}
-use Rattle.lt_macros.specs.Senses.{macro_name, parameter_names}
+use Rattle.lt_macros.specs.Environment.{Binding, variable, parameter, macro, Environment, found, with_name, with_arguments, with_exceptions}
+use Rattle.lt_macros.specs.Denotation.{macro_name, parameter_names}
 use Rattle.lt_macros.specs.inner.Phrase.{Phrase, value, trace, braces, joined, handler}
 
 -- what a name stands for, with arguments of so much work
-abbrev pub used : Option (Entity ℕ) → List ℕ → ℕ
+abbrev pub used : Option (Binding ℕ) → List ℕ → ℕ
 used None ws = 1
 used (Some (variable r i)) ws = 1
 used (Some (parameter work)) ws = work

@@ -3,12 +3,12 @@ use Rattle.std.proofs.lemmas.Result.{IfOk-weaker}
 use Rattle.lt_ast.specs.Syntax as s
 use Rattle.lt_ast.specs.View.{alternatives, exp, groupings, limits, trace as trace_view}
 use Rattle.lt_ast.specs.inner.Rows.{part_of}
-use Rattle.lt_macros.specs.Senses.{as_trace, behind_term, chosen, parts_of, trace_sense, traces_sense, weight_of}
-use Rattle.lt_macros.specs.declared.heads.Head.TheVariants.{Catch}
+use Rattle.lt_macros.specs.Denotation.{as_trace, behind_term, chosen, parts_of, trace_denotation, traces_denotation, weight_of}
+use Rattle.lt_macros.specs.declared.head_normal_form.HeadNormalForm.TheVariants.{Catch}
 use Rattle.lt_macros.specs.inner.Built.{in_all, numbered}
 use Rattle.lt_macros.specs.inner.Numbers.{numbers_view}
 use Rattle.lt_macros.specs.inner.Phrase.{joined_by, trace}
-use Rattle.lt_macros.specs.inner.Reading.{environment, meant, worked, source_view}
+use Rattle.lt_macros.specs.inner.Reading.{environment, meant, worked, phrase_view}
 use Rattle.lt_macros.specs.inner.Rows.{rows}
 use Rattle.lt_macros.specs.Tree.{bounds, declared, expanded}
 use Rattle.lt_macros.specs.inner.Work.{alternatives_work, trace_work}
@@ -25,7 +25,7 @@ build_boxed-returns-clause-tree t c =
 
 pub build_two-returns-clause-trees : goal.build_two-returns-clause-trees
 build_two-returns-clause-trees t c =
-    two_built c.args.decimals (rows c.args.scope.now) (rows c.build_boxed.new.scope) c.args.environment (source_view c.args.first) (source_view c.args.second) (numbers_view c.args.numbers) (numbers_view c.in_ok-inside.inside) c.in_ok-before.before c.in_ok-behind.behind
+    two_built c.args.decimals (rows c.args.scope.now) (rows c.build_boxed.new.scope) c.args.environment (phrase_view c.args.first) (phrase_view c.args.second) (numbers_view c.args.numbers) (numbers_view c.in_ok-inside.inside) c.in_ok-before.before c.in_ok-behind.behind
     (record { first = c.in_ok-before.before.trace; second = c.in_ok-behind.behind.trace; after = c.in_ok-behind.behind.after }) c.in_ok-before.ensures.kept c.in_ok-inside.ensures refl refl refl c.in_ok-before.ensures.tree c.in_ok-behind.ensures.tree
 
 pub build_loop-returns-clause-tree : goal.build_loop-returns-clause-tree
@@ -101,11 +101,11 @@ build_choice-build_parts-requires t c =
     search (rules, less)
 
 pub build_trace-returns-clause-tree : goal.build_trace-returns-clause-tree
-build_trace-returns-clause-tree t c = c.in_ok-built.ensures.tree ∙ seen_trace _ _ (c.in_ok-head.ensures.sense c.args.decimals)
+build_trace-returns-clause-tree t c = c.in_ok-built.ensures.tree ∙ seen_trace _ _ (c.in_ok-form.ensures.denotation c.args.decimals)
 
-pub build_trace_head-returns-in_ok-raised-in-Raise-clause-tree : goal.build_trace_head-returns-in_ok-raised-in-Raise-clause-tree
-build_trace_head-returns-in_ok-raised-in-Raise-clause-tree t c =
-    raise_built c.args.decimals (rows c.args.scope.now) c.args.head c.in-Raise.name c.in-Raise.environment (numbers_view c.args.numbers) c.exception.result c.deref.result.now c.in_ok-raised-in-Raise.raised c.put_alone-in-Raise.result
+pub build_trace_form-returns-in_ok-raised-in-Raise-clause-tree : goal.build_trace_form-returns-in_ok-raised-in-Raise-clause-tree
+build_trace_form-returns-in_ok-raised-in-Raise-clause-tree t c =
+    raise_built c.args.decimals (rows c.args.scope.now) c.args.form c.in-Raise.name c.in-Raise.environment (numbers_view c.args.numbers) c.exception.result c.deref.result.now c.in_ok-raised-in-Raise.raised c.put_alone-in-Raise.result
     c.in-Raise.is c.deref.ensures (c.exception.ensures (meant c.args.decimals)) (c.in_ok-raised-in-Raise.ensures c.args.decimals) c.put_alone-in-Raise.ensures
 
 pub build_catch-returns-clause-tree : goal.build_catch-returns-clause-tree
@@ -117,7 +117,7 @@ pub build_joined-returns-clause-tree : goal.build_joined-returns-clause-tree
 build_joined-returns-clause-tree t c =
     let env = environment (meant c.args.decimals) (rows c.args.scope.now) c.args.environment in
     c.put_joined.ensures
-    ∙ joined_built (joined_by c.args.join) c.in_ok-two.two (as_trace (trace_sense env (trace_view c.args.first.now)) (behind_term (numbers_view c.args.numbers))) (as_trace (traces_sense env (joined_by c.args.join) (traces_of (map trace_view c.args.rest.now)))) c.in_ok-two.ensures.trees
+    ∙ joined_built (joined_by c.args.join) c.in_ok-two.two (as_trace (trace_denotation env (trace_view c.args.first.now)) (behind_term (numbers_view c.args.numbers))) (as_trace (traces_denotation env (joined_by c.args.join) (traces_of (map trace_view c.args.rest.now)))) c.in_ok-two.ensures.trees
     ∙ joined_trace env (joined_by c.args.join) (trace_view c.args.first.now) c.args.rest.now (numbers_view c.args.numbers) c.requires.some
 
 pub build_choice-returns-clause-tree : goal.build_choice-returns-clause-tree
@@ -129,7 +129,7 @@ build_choice-returns-clause-tree t c =
     ∙ (λ i. chosen (parts_of env (list i) (c.in_ok-inside.ensures i)))
 
 pub build_trace-truncate-requires : goal.build_trace-truncate-requires
-build_trace-truncate-requires t c = enough _ _ _ _ c.in_ok-head.ensures.adds c.in_ok-built.ensures.kept c.len-before.ensures
+build_trace-truncate-requires t c = enough _ _ _ _ c.in_ok-form.ensures.adds c.in_ok-built.ensures.kept c.len-before.ensures
 
 pub build_trace-returns-clause-kept : goal.build_trace-returns-clause-kept
-build_trace-returns-clause-kept t c = same_back _ _ _ _ _ c.in_ok-head.ensures.adds c.in_ok-built.ensures.kept c.truncate.ensures.rows c.len-before.ensures
+build_trace-returns-clause-kept t c = same_back _ _ _ _ _ c.in_ok-form.ensures.adds c.in_ok-built.ensures.kept c.truncate.ensures.rows c.len-before.ensures

@@ -3,28 +3,28 @@ use Rattle.lt_ast.specs.Syntax as s
 use Rattle.lt_ast.specs.View.{alternatives, exp, groupings, limits, trace as trace_view, word}
 use Rattle.lt_ast.specs.inner.Lists.{alternatives_of, traces_of}
 use Rattle.lt_ast.specs.inner.Rows.{maybe_trace, part_of}
-use Rattle.lt_macros.specs.Senses.{parts_of}
+use Rattle.lt_macros.specs.Denotation.{parts_of}
 use Rattle.lt_macros.specs.inner.Built.{parts_onto}
-use Rattle.lt_macros.specs.inner.Heads.{head_reads}
+use Rattle.lt_macros.specs.inner.HeadNormalForm.{form_reads}
 use Rattle.lt_macros.specs.inner.Numbers.{numbers_view}
 use Rattle.lt_macros.specs.inner.Phrase.{braces, joined, trace}
-use Rattle.lt_macros.specs.inner.Reading.{environment, meant, worked, source_view}
+use Rattle.lt_macros.specs.inner.Reading.{environment, meant, worked, phrase_view}
 use Rattle.lt_macros.specs.inner.Rows.{rows}
 use Rattle.lt_macros.specs.inner.Work.{alternatives_work}
 use Rattle.lt_macros.proofs.build.+build_trace.Given as goal
 
 -- what is left to do is less
 abbrev pub decreases-build_trace : goal.decreases-build_trace
-decreases-build_trace l = 5 * worked.phrase (environment worked (rows l.scope.now) l.environment) (source_view l.source) + 3
+decreases-build_trace l = 5 * worked.phrase (environment worked (rows l.scope.now) l.environment) (phrase_view l.phrase) + 3
 
-abbrev pub decreases-build_trace_head : goal.decreases-build_trace_head
-decreases-build_trace_head l = 5 * head_reads worked (rows l.scope.now) l.head + 2
+abbrev pub decreases-build_trace_form : goal.decreases-build_trace_form
+decreases-build_trace_form l = 5 * form_reads worked (rows l.scope.now) l.form + 2
 
 abbrev pub decreases-build_two : goal.decreases-build_two
-decreases-build_two l = 5 * (worked.phrase (environment worked (rows l.scope.now) l.environment) (source_view l.first) + worked.phrase (environment worked (rows l.scope.now) l.environment) (source_view l.second)) + 5
+decreases-build_two l = 5 * (worked.phrase (environment worked (rows l.scope.now) l.environment) (phrase_view l.first) + worked.phrase (environment worked (rows l.scope.now) l.environment) (phrase_view l.second)) + 5
 
 abbrev pub decreases-build_boxed : goal.decreases-build_boxed
-decreases-build_boxed l = 5 * worked.phrase (environment worked (rows l.scope.now) l.environment) (source_view l.source) + 4
+decreases-build_boxed l = 5 * worked.phrase (environment worked (rows l.scope.now) l.environment) (phrase_view l.phrase) + 4
 
 abbrev pub decreases-build_loop : goal.decreases-build_loop
 decreases-build_loop l = 5 * worked.phrase (environment worked (rows l.scope.now) l.environment) (trace (s.loop (limits l.written.now) (trace_view l.body.now)))

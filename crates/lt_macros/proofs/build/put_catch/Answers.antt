@@ -1,6 +1,6 @@
 use Rattle.std.proofs.Common.{ap, sym, ◌∙◌}
 use Rattle.lt_macros.specs.Expanded as x
-use Rattle.lt_macros.specs.Senses.{caught_as}
+use Rattle.lt_macros.specs.Denotation.{caught_as}
 use Rattle.lt_macros.specs.inner.Built.{in_two}
 use Rattle.lt_macros.specs.inner.Reading.{meant, raised_by}
 use Rattle.lt_macros.proofs.build.put_catch.Goals as goal

@@ -1,6 +1,6 @@
 use Rattle.std.proofs.Common.{ap, sym, ◌∙◌}
 use Rattle.lt_macros.specs.Expanded as x
-use Rattle.lt_macros.specs.Senses.{raised_as}
+use Rattle.lt_macros.specs.Denotation.{raised_as}
 use Rattle.lt_macros.specs.inner.Reading.{meant, raised_by}
 use Rattle.lt_macros.proofs.build.put_raise.Goals as goal
 

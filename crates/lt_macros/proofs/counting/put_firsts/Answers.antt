@@ -1,7 +1,7 @@
 use Rattle.std.proofs.Common.{◌≡◌, ◌*◌, ℕ, length, refl, ap, arith}
 use Rattle.lt_ast.specs.View.{interval}
 use Rattle.lt_ast.specs.inner.Rows.{maybe_exp}
-use Rattle.lt_macros.specs.Senses.{declared_as, first_of}
+use Rattle.lt_macros.specs.Denotation.{declared_as, first_of}
 use Rattle.lt_macros.specs.inner.Figures.{first_figure}
 use Rattle.lt_macros.specs.inner.Reading.{environment, meant}
 use Rattle.lt_macros.proofs.Opened.{firsts_all}

@@ -1,6 +1,6 @@
 use Rattle.std.proofs.Common.{◌≡◌, ◌+◌, ◌*◌, ℕ, List}
 use Rattle.lt_ast.specs.inner.Rows.{maybe_exp}
-use Rattle.lt_macros.specs.Senses.{Numbers, first_of}
+use Rattle.lt_macros.specs.Denotation.{Numbers, first_of}
 use Rattle.lt_macros.specs.inner.Counting.{AreWithin, waiting}
 use Rattle.lt_macros.specs.inner.Started.{sum_from}
 use Rattle.lt_macros.specs.inner.Figures.{Figure, first_figure}

@@ -1,5 +1,5 @@
 use Rattle.std.proofs.Common.{◌≡◌, ap, ◌∙◌, arith}
-use Rattle.lt_macros.specs.Senses.{behind_local}
+use Rattle.lt_macros.specs.Denotation.{behind_local}
 use Rattle.lt_macros.specs.inner.Counting.{left_then, pending_figure, waiting}
 use Rattle.lt_macros.specs.inner.Numbers.{numbers_view}
 use Rattle.lt_macros.specs.inner.Tallies.{counted}

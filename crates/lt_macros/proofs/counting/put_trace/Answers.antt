@@ -12,7 +12,7 @@ returns-in-Joined-clause-figures c =
     (λ _ figures decimals rows f.
     figures decimals rows f
     ∙ ap (λ figure. counted c.args.count.now.tally f + figure)
-    (sym (joined_read decimals rows f c.args.depth c.args.len c.in-Joined.join c.in-Joined.first c.in-Joined.rest c.in-Joined.environment c.args.head (pending_figure decimals rows f (waiting c.args.count.now)) (numbers_view c.args.count.now.numbers) c.in-Joined.is c.requires)))
+    (sym (joined_read decimals rows f c.args.depth c.args.len c.in-Joined.join c.in-Joined.first c.in-Joined.rest c.in-Joined.environment c.args.form (pending_figure decimals rows f (waiting c.args.count.now)) (numbers_view c.args.count.now.numbers) c.in-Joined.is c.requires)))
     c.put_two.ensures.figures
 
 pub returns-in-Choice-clause-figures : goal.returns-in-Choice-clause-figures

@@ -3,12 +3,12 @@ use Rattle.lt_ast.specs.inner.Lists.{groups_of}
 use Rattle.lt_ast.specs.inner.Rows.{group_of}
 use Rattle.lt_macros.specs.Environment.{Environment}
 use Rattle.lt_macros.specs.Expansion.{groups_variables, with_groups}
-use Rattle.lt_macros.specs.Senses.{Numbers, Sense}
+use Rattle.lt_macros.specs.Denotation.{Numbers, Denotation}
 use Rattle.lt_macros.specs.inner.Counting.{AreWithin, waiting}
 use Rattle.lt_macros.specs.inner.Started.{sum_from}
 use Rattle.lt_macros.specs.inner.Figures.{Figure, variables_figure}
 use Rattle.lt_macros.specs.inner.Handing.{AreRight}
-use Rattle.lt_macros.specs.inner.Heads.{AddsTo}
+use Rattle.lt_macros.specs.inner.HeadNormalForm.{AddsTo}
 use Rattle.lt_macros.specs.inner.Reading.{environment, meant}
 use Rattle.lt_macros.specs.inner.Rows.{rows}
 use Rattle.lt_macros.proofs.counting.put_variables.Given as goal
@@ -24,7 +24,7 @@ invariant-loop-group l =
           (decimals : ℕ) → with_groups l.fn.role l.visible.next (groups_of (map group_of (drop l.group-index l.groups))) (environment (meant decimals) (rows l.scope) l.visible.environment)
           ≡ with_groups l.fn.role 0 (groups_of (map group_of l.groups)) (environment (meant decimals) (rows l.fn.scope) l.fn.outer);
       next :
-          (n m : ℕ) (env other : Environment Sense) → l.visible.next + length (groups_variables l.fn.role n env (groups_of (map group_of (drop l.group-index l.groups))))
+          (n m : ℕ) (env other : Environment Denotation) → l.visible.next + length (groups_variables l.fn.role n env (groups_of (map group_of (drop l.group-index l.groups))))
           ≡ length (groups_variables l.fn.role m other (groups_of (map group_of l.groups)));
       inside : l.visible.environment ≤ length (rows l.scope);
       numbers : l.count.numbers ≡ l.fn.count.numbers;

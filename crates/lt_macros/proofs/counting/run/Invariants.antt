@@ -2,7 +2,7 @@ use Rattle.std.proofs.Common.{◌≡◌, ℕ, List, length}
 use Rattle.lt_macros.specs.inner.Counting.{AreWithin, sum_of, waiting}
 use Rattle.lt_macros.specs.inner.Figures.{Figure}
 use Rattle.lt_macros.specs.inner.Handing.{AreRight}
-use Rattle.lt_macros.specs.inner.Heads.{AddsTo}
+use Rattle.lt_macros.specs.inner.HeadNormalForm.{AddsTo}
 use Rattle.lt_macros.specs.inner.Rows.{rows}
 use Rattle.lt_macros.specs.declared.scope.Entry.{Entry}
 use Rattle.lt_macros.proofs.counting.run.Given as goal

@@ -1,7 +1,7 @@
 use Rattle.std.proofs.Common.{ℕ, ◌+◌, ap, ◌∙◌, arith}
 use Rattle.lt_macros.specs.inner.Counting.{left_then, pending_figure, waiting}
 use Rattle.lt_ast.specs.inner.Rows.{maybe_exp}
-use Rattle.lt_macros.specs.Senses.{behind_local, first_of}
+use Rattle.lt_macros.specs.Denotation.{behind_local, first_of}
 use Rattle.lt_macros.specs.inner.Figures.{first_figure, local_weight, term_weight}
 use Rattle.lt_macros.specs.inner.Reading.{environment, meant}
 use Rattle.lt_macros.specs.declared.counting.Locals.{Locals}

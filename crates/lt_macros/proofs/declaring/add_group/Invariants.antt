@@ -1,7 +1,7 @@
 use Rattle.std.proofs.Common.{◌≡◌, ◌++◌, map, drop}
 use Rattle.lt_ast.specs.View.{word}
 use Rattle.lt_ast.specs.Syntax.{Word}
-use Rattle.lt_macros.specs.inner.Binding.{name_text}
+use Rattle.lt_macros.specs.inner.Parameters.{name_text}
 use Rattle.lt_macros.proofs.declaring.add_group.Given as goal
 
 -- what is there and what is left are all

@@ -2,8 +2,8 @@ use Rattle.std.proofs.Common.{◌≡◌, ◌++◌, map, drop}
 use Rattle.lt_ast.specs.inner.Lists.{groups_of}
 use Rattle.lt_ast.specs.inner.Rows.{group_of}
 use Rattle.lt_ast.specs.View.{groupings}
-use Rattle.lt_macros.specs.Senses.{groups_names}
-use Rattle.lt_macros.specs.inner.Binding.{name_text}
+use Rattle.lt_macros.specs.Denotation.{groups_names}
+use Rattle.lt_macros.specs.inner.Parameters.{name_text}
 use Rattle.lt_macros.proofs.declaring.add_groups.Given as goal
 
 -- what is there and what is left are all

@@ -1,5 +1,5 @@
 use Rattle.std.proofs.Common.{subst, sym}
-use Rattle.lt_macros.specs.inner.Heads.{AddsTo}
+use Rattle.lt_macros.specs.inner.HeadNormalForm.{AddsTo}
 use Rattle.lt_macros.specs.inner.Rows.{rows}
 use Rattle.lt_macros.proofs.Adding.{adds_none, adds_one}
 use Rattle.lt_macros.proofs.declaring.put_exception.Goals as goal

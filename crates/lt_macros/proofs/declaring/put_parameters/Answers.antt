@@ -1,21 +1,21 @@
 use Rattle.std.proofs.Common.{◌<◌, length, ap, sym, subst, arith}
 use Rattle.lt_macros.specs.inner.Handing.{AreRight}
-use Rattle.lt_macros.specs.inner.Heads.{AddsTo}
+use Rattle.lt_macros.specs.inner.HeadNormalForm.{AddsTo}
 use Rattle.lt_macros.specs.inner.Rows.{rows}
 use Rattle.lt_macros.specs.declared.scope.Entry.{Entry}
-use Rattle.lt_macros.specs.declared.scope.Entity.TheVariants.{Parameter}
+use Rattle.lt_macros.specs.declared.scope.Binding.TheVariants.{Parameter}
 use Rattle.lt_macros.proofs.Adding.{adds_one}
 use Rattle.lt_macros.proofs.Putting.{put_next}
 use Rattle.lt_macros.proofs.declaring.put_parameters.Goals as goal
 
 pub loop-param-preserved : goal.loop-param-preserved
 loop-param-preserved c =
-    let e : Entry = record { name = c.deref.result; outer = c.loop-param.environment; entity = Parameter c.len-number.result } in
+    let e : Entry = record { name = c.deref.result; outer = c.loop-param.environment; binding = Parameter c.len-number.result } in
     let more : c.loop-param.param-index < length c.args.params.now = omega (arith, c.loop-param-test.true, c.loop-param.auto.param-index-end) in
     record {
-      sense = λ r.
+      denotation = λ r.
           put_next r (rows c.loop-param.scope) (rows c.push.new.self) e c.in_ok-environment.environment c.loop-param.param-index c.args.params.now c.param-item.result _ more c.param-item.is c.in_ok-environment.ensures.rows
-          c.in_ok-environment.ensures.number c.deref.ensures (ap Parameter c.len-number.ensures) (c.loop-param.invariant.sense r);
+          c.in_ok-environment.ensures.number c.deref.ensures (ap Parameter c.len-number.ensures) (c.loop-param.invariant.denotation r);
       work = λ r.
           put_next r (rows c.loop-param.scope) (rows c.push.new.self) e c.in_ok-environment.environment c.loop-param.param-index c.args.params.now c.param-item.result _ more c.param-item.is c.in_ok-environment.ensures.rows
           c.in_ok-environment.ensures.number c.deref.ensures (ap Parameter c.len-number.ensures) (c.loop-param.invariant.work r);

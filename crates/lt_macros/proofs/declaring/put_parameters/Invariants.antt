@@ -1,9 +1,9 @@
 use Rattle.std.proofs.Common.{◌≡◌, ◌≤◌, ℕ, length, map, drop}
 use Rattle.lt_macros.specs.Environment.{with_arguments}
-use Rattle.lt_macros.specs.Senses.{Sense}
-use Rattle.lt_macros.specs.inner.Binding.{name_text}
+use Rattle.lt_macros.specs.Denotation.{Denotation}
+use Rattle.lt_macros.specs.inner.Parameters.{name_text}
 use Rattle.lt_macros.specs.inner.Handing.{AreRight}
-use Rattle.lt_macros.specs.inner.Heads.{AddsTo}
+use Rattle.lt_macros.specs.inner.HeadNormalForm.{AddsTo}
 use Rattle.lt_macros.specs.inner.Leads.{parameters}
 use Rattle.lt_macros.specs.inner.Reading.{Reading, environment}
 use Rattle.lt_macros.specs.inner.Rows.{rows}
@@ -13,8 +13,8 @@ use Rattle.lt_macros.proofs.declaring.put_parameters.Given as goal
 abbrev pub invariant-loop-param : goal.invariant-loop-param
 invariant-loop-param l =
     record {
-      sense :
-          (r : Reading Sense) → with_arguments (map name_text (drop l.param-index l.params)) (parameters r.parameter (length (rows l.scope)) (map name_text (drop l.param-index l.params))) (environment r (rows l.scope) l.environment)
+      denotation :
+          (r : Reading Denotation) → with_arguments (map name_text (drop l.param-index l.params)) (parameters r.parameter (length (rows l.scope)) (map name_text (drop l.param-index l.params))) (environment r (rows l.scope) l.environment)
           ≡ with_arguments (map name_text l.params) (parameters r.parameter (length (rows l.fn.scope)) (map name_text l.params)) (environment r (rows l.fn.scope) l.outer);
       work :
           (r : Reading ℕ) → with_arguments (map name_text (drop l.param-index l.params)) (parameters r.parameter (length (rows l.scope)) (map name_text (drop l.param-index l.params))) (environment r (rows l.scope) l.environment)

@@ -1,18 +1,18 @@
 use Rattle.std.proofs.Common.{◌*◌, ◌+◌}
 use Rattle.lt_ast.specs.Syntax as s
 use Rattle.lt_ast.specs.View.{exp}
-use Rattle.lt_macros.specs.inner.Heads.{head_reads}
+use Rattle.lt_macros.specs.inner.HeadNormalForm.{form_reads}
 use Rattle.lt_macros.specs.inner.Phrase.{value}
-use Rattle.lt_macros.specs.inner.Reading.{environment, worked, source_view}
+use Rattle.lt_macros.specs.inner.Reading.{environment, worked, phrase_view}
 use Rattle.lt_macros.specs.inner.Rows.{rows}
 use Rattle.lt_macros.proofs.expressions.+build_expr.Given as goal
 
 -- what is left to do is less
 abbrev pub decreases-build_expr : goal.decreases-build_expr
-decreases-build_expr l = 4 * worked.phrase (environment worked (rows l.scope.now) l.environment) (source_view l.source) + 2
+decreases-build_expr l = 4 * worked.phrase (environment worked (rows l.scope.now) l.environment) (phrase_view l.phrase) + 2
 
-abbrev pub decreases-build_expr_head : goal.decreases-build_expr_head
-decreases-build_expr_head l = 4 * head_reads worked (rows l.scope.now) l.head + 1
+abbrev pub decreases-build_expr_form : goal.decreases-build_expr_form
+decreases-build_expr_form l = 4 * form_reads worked (rows l.scope.now) l.form + 1
 
 abbrev pub decreases-build_unary : goal.decreases-build_unary
 decreases-build_unary l = 4 * worked.phrase (environment worked (rows l.scope.now) l.environment) (value (s.unary l.operator (exp l.part.now) l.at))

@@ -3,7 +3,7 @@ use Rattle.lt_ast.specs.View.{interval, word}
 use Rattle.lt_ast.specs.inner.Rows.{maybe_exp}
 use Rattle.lt_ast.specs.Syntax.{Word}
 use Rattle.lt_macros.specs.Expanded.{Declared}
-use Rattle.lt_macros.specs.Senses.{declared_as, first_of}
+use Rattle.lt_macros.specs.Denotation.{declared_as, first_of}
 use Rattle.lt_macros.specs.Tree.{declared}
 use Rattle.lt_macros.specs.inner.Reading.{environment, meant}
 use Rattle.lt_macros.specs.inner.Rows.{rows}

@@ -1,7 +1,7 @@
 use Rattle.std.proofs.Common.{◌≡◌, ◌++◌, map, take}
 use Rattle.lt_ast.specs.View.{interval, word}
 use Rattle.lt_ast.specs.inner.Rows.{maybe_exp}
-use Rattle.lt_macros.specs.Senses.{declared_as, first_of}
+use Rattle.lt_macros.specs.Denotation.{declared_as, first_of}
 use Rattle.lt_macros.specs.inner.Reading.{environment, meant}
 use Rattle.lt_macros.specs.inner.Rows.{rows}
 use Rattle.lt_macros.specs.Tree.{declared}

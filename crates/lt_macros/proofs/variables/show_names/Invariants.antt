@@ -2,7 +2,7 @@ use Rattle.std.proofs.Common.{◌≡◌, ◌≤◌, ◌+◌, ℕ, length, map, d
 use Rattle.lt_ast.specs.View.{word}
 use Rattle.lt_macros.specs.Environment.{with_variables}
 use Rattle.lt_macros.specs.inner.Handing.{AreRight}
-use Rattle.lt_macros.specs.inner.Heads.{AddsTo}
+use Rattle.lt_macros.specs.inner.HeadNormalForm.{AddsTo}
 use Rattle.lt_macros.specs.inner.Reading.{environment, meant, worked}
 use Rattle.lt_macros.specs.inner.Rows.{rows}
 use Rattle.lt_macros.specs.inner.Work.{with_ones}

@@ -1,6 +1,6 @@
 use Rattle.std.proofs.Common.{◌≡◌, ◌≤◌, length}
 use Rattle.lt_macros.specs.Environment.{found_exception}
-use Rattle.lt_macros.specs.Senses.{Sense}
+use Rattle.lt_macros.specs.Denotation.{Denotation}
 use Rattle.lt_macros.specs.inner.Reading.{Reading, environment}
 use Rattle.lt_macros.specs.inner.Rows.{rows}
 use Rattle.lt_macros.proofs.scope.Scope.exception.Given as goal
@@ -10,7 +10,7 @@ abbrev pub invariant-loop-environment : goal.invariant-loop-environment
 invariant-loop-environment l =
     record {
       within : l.environment ≤ length (rows l.self);
-      sense : (r : Reading Sense) → found_exception (environment r (rows l.self) l.fn.environment).exceptions l.name ≡ found_exception (environment r (rows l.self) l.environment).exceptions l.name;
+      denotation : (r : Reading Denotation) → found_exception (environment r (rows l.self) l.fn.environment).exceptions l.name ≡ found_exception (environment r (rows l.self) l.environment).exceptions l.name;
     }
 
 abbrev pub decreases-loop-environment : goal.decreases-loop-environment

@@ -1,5 +1,5 @@
 use Rattle.std.proofs.Common.{◌≡◌, ◌≤◌, ℕ, length}
-use Rattle.lt_macros.specs.Senses.{Sense}
+use Rattle.lt_macros.specs.Denotation.{Denotation}
 use Rattle.lt_macros.specs.inner.Reading.{Reading, environment, newest}
 use Rattle.lt_macros.specs.inner.Rows.{rows}
 use Rattle.lt_macros.proofs.scope.Scope.newest.Given as goal
@@ -9,7 +9,7 @@ abbrev pub invariant-loop-environment : goal.invariant-loop-environment
 invariant-loop-environment l =
     record {
       within : l.environment ≤ length (rows l.self);
-      sense : (r : Reading Sense) → newest (environment r (rows l.self) l.number).names ≡ newest (environment r (rows l.self) l.environment).names;
+      denotation : (r : Reading Denotation) → newest (environment r (rows l.self) l.number).names ≡ newest (environment r (rows l.self) l.environment).names;
       work : (r : Reading ℕ) → newest (environment r (rows l.self) l.number).names ≡ newest (environment r (rows l.self) l.environment).names;
     }
 

@@ -1,7 +1,7 @@
 use Rattle.std.proofs.Common.{◌≡◌, ◌≤◌, ℕ, List, ap, length, reverse, take, IsTrue, subst, sym, ◌∙◌, arith}
 use Rattle.std.proofs.lemmas.List.{length-reverse}
 use Rattle.lt_macros.specs.inner.Reading.{are_linked}
-use Rattle.lt_macros.specs.inner.Heads.{AddsTo}
+use Rattle.lt_macros.specs.inner.HeadNormalForm.{AddsTo}
 use Rattle.lt_macros.specs.inner.Keyed.{keys}
 use Rattle.lt_macros.specs.declared.scope.Entry.{Entry}
 use Rattle.lt_macros.proofs.Adding.{adds_dropped, right_before}

@@ -1,6 +1,0 @@
-use Rattle.std.proofs.Common.{arith}
-use Rattle.lt_macros.proofs.Covers.{lists}
-use Rattle.lt_macros.proofs.looks.look_at_joined.Goals as goal
-
-pub returns-else-is_empty : goal.returns-else-is_empty
-returns-else-is_empty c = grind (arith, lists)

@@ -1,6 +1,0 @@
-use Rattle.std.proofs.Common.{arith}
-use Rattle.lt_macros.proofs.Plain.{traces}
-use Rattle.lt_macros.proofs.meeting.braces_at.Goals as goal
-
-pub returns-in-Choice : goal.returns-in-Choice
-returns-in-Choice c = grind (arith, traces)
