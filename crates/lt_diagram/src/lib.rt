@@ -7,7 +7,7 @@
 //! diagram says under truths of the flags, and [`next_path`] goes through its paths to true: lists of truths, of which each
 //! solution agrees with exactly one.
 //!
-//! The formula of a diagram is the conjunct of a [part of a constraint](../lt_parts/index.html), which has a flag for each
+//! The formula of a diagram is the conjunct of a part of a constraint (`lt_parts`), which has a flag for each
 //! of its atoms.
 //!
 //! `specs/Choice.antt` says what a choice and its paths are, `specs/Branches.antt` what the numbers of branches stand for and
