@@ -2,13 +2,12 @@
 //!
 //! [`build`] makes the [`Diagram`] of a formula with at most 16 flags: branches, each of which goes on by the truth of one
 //! flag, down to false or true. On each way down flags are asked in the order of their numbers. The diagram is reduced: no
-//! branch goes on to the same on both sides, and no two branches are equal. So formulas that say the same have the same
-//! diagram but for how its branches are numbered, and what is always true, or never, has no branch. [`value_at`] says what a
-//! diagram says under truths of the flags, and [`next_path`] goes through its paths to true: lists of truths, of which each
-//! solution agrees with exactly one.
+//! branch goes on to the same on both sides, and no two branches are equal. So two numbers of a diagram that say the same are
+//! one number, and a formula that is always true, or never, has no branch to begin at. [`value_at`] says what a diagram says
+//! under truths of the flags, and [`next_path`] goes through its paths to true: truths of some flags each, of which all truths
+//! that make the diagram true agree with exactly one.
 //!
-//! The formula of a diagram is the conjunct of a part of a constraint (`lt_parts`), which has a flag for each
-//! of its atoms.
+//! A formula of flags is, for one, the conjunct of a part of a constraint (`lt_parts`), which has a flag for each of its atoms.
 //!
 //! `specs/Choice.antt` says what a choice and its paths are, `specs/Branches.antt` what the numbers of branches stand for and
 //! when a diagram is ordered and reduced, and `specs/Flags.antt` what formulas of flags say.
