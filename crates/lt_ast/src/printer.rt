@@ -163,7 +163,8 @@ fn put_call(alloc: Global, out: &mut String, args: &Option<Args>) -> Result<(), 
 
 #[cycle(print)]
 fn put_args(alloc: Global, out: &mut String, args: &Args) -> Result<(), AllocError>
-    ensures { Writes result out.old out.new (separated Sign.Comma tokens_of_argument args.now.items.items) }
+    ensures { Writes result out.old out.new
+        (separated Sign.Comma tokens_of_argument args.now.items.items) }
 {
     match args.items.split_first() {
         None => Ok(()),
@@ -176,7 +177,8 @@ fn put_args(alloc: Global, out: &mut String, args: &Args) -> Result<(), AllocErr
 
 #[cycle(print)]
 fn put_more_args(alloc: Global, out: &mut String, args: &[Arg]) -> Result<(), AllocError>
-    ensures { Writes result out.old out.new (flat_map (behind Sign.Comma tokens_of_argument) args.now) }
+    ensures { Writes result out.old out.new
+        (flat_map (behind Sign.Comma tokens_of_argument) args.now) }
 {
     for arg in args {
         put_sign(out, Sign::Comma)?;
@@ -281,7 +283,8 @@ fn put_led(
     sign: Sign,
     traces: &Traces,
 ) -> Result<(), AllocError>
-    ensures { Writes result out.old out.new (marked_if lead sign ++ separated sign tokens_of_trace traces.now.items.items) }
+    ensures { Writes result out.old out.new (marked_if lead sign ++
+        separated sign tokens_of_trace traces.now.items.items) }
 {
     put_sign_if(out, lead, sign)?;
     put_traces(alloc, out, sign, traces)
@@ -340,7 +343,8 @@ fn put_groups(alloc: Global, out: &mut String, groups: &Groups) -> Result<(), Al
 
 #[cycle(print)]
 fn put_more_groups(alloc: Global, out: &mut String, groups: &[Group]) -> Result<(), AllocError>
-    ensures { Writes result out.old out.new (flat_map (behind Sign.Semicolon tokens_of_group) groups.now) }
+    ensures { Writes result out.old out.new
+        (flat_map (behind Sign.Semicolon tokens_of_group) groups.now) }
 {
     for group in groups {
         put_sign(out, Sign::Semicolon)?;
@@ -376,7 +380,8 @@ fn put_first(alloc: Global, out: &mut String, first: &Option<Expr>) -> Result<()
 
 #[cycle(print)]
 fn put_list(alloc: Global, out: &mut String, groups: &Groups) -> Result<(), AllocError>
-    ensures { Writes result out.old out.new (in_parentheses (groupings_tokens (groupings groups.now))) }
+    ensures { Writes result out.old out.new
+        (in_parentheses (groupings_tokens (groupings groups.now))) }
 {
     put_sign(out, Sign::Open)?;
     put_groups(alloc, out, groups)?;
@@ -501,7 +506,8 @@ fn put_handler(
 
 // The first token has no blank before it.
 fn put_decl(alloc: Global, out: &mut String, decl: &Decl) -> Result<(), AllocError>
-    ensures { OnOk result (string_bytes out.new ≡ string_bytes out.old ++ joined (declaration_tokens (declaration decl.now))) }
+    ensures { OnOk result (string_bytes out.new ≡ string_bytes out.old ++
+        joined (declaration_tokens (declaration decl.now))) }
 {
     match decl {
         Decl::Node(node) => {

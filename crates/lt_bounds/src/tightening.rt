@@ -135,8 +135,10 @@ fn cut_in_row(coefficient: i128, least: i128, range: Range) -> Option<Range>
     requires some { range.low ≤ℤ range.high }
     requires reach { unsigned_abs coefficient * size_of range < 2 ^ 126 }
     requires least { unsigned_abs least < 2 ^ 126 }
-    ensures value { result ≡ where_some (cut coefficient (least -ℤ least_of coefficient range) range) }
-    ensures inside { IfSome result (λ r. (range.low ≤ℤ r.low) × (r.low ≤ℤ r.high) × (r.high ≤ℤ range.high)) }
+    ensures value { result ≡ where_some
+        (cut coefficient (least -ℤ least_of coefficient range) range) }
+    ensures inside { IfSome result (λ r. (range.low ≤ℤ r.low) × (r.low ≤ℤ r.high) ×
+        (r.high ≤ℤ range.high)) }
 {
     let others = least - least_of(coefficient, range);
     cut(coefficient, others, range)
@@ -148,7 +150,8 @@ fn cut(coefficient: i128, others: i128, range: Range) -> Option<Range>
     requires some { range.low ≤ℤ range.high }
     requires others { unsigned_abs others < 2 ^ 127 }
     ensures value { result ≡ where_some (cut coefficient others range) }
-    ensures inside { IfSome result (λ r. (range.low ≤ℤ r.low) × (r.low ≤ℤ r.high) × (r.high ≤ℤ range.high)) }
+    ensures inside { IfSome result (λ r. (range.low ≤ℤ r.low) × (r.low ≤ℤ r.high) ×
+        (r.high ≤ℤ range.high)) }
 {
     if coefficient == 0 {
         return Some(range);

@@ -32,7 +32,8 @@ pub fn build(alloc: Global, formula: &Formula, flags: u32) -> Result<Diagram, Di
     ensures too_many { (result ≡ Err TooManyAtoms) ↔ (most_flags < flags) }
     ensures names { IfOk result (NamesBelow flags) }
     ensures reduced { IfOk result IsReduced }
-    ensures says { IfOk result (λ diagram. (truths : ℕ → Bool) → truth_of truths (diagram_choice diagram) ≡ says truths (formula_view formula.now)) }
+    ensures says { IfOk result (λ diagram. (truths : ℕ → Bool) →
+        truth_of truths (diagram_choice diagram) ≡ says truths (formula_view formula.now)) }
 {
     if flags > MOST_FLAGS {
         return Err(DiagramRefusal::TooManyAtoms);
@@ -48,7 +49,8 @@ fn build_few(alloc: Global, formula: &Formula, flags: u32) -> Result<Diagram, Me
     requires few { flags ≤ most_flags }
     requires flags { IsTrue (are_flags flags (formula_view formula.now)) }
     ensures names { IfOk result (NamesBelow flags) }
-    ensures says { IfOk result (λ diagram. (truths : ℕ → Bool) → truth_of truths (diagram_choice diagram) ≡ says truths (formula_view formula.now)) }
+    ensures says { IfOk result (λ diagram. (truths : ℕ → Bool) →
+        truth_of truths (diagram_choice diagram) ≡ says truths (formula_view formula.now)) }
 {
     let mut growing = Growing::new(alloc, flags as usize);
     let root = growing.grow(formula)?;

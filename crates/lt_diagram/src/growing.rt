@@ -60,7 +60,8 @@ impl Growing {
         requires { IsTrue (are_flags self.old.flags (formula_view formula.now)) }
         ensures grows { Grows (grown self.old) (grown self.new) }
         ensures flags { self.new.flags ≡ self.old.flags }
-        ensures stands { IfOk result (λ number. Stands (grown self.new) (formula_view formula.now) number) }
+        ensures stands { IfOk result (λ number.
+            Stands (grown self.new) (formula_view formula.now) number) }
     {
         match formula {
             Formula::Truth(truth) => Ok(u32::from(*truth)),
@@ -114,7 +115,9 @@ impl Growing {
         requires second { second < length (grown self.old) + 2 }
         ensures grows { Grows (grown self.old) (grown self.new) }
         ensures flags { self.new.flags ≡ self.old.flags }
-        ensures chooses { IfOk result (λ number. Chooses (grown self.old) (grown self.new) 0 (record { condition = condition; first = first; second = second }) number) }
+        ensures chooses { IfOk result (λ number.
+            Chooses (grown self.old) (grown self.new) 0
+            (record { condition = condition; first = first; second = second }) number) }
     {
         let trio = Trio {
             condition,
@@ -129,7 +132,8 @@ impl Growing {
         requires { IsTrio (grown self.old) atom trio }
         ensures grows { Grows (grown self.old) (grown self.new) }
         ensures flags { self.new.flags ≡ self.old.flags }
-        ensures chooses { IfOk result (λ number. Chooses (grown self.old) (grown self.new) atom trio number) }
+        ensures chooses { IfOk result (λ number.
+            Chooses (grown self.old) (grown self.new) atom trio number) }
     {
         if let Some(number) = picked(trio) {
             return Ok(number);
@@ -182,7 +186,8 @@ impl Growing {
         requires yes_from { IsFrom (atom + 1) (grown self.old) yes }
         ensures grows { Grows (grown self.old) (grown self.new) }
         ensures flags { self.new.flags ≡ self.old.flags }
-        ensures joins { IfOk result (λ number. Joins (grown self.old) (grown self.new) atom no yes number) }
+        ensures joins { IfOk result (λ number.
+            Joins (grown self.old) (grown self.new) atom no yes number) }
     {
         if no == yes {
             return Ok(no);

@@ -17,10 +17,15 @@ use crate::diagram::Diagram;
 /// one answers false. What `path` holds after that isn't said.
 pub fn next_path(diagram: &Diagram, fixed: &[bool], path: &mut [Option<bool>], begun: bool) -> bool
     requires places { NamesBelow (length path.old) diagram.now }
-    requires begun { IsTrue begun → IsOneOf (paths_within fixed.now (diagram_choice diagram.now)) (steps_of 0 path.old) }
-    ensures first { begun ≡ false → Gives result (paths_within fixed.now (diagram_choice diagram.now)) (steps_of 0 path.new) }
-    ensures next { begun ≡ true → GivesNext result (paths_within fixed.now (diagram_choice diagram.now)) (steps_of 0 path.old) (steps_of 0 path.new) }
-    ensures given { IsTrue result → IsOneOf (paths_within fixed.now (diagram_choice diagram.now)) (steps_of 0 path.new) }
+    requires begun { IsTrue begun →
+        IsOneOf (paths_within fixed.now (diagram_choice diagram.now)) (steps_of 0 path.old) }
+    ensures first { begun ≡ false →
+        Gives result (paths_within fixed.now (diagram_choice diagram.now)) (steps_of 0 path.new) }
+    ensures next { begun ≡ true →
+        GivesNext result (paths_within fixed.now (diagram_choice diagram.now)) (steps_of 0 path.old)
+        (steps_of 0 path.new) }
+    ensures given { IsTrue result →
+        IsOneOf (paths_within fixed.now (diagram_choice diagram.now)) (steps_of 0 path.new) }
 {
     let root = diagram.root();
     if begun {
@@ -43,7 +48,8 @@ fn first_in(
     requires from { IsFrom from (branches_of diagram.now) number }
     requires places { NamesBelow (from + length path.old) diagram.now }
     requires within { from + length path.old < 2 ^ 63 }
-    ensures { Gives result (ways fixed.now (number_choice diagram.now number)) (steps_of from path.new) }
+    ensures { Gives result (ways fixed.now (number_choice diagram.now number))
+        (steps_of from path.new) }
 {
     match diagram.asked(number, from) {
         Some(branch) => {
@@ -75,7 +81,9 @@ fn first_behind(
     requires places { NamesBelow (from + length path.old) diagram.now }
     requires within { from + length path.old < 2 ^ 63 }
     requires some { 0 < length path.old }
-    ensures { Gives result (ways_behind fixed.now from truth (ways fixed.now (number_choice diagram.now side))) (steps_of from path.new) }
+    ensures { Gives result
+        (ways_behind fixed.now from truth (ways fixed.now (number_choice diagram.now side)))
+        (steps_of from path.new) }
 {
     if !allows(fixed, from, truth) {
         return false;
@@ -120,7 +128,9 @@ fn next_in(
     requires places { NamesBelow (from + length path.old) diagram.now }
     requires within { from + length path.old < 2 ^ 63 }
     requires way { IsWay fixed.now (number_choice diagram.now number) (steps_of from path.old) }
-    ensures { Gives result (ways_after fixed.now (number_choice diagram.now number) (steps_of from path.old)) (steps_of from path.new) }
+    ensures { Gives result
+        (ways_after fixed.now (number_choice diagram.now number) (steps_of from path.old))
+        (steps_of from path.new) }
 {
     let asked = diagram.asked(number, from);
     let Some((place, rest)) = path.split_first_mut() else {

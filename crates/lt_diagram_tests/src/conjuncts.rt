@@ -52,7 +52,8 @@ impl Names {
 
 // Whether a shape is one of the names, or one of two parts that are there.
 fn has_parts(shape: Shape, before: usize) -> bool
-    ensures { IsTrue result → (kinds : Kinds) → length kinds.outputs ≡ 17 → IsTrue (fits kinds before shape) }
+    ensures { IsTrue result → (kinds : Kinds) → length kinds.outputs ≡ 17 →
+        IsTrue (fits kinds before shape) }
 {
     match shape {
         Shape::Variable(Role::Output, place) => place < 17,

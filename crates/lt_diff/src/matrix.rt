@@ -67,10 +67,12 @@ impl Matrix {
         requires high { most ≤ℤ pos most_bound }
         requires stated { AreStated (matrix_size self.old) (matrix_cell self.old) }
         ensures size { matrix_size self.new ≡ matrix_size self.old }
-        ensures cells { IsBounded (matrix_size self.old) a b most (matrix_cell self.old) (matrix_cell self.new) }
+        ensures cells { IsBounded (matrix_size self.old) a b most (matrix_cell self.old)
+            (matrix_cell self.new) }
         ensures stated { AreStated (matrix_size self.old) (matrix_cell self.new) }
         ensures own { matrix_cell self.new a b ≢ unstated }
-        ensures kept { StaysStated (matrix_size self.old) (matrix_cell self.old) (matrix_cell self.new) }
+        ensures kept { StaysStated (matrix_size self.old) (matrix_cell self.old)
+            (matrix_cell self.new) }
     {
         state(&mut self.cells, self.size, a, b, most);
     }
@@ -81,12 +83,16 @@ impl Matrix {
     pub fn close(&mut self) -> bool
         requires stated { AreStated (matrix_size self.old) (matrix_cell self.old) }
         ensures size { matrix_size self.new ≡ matrix_size self.old }
-        ensures cycle { result ≡ false ↔ HasNegativeCycle (matrix_size self.old) (matrix_cell self.old) }
+        ensures cycle { result ≡ false ↔
+            HasNegativeCycle (matrix_size self.old) (matrix_cell self.old) }
         ensures closed { result ≡ true → IsClosed (matrix_size self.old) (matrix_cell self.new) }
         ensures stated { result ≡ true → AreStated (matrix_size self.old) (matrix_cell self.new) }
-        ensures same { result ≡ true → HasSameSolutions (matrix_size self.old) (matrix_cell self.old) (matrix_cell self.new) }
-        ensures less { result ≡ true → AreLess (matrix_size self.old) (matrix_cell self.old) (matrix_cell self.new) }
-        ensures kept { result ≡ true → StaysStated (matrix_size self.old) (matrix_cell self.old) (matrix_cell self.new) }
+        ensures same { result ≡ true →
+            HasSameSolutions (matrix_size self.old) (matrix_cell self.old) (matrix_cell self.new) }
+        ensures less { result ≡ true →
+            AreLess (matrix_size self.old) (matrix_cell self.old) (matrix_cell self.new) }
+        ensures kept { result ≡ true →
+            StaysStated (matrix_size self.old) (matrix_cell self.old) (matrix_cell self.new) }
     {
         close(&mut self.cells, self.size)
     }
@@ -97,8 +103,11 @@ impl Matrix {
         requires len { length into.old ≡ matrix_size self.now }
         requires closed { IsClosed (matrix_size self.now) (matrix_cell self.now) }
         requires leasts { HasLeasts (matrix_size self.now) (matrix_cell self.now) }
-        ensures solution { IsSolution (matrix_size self.now) (matrix_cell self.now) (λ a. get_or into.new a (pos 0)) }
-        ensures least { (value : ℕ → ℤ) → IsSolution (matrix_size self.now) (matrix_cell self.now) value → (a : ℕ) → a < matrix_size self.now → get_or into.new a (pos 0) ≤ℤ value a }
+        ensures solution { IsSolution (matrix_size self.now) (matrix_cell self.now) (λ a.
+            get_or into.new a (pos 0)) }
+        ensures least { (value : ℕ → ℤ) →
+            IsSolution (matrix_size self.now) (matrix_cell self.now) value → (a : ℕ) →
+            a < matrix_size self.now → get_or into.new a (pos 0) ≤ℤ value a }
     {
         negate_row(&self.cells, self.size, into);
     }

@@ -18,9 +18,11 @@ pub(crate) fn close(cells: &mut [i64], size: usize) -> bool
     ensures cycle { result ≡ false ↔ HasNegativeCycle size (cell_of size cells.old) }
     ensures closed { result ≡ true → IsClosed size (cell_of size cells.new) }
     ensures stated { result ≡ true → AreStated size (cell_of size cells.new) }
-    ensures same { result ≡ true → HasSameSolutions size (cell_of size cells.old) (cell_of size cells.new) }
+    ensures same { result ≡ true →
+        HasSameSolutions size (cell_of size cells.old) (cell_of size cells.new) }
     ensures less { result ≡ true → AreLess size (cell_of size cells.old) (cell_of size cells.new) }
-    ensures kept { result ≡ true → StaysStated size (cell_of size cells.old) (cell_of size cells.new) }
+    ensures kept { result ≡ true →
+        StaysStated size (cell_of size cells.old) (cell_of size cells.new) }
 {
     if !is_flat(cells, size) {
         return false;
@@ -73,9 +75,13 @@ fn relax_row(cells: &mut [i64], size: usize, pivot: usize, row: usize)
     requires row { row < size }
     requires apart { row ≢ pivot }
     requires first { IsWithin 67600000000000000 (cell_of size cells.old row pivot) }
-    requires second { (b : ℕ) → b < size → IsWithin 67600000000000000 (cell_of size cells.old pivot b) }
-    ensures relaxed { (b : ℕ) → b < size → IsRelaxed (cell_of size cells.old row b) (cell_of size cells.old row pivot) (cell_of size cells.old pivot b) (cell_of size cells.new row b) }
-    ensures others { (a b : ℕ) → b < size → a ≢ row → cell_of size cells.new a b ≡ cell_of size cells.old a b }
+    requires second { (b : ℕ) → b < size →
+        IsWithin 67600000000000000 (cell_of size cells.old pivot b) }
+    ensures relaxed { (b : ℕ) → b < size →
+        IsRelaxed (cell_of size cells.old row b) (cell_of size cells.old row pivot)
+        (cell_of size cells.old pivot b) (cell_of size cells.new row b) }
+    ensures others { (a b : ℕ) → b < size → a ≢ row →
+        cell_of size cells.new a b ≡ cell_of size cells.old a b }
 {
     let first = cells[row * size + pivot];
     if first == UNSTATED {

@@ -44,7 +44,8 @@ pub(crate) fn negate_row(cells: &[i64], size: usize, into: &mut [i64])
     requires square { length cells.now ≡ size * size }
     requires few { size ≤ most_variables }
     requires len { length into.old ≡ size }
-    requires low { (a : ℕ) → a < size → neg_ℤ (pos 9223372036854775807) ≤ℤ cell_of size cells.now 0 a }
+    requires low { (a : ℕ) → a < size →
+        neg_ℤ (pos 9223372036854775807) ≤ℤ cell_of size cells.now 0 a }
     ensures { (a : ℕ) → a < size → get_or into.new a (pos 0) ≡ neg_ℤ (cell_of size cells.now 0 a) }
 {
     for variable in 0..size {

@@ -103,7 +103,8 @@ impl Model for SlotWords {
 
     ghost view = { λ words. record { seed = words.seed; step = words.step; slot = words.slot } };
 
-    ghost invariant = { λ words. words.generator ≡ generator_at words.seed (place_of words.step words.slot) };
+    ghost invariant = { λ words. words.generator ≡
+        generator_at words.seed (place_of words.step words.slot) };
 }
 
 impl SlotWords {

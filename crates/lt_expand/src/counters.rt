@@ -25,7 +25,8 @@ pub(crate) fn counters_of(
 ) -> Result<Vec<Counter>, Memory>
     requires few { decimals ≤ most_decimals }
     requires fine { All (IsFinePart decimals) (items_view parts.now) }
-    ensures { IfOk result (λ made. map turns made.items ≡ map (least_and_most decimals) (flat_map counter_at (items_view parts.now))) }
+    ensures { IfOk result (λ made. map turns made.items ≡
+        map (least_and_most decimals) (flat_map counter_at (items_view parts.now))) }
 {
     let mut made = Vec::new(alloc);
     for part in parts {
@@ -38,7 +39,8 @@ pub(crate) fn counters_of(
 fn put_counter(made: &mut Vec<Counter>, part: Item<'_>, decimals: u32) -> Result<(), Memory>
     requires few { decimals ≤ most_decimals }
     requires fine { IsFinePart decimals (item part) }
-    ensures { OnOk result (map turns made.new.items ≡ map turns made.old.items ++ map (least_and_most decimals) (counter_at (item part.entry))) }
+    ensures { OnOk result (map turns made.new.items ≡ map turns made.old.items ++
+        map (least_and_most decimals) (counter_at (item part.entry))) }
 {
     match part {
         Item::Term(trace) => put_counter_of(made, trace, decimals),
@@ -50,7 +52,8 @@ fn put_counter(made: &mut Vec<Counter>, part: Item<'_>, decimals: u32) -> Result
 fn put_counter_of(made: &mut Vec<Counter>, trace: &Expanded, decimals: u32) -> Result<(), Memory>
     requires few { decimals ≤ most_decimals }
     requires fine { IsFinePart decimals (a_term (expanded trace.now)) }
-    ensures { OnOk result (map turns made.new.items ≡ map turns made.old.items ++ map (least_and_most decimals) (counter_at (a_term (expanded trace.now)))) }
+    ensures { OnOk result (map turns made.new.items ≡ map turns made.old.items ++
+        map (least_and_most decimals) (counter_at (a_term (expanded trace.now)))) }
 {
     match trace {
         Expanded::Count(_, bounds, _) => {

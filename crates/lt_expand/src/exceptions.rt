@@ -54,7 +54,8 @@ impl<'a> Exceptions<'a> {
 
     // One more, where it isn't there.
     fn put(&mut self, one: &'a Exception) -> Result<(), Memory>
-        ensures { OnOk result (exceptions self.new ≡ with_one (exceptions self.old) (exception one.now)) }
+        ensures { OnOk result (exceptions self.new ≡
+            with_one (exceptions self.old) (exception one.now)) }
     {
         let declaration = declaration_of(one);
         if self.names.contains_key(&declaration) {
@@ -66,7 +67,8 @@ impl<'a> Exceptions<'a> {
 
     // The one that a part of a trace raises, if it does.
     fn put_raised(&mut self, part: Item<'a>) -> Result<(), Memory>
-        ensures { OnOk result (exceptions self.new ≡ with_more (exceptions self.old) (raised_at (item part.entry))) }
+        ensures { OnOk result (exceptions self.new ≡
+            with_more (exceptions self.old) (raised_at (item part.entry))) }
     {
         match raised_at(part) {
             Some(one) => self.put(one),
@@ -76,7 +78,8 @@ impl<'a> Exceptions<'a> {
 
     // The one that a part of a trace catches, if it does.
     fn put_caught(&mut self, part: Item<'a>) -> Result<(), Memory>
-        ensures { OnOk result (exceptions self.new ≡ with_more (exceptions self.old) (caught_at (item part.entry))) }
+        ensures { OnOk result (exceptions self.new ≡
+            with_more (exceptions self.old) (caught_at (item part.entry))) }
     {
         match caught_at(part) {
             Some(one) => self.put(one),
@@ -87,7 +90,8 @@ impl<'a> Exceptions<'a> {
     // Their names.
     #[tactic(auto, using(crate::proofs::Ranks::named))]
     pub(crate) fn names(&self, alloc: Global) -> Result<Vec<String>, Memory>
-        ensures { IfOk result (λ names. map string_bytes names.items ≡ exception_names (exceptions self.now)) }
+        ensures { IfOk result (λ names. map string_bytes names.items ≡
+            exception_names (exceptions self.now)) }
     {
         let mut names = Vec::new(alloc);
         for name in self.names.values() {
@@ -111,7 +115,8 @@ pub(crate) fn numbered(alloc: Global, body: &Expanded) -> Result<Exceptions<'_>,
 
 // Puts the exceptions that parts of a trace raise behind others.
 fn put_all_raised<'a>(found: &mut Exceptions<'a>, parts: &[Item<'a>]) -> Result<(), Memory>
-    ensures { OnOk result (exceptions found.new ≡ with_more (exceptions found.old) (flat_map raised_at (items_view parts.now))) }
+    ensures { OnOk result (exceptions found.new ≡
+        with_more (exceptions found.old) (flat_map raised_at (items_view parts.now))) }
 {
     for part in parts {
         found.put_raised(*part)?;
@@ -121,7 +126,8 @@ fn put_all_raised<'a>(found: &mut Exceptions<'a>, parts: &[Item<'a>]) -> Result<
 
 // Puts those that they catch behind others.
 fn put_all_caught<'a>(found: &mut Exceptions<'a>, parts: &[Item<'a>]) -> Result<(), Memory>
-    ensures { OnOk result (exceptions found.new ≡ with_more (exceptions found.old) (flat_map caught_at (items_view parts.now))) }
+    ensures { OnOk result (exceptions found.new ≡
+        with_more (exceptions found.old) (flat_map caught_at (items_view parts.now))) }
 {
     for part in parts {
         found.put_caught(*part)?;
@@ -141,7 +147,8 @@ fn declaration_of(of: &Exception) -> Declaration
 
 // The exception that a part of a trace raises, if it does.
 fn raised_at<'a>(part: Item<'a>) -> Option<&'a Exception>
-    ensures { option_to_list (option_map (λ z. exception z.now) result) ≡ raised_at (item part.entry) }
+    ensures { option_to_list (option_map (λ z. exception z.now) result) ≡
+        raised_at (item part.entry) }
 {
     match part {
         Item::Term(term) => raised_by(term),
@@ -151,7 +158,8 @@ fn raised_at<'a>(part: Item<'a>) -> Option<&'a Exception>
 
 // The exception that a trace raises, if it does.
 fn raised_by(term: &Expanded) -> Option<&Exception>
-    ensures { option_to_list (option_map (λ z. exception z.now) result) ≡ raised_at (a_term (expanded term.now)) }
+    ensures { option_to_list (option_map (λ z. exception z.now) result) ≡
+        raised_at (a_term (expanded term.now)) }
 {
     match term {
         Expanded::Raise(raised) => Some(raised),
@@ -161,7 +169,8 @@ fn raised_by(term: &Expanded) -> Option<&Exception>
 
 // The exception that a part of a trace catches, if it does.
 fn caught_at<'a>(part: Item<'a>) -> Option<&'a Exception>
-    ensures { option_to_list (option_map (λ z. exception z.now) result) ≡ caught_at (item part.entry) }
+    ensures { option_to_list (option_map (λ z. exception z.now) result) ≡
+        caught_at (item part.entry) }
 {
     match part {
         Item::Term(term) => caught_by(term),
@@ -171,7 +180,8 @@ fn caught_at<'a>(part: Item<'a>) -> Option<&'a Exception>
 
 // The exception that a trace catches, if it does.
 fn caught_by(term: &Expanded) -> Option<&Exception>
-    ensures { option_to_list (option_map (λ z. exception z.now) result) ≡ caught_at (a_term (expanded term.now)) }
+    ensures { option_to_list (option_map (λ z. exception z.now) result) ≡
+        caught_at (a_term (expanded term.now)) }
 {
     match term {
         Expanded::Catch(caught, _, _) => Some(caught),

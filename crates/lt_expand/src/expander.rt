@@ -28,7 +28,9 @@ use std::alloc::Global;
 /// the first limit that it is past, and the first place in preorder of each other cause, in the order of the causes.
 /// [`ExpandRefusal::Memory`] where memory ran out.
 pub fn expand(alloc: Global, typed: &Typed, node: Option<&str>) -> Result<Scenario, ExpandRefusal>
-    ensures { IsAnswer typed.now.decimals (expanded_node typed.now.decimals (asked_name node.entry) (declarations typed.now.program)) result }
+    ensures { IsAnswer typed.now.decimals
+        (expanded_node typed.now.decimals (asked_name node.entry) (declarations typed.now.program))
+        result }
 {
     let asked = expanded_node(alloc, typed, node)?;
     parts_are_numbered();

@@ -18,7 +18,8 @@ use lt_num::{Kind, Value};
 // The number of an expression, which is put into the table with all its parts, where it isn't there.
 pub(crate) fn put_expression(table: &mut Table, written: &Placed) -> Result<u32, Memory>
     requires { IsReady (table_kinds table.old) (placed written.now) }
-    ensures number { IfOk result (λ number. IsNumber (table_expressions table.new) number (bare (placed written.now))) }
+    ensures number { IfOk result (λ number.
+        IsNumber (table_expressions table.new) number (bare (placed written.now))) }
     ensures grown { OnOk result (IsGrown table.old table.new) }
 {
     match written {

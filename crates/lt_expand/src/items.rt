@@ -30,7 +30,8 @@ pub(crate) fn items_of(alloc: Global, term: &Expanded) -> Result<Vec<Item<'_>>, 
 // Puts a trace and all parts of it behind other parts.
 #[cycle(items)]
 fn put_items<'a>(found: &mut Vec<Item<'a>>, term: &'a Expanded) -> Result<(), AllocError>
-    ensures { OnOk result (items_view found.new.items ≡ items_view found.old.items ++ items (expanded term.now)) }
+    ensures { OnOk result (items_view found.new.items ≡ items_view found.old.items ++
+        items (expanded term.now)) }
 {
     found.push(Item::Term(term))?;
     match term {
@@ -54,7 +55,8 @@ fn put_items<'a>(found: &mut Vec<Item<'a>>, term: &'a Expanded) -> Result<(), Al
 // Puts alternatives behind other parts, each behind its weight.
 #[cycle(items)]
 fn put_parts<'a>(found: &mut Vec<Item<'a>>, alternatives: &'a Parts) -> Result<(), AllocError>
-    ensures { OnOk result (items_view found.new.items ≡ items_view found.old.items ++ items_in (parts alternatives.now)) }
+    ensures { OnOk result (items_view found.new.items ≡ items_view found.old.items ++
+        items_in (parts alternatives.now)) }
 {
     for alternative in &alternatives.items {
         found.push(Item::Weight(&alternative.weight))?;
@@ -65,7 +67,8 @@ fn put_parts<'a>(found: &mut Vec<Item<'a>>, alternatives: &'a Parts) -> Result<(
 
 // The local that a part declares, if it does.
 pub(crate) fn local_at<'a>(part: Item<'a>) -> Option<&'a Declared>
-    ensures { option_to_list (option_map (λ d. declared d.now) result) ≡ local_at (item part.entry) }
+    ensures { option_to_list (option_map (λ d. declared d.now) result) ≡
+        local_at (item part.entry) }
 {
     match part {
         Item::Term(term) => local_of(term),
@@ -75,7 +78,8 @@ pub(crate) fn local_at<'a>(part: Item<'a>) -> Option<&'a Declared>
 
 // The local that a trace declares, if it does.
 fn local_of(term: &Expanded) -> Option<&Declared>
-    ensures { option_to_list (option_map (λ d. declared d.now) result) ≡ local_at (a_term (expanded term.now)) }
+    ensures { option_to_list (option_map (λ d. declared d.now) result) ≡
+        local_at (a_term (expanded term.now)) }
 {
     match term {
         Expanded::Exist(_, declared, _) => Some(declared),

@@ -73,7 +73,8 @@ fn declared_kinds(alloc: Global, variables: &[Declared]) -> Result<Vec<Kind>, Al
 // The kinds of the locals that parts of a trace declare.
 #[tactic(auto, using(crate::proofs::Preorders::gathered))]
 fn local_kinds(alloc: Global, parts: &[Item<'_>]) -> Result<Vec<Kind>, AllocError>
-    ensures { IfOk result (λ found. found.items ≡ map (λ d. d.kind) (flat_map local_at (items_view parts.now))) }
+    ensures { IfOk result (λ found. found.items ≡
+        map (λ d. d.kind) (flat_map local_at (items_view parts.now))) }
 {
     let mut found = Vec::new(alloc);
     for part in parts {
@@ -84,7 +85,8 @@ fn local_kinds(alloc: Global, parts: &[Item<'_>]) -> Result<Vec<Kind>, AllocErro
 
 // Puts the kind of the local that a part declares, if it does, behind others.
 fn put_local_kind(found: &mut Vec<Kind>, part: Item<'_>) -> Result<(), AllocError>
-    ensures { OnOk result (found.new.items ≡ found.old.items ++ map (λ d. d.kind) (local_at (item part.entry))) }
+    ensures { OnOk result (found.new.items ≡ found.old.items ++
+        map (λ d. d.kind) (local_at (item part.entry))) }
 {
     if let Some(declared) = local_at(part) {
         found.push(declared.kind)?;

@@ -157,7 +157,8 @@ fn expression_places(over: &Kinds, written: &Placed) -> FirstPlaces
 // Those of a weight.
 #[tactic(auto, using(crate::proofs::Refused::weight_found))]
 fn weight_places(over: &Kinds, written: &Placed) -> FirstPlaces
-    ensures { result ≡ places_of (kinds over.now) [] (placed written.now ∷ []) (placed written.now ∷ []) }
+    ensures { result ≡ places_of (kinds over.now) [] (placed written.now ∷ []) (placed written.now ∷
+        []) }
 {
     let found = judge_expression(over, written);
     FirstPlaces {
@@ -172,7 +173,8 @@ fn weight_places(over: &Kinds, written: &Placed) -> FirstPlaces
 #[tactic(auto, unfolding(crate::specs::inner::Places::places_of))]
 fn bounds_places(over: &Kinds, bounds: &Bounds, decimals: u32) -> FirstPlaces
     requires { decimals ≤ most_decimals }
-    ensures { result ≡ places_of (kinds over.now) (bad_bounds decimals (bounds_view bounds.now)) (in_bounds (bounds_view bounds.now)) [] }
+    ensures { result ≡ places_of (kinds over.now) (bad_bounds decimals (bounds_view bounds.now))
+        (in_bounds (bounds_view bounds.now)) [] }
 {
     FirstPlaces {
         bad_static: bad_bounds(bounds, decimals),
@@ -213,7 +215,8 @@ fn first_value_places(over: &Kinds, variable: &Declared, decimals: u32) -> First
 // Those of an expression, where there is one.
 #[tactic(auto, unfolding(crate::specs::inner::Places::places_of))]
 fn maybe_places(over: &Kinds, written: &Option<Placed>) -> FirstPlaces
-    ensures { result ≡ places_of (kinds over.now) [] (option_to_list (option_map placed written.now)) [] }
+    ensures { result ≡ places_of (kinds over.now) []
+        (option_to_list (option_map placed written.now)) [] }
 {
     match written {
         Some(written) => expression_places(over, written),

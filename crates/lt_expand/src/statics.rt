@@ -72,7 +72,11 @@ fn worth_of(written: &Placed, decimals: u32) -> Worth
 
 // What an operator on one part is worth.
 fn unary_worth(operator: UnaryOperator, part: Worth) -> Worth
-    ensures { result ≡ record { facts = unary_facts operator part.facts; value = and_then part.value (unary_value operator) } }
+    ensures { result ≡ record {
+      facts = unary_facts operator part.facts;
+      value = and_then part.value
+          (unary_value operator);
+    } }
 {
     Worth {
         facts: Facts::of_unary(operator, part.facts),
@@ -90,7 +94,10 @@ fn unary_answer(operator: UnaryOperator, part: Result<Value, Arith>) -> Result<V
 // What an operator on two parts is worth.
 fn binary_worth(operator: BinaryOperator, decimals: u32, left: Worth, right: Worth) -> Worth
     requires { decimals ≤ most_decimals }
-    ensures { result ≡ record { facts = binary_facts operator left.facts right.facts; value = binary_answer operator left.facts.kind decimals left.value right.value } }
+    ensures { result ≡ record {
+      facts = binary_facts operator left.facts right.facts;
+      value = binary_answer operator left.facts.kind decimals left.value right.value;
+    } }
 {
     Worth {
         facts: Facts::of_binary(operator, left.facts, right.facts),
@@ -118,7 +125,10 @@ fn binary_answer(
 
 // What a choice is worth.
 fn choice_worth(condition: Worth, first: Worth, second: Worth) -> Worth
-    ensures { result ≡ record { facts = choice_facts condition.facts first.facts second.facts; value = chosen_answer condition.value first.value second.value } }
+    ensures { result ≡ record {
+      facts = choice_facts condition.facts first.facts second.facts;
+      value = chosen_answer condition.value first.value second.value;
+    } }
 {
     Worth {
         facts: Facts::of_choice(condition.facts, first.facts, second.facts),
@@ -247,7 +257,8 @@ fn bad_between(low: &Placed, high: &Placed, decimals: u32) -> Option<Span>
 #[tactic(auto, using(crate::proofs::Firsts::first_three))]
 fn bad_around(average: &Placed, deviation: &Placed, decimals: u32) -> Option<Span>
     requires { decimals ≤ most_decimals }
-    ensures { result ≡ first (bad_bounds decimals (x.around (placed average.now) (placed deviation.now))) }
+    ensures { result ≡ first
+        (bad_bounds decimals (x.around (placed average.now) (placed deviation.now))) }
 {
     let middle = static_raw(average, decimals);
     let distance = static_raw(deviation, decimals);

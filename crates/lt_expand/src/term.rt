@@ -26,7 +26,9 @@ pub(crate) fn put_term(
     trace: &Expanded,
 ) -> Result<Term, Memory>
     requires { AreReady (table_kinds table.old) (exceptions known.now) (expanded trace.now) }
-    ensures term { IfOk result (λ made. IsTerm (table_expressions table.new) (exceptions known.now) (expanded trace.now) (process made)) }
+    ensures term { IfOk result (λ made.
+        IsTerm (table_expressions table.new) (exceptions known.now) (expanded trace.now)
+        (process made)) }
     ensures grown { OnOk result (IsGrown table.old table.new) }
 {
     match trace {
@@ -108,7 +110,9 @@ fn put_part(
     trace: &Expanded,
 ) -> Result<Rc<Term>, Memory>
     requires { AreReady (table_kinds table.old) (exceptions known.now) (expanded trace.now) }
-    ensures term { IfOk result (λ made. IsTerm (table_expressions table.new) (exceptions known.now) (expanded trace.now) (process made.value)) }
+    ensures term { IfOk result (λ made.
+        IsTerm (table_expressions table.new) (exceptions known.now) (expanded trace.now)
+        (process made.value)) }
     ensures grown { OnOk result (IsGrown table.old table.new) }
 {
     let made = put_term(alloc, table, known, trace)?;
@@ -124,7 +128,9 @@ fn put_parts(
     alternatives: &Parts,
 ) -> Result<Vec<(u32, Term)>, Memory>
     requires { AreEachReady (table_kinds table.old) (exceptions known.now) (parts alternatives.now) }
-    ensures terms { IfOk result (λ made. AreChoices (table_expressions table.new) (exceptions known.now) (parts alternatives.now) (choices made.items)) }
+    ensures terms { IfOk result (λ made.
+        AreChoices (table_expressions table.new) (exceptions known.now) (parts alternatives.now)
+        (choices made.items)) }
     ensures grown { OnOk result (IsGrown table.old table.new) }
 {
     let mut made = Vec::new(alloc);

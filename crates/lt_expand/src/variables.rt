@@ -26,7 +26,8 @@ pub(crate) fn variables_of(
 ) -> Result<Vec<Var>, Memory>
     requires few { decimals ≤ most_decimals }
     requires fine { All (IsFine decimals) (map declared_view declared.now) }
-    ensures { IfOk result (λ made. map variable_view made.items ≡ map (variable_of decimals) (map declared_view declared.now)) }
+    ensures { IfOk result (λ made. map variable_view made.items ≡
+        map (variable_of decimals) (map declared_view declared.now)) }
 {
     let mut made = Vec::new(alloc);
     for variable in declared {
@@ -44,7 +45,8 @@ pub(crate) fn locals_of(
 ) -> Result<Vec<Var>, Memory>
     requires few { decimals ≤ most_decimals }
     requires fine { All (IsFinePart decimals) (items_view parts.now) }
-    ensures { IfOk result (λ made. map variable_view made.items ≡ locals_of decimals 0 (flat_map local_at (items_view parts.now))) }
+    ensures { IfOk result (λ made. map variable_view made.items ≡
+        locals_of decimals 0 (flat_map local_at (items_view parts.now))) }
 {
     let mut made = Vec::new(alloc);
     for part in parts {
@@ -62,7 +64,8 @@ fn put_local(
 ) -> Result<(), Memory>
     requires few { decimals ≤ most_decimals }
     requires fine { IsFinePart decimals (item part) }
-    ensures { OnOk result (map variable_view made.new.items ≡ map variable_view made.old.items ++ locals_of decimals (length made.old.items) (local_at (item part.entry))) }
+    ensures { OnOk result (map variable_view made.new.items ≡ map variable_view made.old.items ++
+        locals_of decimals (length made.old.items) (local_at (item part.entry))) }
 {
     match part {
         Item::Term(trace) => put_local_of(alloc, made, trace, decimals),
@@ -79,7 +82,8 @@ fn put_local_of(
 ) -> Result<(), Memory>
     requires few { decimals ≤ most_decimals }
     requires fine { IsFinePart decimals (a_term (expanded trace.now)) }
-    ensures { OnOk result (map variable_view made.new.items ≡ map variable_view made.old.items ++ locals_of decimals (length made.old.items) (local_at (a_term (expanded trace.now)))) }
+    ensures { OnOk result (map variable_view made.new.items ≡ map variable_view made.old.items ++
+        locals_of decimals (length made.old.items) (local_at (a_term (expanded trace.now)))) }
 {
     match trace {
         Expanded::Exist(_, declared, _) => {
@@ -102,7 +106,8 @@ fn local_name(alloc: Global, name: &str, number: usize) -> Result<String, AllocE
 fn variable_named(name: String, declared: &Declared, decimals: u32) -> Var
     requires few { decimals ≤ most_decimals }
     requires fine { IsFine decimals (declared_view declared.now) }
-    ensures { variable_view result ≡ record (variable_of decimals (declared_view declared.now)) { name = string_bytes name } }
+    ensures { variable_view result ≡
+        record (variable_of decimals (declared_view declared.now)) { name = string_bytes name } }
 {
     Var {
         name,

@@ -26,8 +26,10 @@ pub fn earlier_values(
     scenario: &Scenario,
     previous: &Option<Reaction>,
 ) -> Result<Earlier, AllocError>
-    ensures inputs { IfOk result (λ e. e.inputs.items ≡ earlier_inputs (scene scenario.now) (option_map reaction previous.now)) }
-    ensures outputs { IfOk result (λ e. e.outputs.items ≡ earlier_outputs (scene scenario.now) (option_map reaction previous.now)) }
+    ensures inputs { IfOk result (λ e. e.inputs.items ≡
+        earlier_inputs (scene scenario.now) (option_map reaction previous.now)) }
+    ensures outputs { IfOk result (λ e. e.outputs.items ≡
+        earlier_outputs (scene scenario.now) (option_map reaction previous.now)) }
 {
     match previous {
         None => Ok(Earlier {
@@ -43,7 +45,8 @@ pub fn earlier_values(
 
 // The first values of variables.
 fn first_values(alloc: Global, variables: &[Var]) -> Result<Vec<Option<Value>>, AllocError>
-    ensures { IfOk result (λ values. values.items ≡ map (λ v. v.first) (map variable variables.now)) }
+    ensures { IfOk result (λ values. values.items ≡
+        map (λ v. v.first) (map variable variables.now)) }
 {
     let mut values = Vec::new(alloc);
     for variable in variables {

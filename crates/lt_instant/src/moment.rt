@@ -39,10 +39,14 @@ pub struct Moment<'a> {
     /// The greatest need that a search may have.
     pub budget: u64,
 
-    ghost earlier_inputs_are: { earlier.now.inputs.items ≡ earlier_inputs (scene scenario.now) (option_map reaction standing.now.previous) },
-    ghost earlier_outputs_are: { earlier.now.outputs.items ≡ earlier_outputs (scene scenario.now) (option_map reaction standing.now.previous) },
+    ghost earlier_inputs_are: { earlier.now.inputs.items ≡
+        earlier_inputs (scene scenario.now) (option_map reaction standing.now.previous) },
+    ghost earlier_outputs_are: { earlier.now.outputs.items ≡
+        earlier_outputs (scene scenario.now) (option_map reaction standing.now.previous) },
     ghost step_is: { words.now.step ≡ standing.now.step },
-    ghost targets_are: { targets.now ≡ targets_of (scene scenario.now) (words_of words.now.seed (configuration scenario.now.table standing.now)) },
+    ghost targets_are: { targets.now ≡
+        targets_of (scene scenario.now)
+        (words_of words.now.seed (configuration scenario.now.table standing.now)) },
 }
 
 impl Moment<'_> {

@@ -28,7 +28,8 @@ fn push_marks(
     locals: &[Var],
     lasts: &[(u32, Last)],
 ) -> Result<(), AllocError>
-    ensures { OnOk result (marks.new.items ≡ marks.old.items ++ marks_from lasts.now 0 (map variable locals.now)) }
+    ensures { OnOk result (marks.new.items ≡ marks.old.items ++
+        marks_from lasts.now 0 (map variable locals.now)) }
 {
     for (number, _local) in locals.iter().enumerate() {
         marks.push(is_in_scope(lasts, number))?;

@@ -15,9 +15,12 @@ use std::alloc::Global;
 /// For each node of a tree, how many nodes the tree has whose root it is: found in one pass from the last node
 /// to the first.
 pub fn sizes_of(alloc: Global, nodes: &[TreeNode]) -> Result<Vec<u32>, Memory>
-    requires tree { (meaning : ℕ → Expression) × (t : TermTree Expression) × (map (node_with_constraints meaning) (tree_nodes nodes.now) ≡ flattened t) }
+    requires tree { (meaning : ℕ → Expression) × (t : TermTree Expression) ×
+        (map (node_with_constraints meaning) (tree_nodes nodes.now) ≡ flattened t) }
     requires few { length nodes.now ≤ 65536 }
-    ensures { IfOk result (λ sizes. (meaning : ℕ → Expression) (t : TermTree Expression) → map (node_with_constraints meaning) (tree_nodes nodes.now) ≡ flattened t → sizes.items ≡ map span (subtrees t)) }
+    ensures { IfOk result (λ sizes. (meaning : ℕ → Expression) (t : TermTree Expression) →
+        map (node_with_constraints meaning) (tree_nodes nodes.now) ≡ flattened t →
+        sizes.items ≡ map span (subtrees t)) }
 {
     let mut sizes = vec![in alloc; 0; nodes.len()]?;
     fill(nodes, &mut sizes);
@@ -26,10 +29,13 @@ pub fn sizes_of(alloc: Global, nodes: &[TreeNode]) -> Result<Vec<u32>, Memory>
 
 // Puts the sizes into a list.
 fn fill(nodes: &[TreeNode], sizes: &mut [u32])
-    requires tree { (meaning : ℕ → Expression) × (t : TermTree Expression) × (map (node_with_constraints meaning) (tree_nodes nodes.now) ≡ flattened t) }
+    requires tree { (meaning : ℕ → Expression) × (t : TermTree Expression) ×
+        (map (node_with_constraints meaning) (tree_nodes nodes.now) ≡ flattened t) }
     requires few { length nodes.now ≤ 65536 }
     requires room { length sizes.old ≡ length nodes.now }
-    ensures { (meaning : ℕ → Expression) (t : TermTree Expression) → map (node_with_constraints meaning) (tree_nodes nodes.now) ≡ flattened t → sizes.new ≡ map span (subtrees t) }
+    ensures { (meaning : ℕ → Expression) (t : TermTree Expression) →
+        map (node_with_constraints meaning) (tree_nodes nodes.now) ≡ flattened t →
+        sizes.new ≡ map span (subtrees t) }
 {
     let mut position = nodes.len();
     while position > 0 {

@@ -95,8 +95,12 @@ impl Solver {
         lasts: &[(u32, Last)],
     ) -> Result<Finding, Memory>
         requires solver { IsSolverOf moment.now.scenario.now self.old }
-        requires within { IsTrue (list_all (λ c. nat_lt c (table_len moment.now.scenario.now.table)) constraints.now) }
-        ensures finds { IfOk result (λ f. finding (solver_values self.new) f ≡ found_in (scene_of moment.now) (word_of moment.now) moment.now.budget lasts.now ((worth_of moment.now).formula lasts.now (map (meaning_of moment.now.scenario.now.table) constraints.now))) }
+        requires within { IsTrue (list_all (λ c.
+            nat_lt c (table_len moment.now.scenario.now.table)) constraints.now) }
+        ensures finds { IfOk result (λ f. finding (solver_values self.new) f ≡
+            found_in (scene_of moment.now) (word_of moment.now) moment.now.budget lasts.now
+            ((worth_of moment.now).formula lasts.now
+            (map (meaning_of moment.now.scenario.now.table) constraints.now))) }
         ensures solver { IsSolverOf moment.now.scenario.now self.new }
     {
         self.make_room(alloc, moment.scenario, constraints.len())?;
@@ -128,10 +132,15 @@ impl Solver {
         locals: &[Option<Value>],
     ) -> Result<(), Arith>
         requires solver { IsSolverOf moment.now.scenario.now self.old }
-        requires within { IsTrue (list_all (λ c. nat_lt c (table_len moment.now.scenario.now.table)) constraints.now) }
+        requires within { IsTrue (list_all (λ c.
+            nat_lt c (table_len moment.now.scenario.now.table)) constraints.now) }
         requires room { length constraints.now ≤ space_most self.old.space }
-        ensures loads { loaded (space_formula self.new.space) result ≡ formula_of_all (valuation_with moment.now locals.now) (scene_kinds (scene_of moment.now)) (map (meaning_of moment.now.scenario.now.table) constraints.now) }
-        ensures decimals { OnOk result (space_decimals self.new.space ≡ (scene_of moment.now).decimals) }
+        ensures loads { loaded (space_formula self.new.space) result ≡
+            formula_of_all (valuation_with moment.now locals.now)
+            (scene_kinds (scene_of moment.now))
+            (map (meaning_of moment.now.scenario.now.table) constraints.now) }
+        ensures decimals { OnOk result (space_decimals self.new.space ≡
+            (scene_of moment.now).decimals) }
         ensures solver { IsSolverOf moment.now.scenario.now self.new }
     {
         let known = moment.known(locals);
@@ -143,7 +152,11 @@ impl Solver {
         requires solver { IsSolverOf moment.now.scenario.now self.old }
         requires decimals { space_decimals self.old.space ≡ (scene_of moment.now).decimals }
         requires scope { length scope.now ≡ length (drawn_ranges (scene_of moment.now)) }
-        ensures finds { finding (solver_values self.new) result ≡ found_by moment.now.budget (need scope.now (drawn_ranges (scene_of moment.now))) (first_solution (holds_of (scene_of moment.now) (space_formula self.old.space)) (ranges_in scope.now (drawn_ranges (scene_of moment.now))) (targets_of (scene_of moment.now) (word_of moment.now))) }
+        ensures finds { finding (solver_values self.new) result ≡
+            found_by moment.now.budget (need scope.now (drawn_ranges (scene_of moment.now)))
+            (first_solution (holds_of (scene_of moment.now) (space_formula self.old.space))
+            (ranges_in scope.now (drawn_ranges (scene_of moment.now)))
+            (targets_of (scene_of moment.now) (word_of moment.now))) }
         ensures solver { IsSolverOf moment.now.scenario.now self.new }
     {
         let answer = self
@@ -176,7 +189,8 @@ fn drawn_ranges(alloc: Global, scenario: &Scenario) -> Result<Vec<Range>, AllocE
 
 // Adds the ranges of variables.
 fn push_ranges(ranges: &mut Vec<Range>, variables: &[Var]) -> Result<(), AllocError>
-    ensures { OnOk result (ranges.new.items ≡ ranges.old.items ++ ranges_of_all (map variable variables.now)) }
+    ensures { OnOk result (ranges.new.items ≡ ranges.old.items ++
+        ranges_of_all (map variable variables.now)) }
 {
     for variable in variables {
         ranges.push(variable.range)?;

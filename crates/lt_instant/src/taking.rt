@@ -94,10 +94,14 @@ pub fn take_instant(
     requires counted { IsCounted (process standing.now.term) }
     requires solver { IsSolverOf scenario.now solver.old }
     // It is the instant of the rules.
-    ensures takes { IfOk result (λ k. instant_by scenario.now.table (configuration scenario.now.table standing.now) k ≡ instant_of (scene scenario.now) settings.seed settings.budget (configuration scenario.now.table standing.now) inputs.now) }
+    ensures takes { IfOk result (λ k.
+        instant_by scenario.now.table (configuration scenario.now.table standing.now) k ≡
+        instant_of (scene scenario.now) settings.seed settings.budget
+        (configuration scenario.now.table standing.now) inputs.now) }
     // What is left to be done has the numbers of the scenario, and at most one more turn done.
     ensures within { IfOk result (NextOf (λ p. IsTrue (passes (numbers_of scenario.now) p))) }
-    ensures done { IfOk result (λ k. (n : ℕ) → IsDoneTo n (process standing.now.term) → NextOf (IsDoneTo (suc n)) k) }
+    ensures done { IfOk result (λ k. (n : ℕ) → IsDoneTo n (process standing.now.term) →
+        NextOf (IsDoneTo (suc n)) k) }
     ensures solver { IsSolverOf scenario.now solver.new }
 {
     // A law that the proof needs: what comes next has at most one more turn done.
@@ -133,12 +137,19 @@ fn take_drawn(
 ) -> Result<Taken, Memory>
     requires tree { IsOffered moment.now nodes.items sizes.now }
     requires few { length nodes.items ≤ 65536 }
-    requires passes { IsTrue (list_all (node_passes (numbers_of moment.now.scenario.now)) (tree_nodes nodes.items)) }
+    requires passes { IsTrue (list_all (node_passes (numbers_of moment.now.scenario.now))
+        (tree_nodes nodes.items)) }
     requires solver { IsSolverOf moment.now.scenario.now solver.old }
-    ensures takes { IfOk result (λ k. instant_by moment.now.scenario.now.table (configuration_of moment.now) k
-        ≡ taken_instant (scene_of moment.now) moment.now.words.now.seed moment.now.budget (configuration_of moment.now) moment.now.inputs.now (taken_in (scene_of moment.now) moment.now.words.now.seed moment.now.budget (configuration_of moment.now) moment.now.inputs.now)) }
-    ensures within { IfOk result (NextOf (λ p. IsTrue (passes (numbers_of moment.now.scenario.now) p))) }
-    ensures done { IfOk result (λ k. (j : ℕ) → All (NextIsDoneTo j) (tree_nodes nodes.items) → NextOf (IsDoneTo j) k) }
+    ensures takes { IfOk result (λ k.
+        instant_by moment.now.scenario.now.table (configuration_of moment.now) k
+        ≡ taken_instant (scene_of moment.now) moment.now.words.now.seed moment.now.budget
+        (configuration_of moment.now) moment.now.inputs.now
+        (taken_in (scene_of moment.now) moment.now.words.now.seed moment.now.budget
+        (configuration_of moment.now) moment.now.inputs.now)) }
+    ensures within { IfOk result (NextOf (λ p.
+        IsTrue (passes (numbers_of moment.now.scenario.now) p))) }
+    ensures done { IfOk result (λ k. (j : ℕ) → All (NextIsDoneTo j) (tree_nodes nodes.items) →
+        NextOf (IsDoneTo j) k) }
     ensures solver { IsSolverOf moment.now.scenario.now solver.new }
 {
     let found = draw(alloc, moment, solver, &nodes, sizes)?;
@@ -207,9 +218,13 @@ fn next_of(
     term: &Term,
     locals: &[Value],
 ) -> Result<Term, Memory>
-    ensures expressions { IfOk result (λ t. (meaning : ℕ → Expression) → with_constraints meaning (process t) ≡ advanced (values_of lasts.now locals.now) (with_constraints meaning (process term.now))) }
-    ensures passes { IfOk result (λ t. (tests : Tests ℕ) → passes tests (process t) ≡ passes tests (process term.now)) }
-    ensures done { IfOk result (λ t. (k : ℕ) → IsDoneTo k (process term.now) → IsDoneTo k (process t)) }
+    ensures expressions { IfOk result (λ t. (meaning : ℕ → Expression) →
+        with_constraints meaning (process t) ≡
+        advanced (values_of lasts.now locals.now) (with_constraints meaning (process term.now))) }
+    ensures passes { IfOk result (λ t. (tests : Tests ℕ) →
+        passes tests (process t) ≡ passes tests (process term.now)) }
+    ensures done { IfOk result (λ t. (k : ℕ) → IsDoneTo k (process term.now) →
+        IsDoneTo k (process t)) }
 {
     let values = values_of(alloc, lasts, locals)?;
     advance(alloc, term, &values)
@@ -218,7 +233,8 @@ fn next_of(
 // The values of the inputs, and those of the outputs among these raw numbers.
 fn reaction_of(alloc: Global, moment: &Moment<'_>, raws: &[i64]) -> Result<Reaction, AllocError>
     ensures inputs { IfOk result (λ r. r.inputs.items ≡ moment.now.inputs.now) }
-    ensures outputs { IfOk result (λ r. r.outputs.items ≡ outputs_by (scene_of moment.now) raws.now) }
+    ensures outputs { IfOk result (λ r. r.outputs.items ≡
+        outputs_by (scene_of moment.now) raws.now) }
 {
     let inputs = Vec::from_slice(alloc, moment.inputs)?;
     let outputs = values_from(alloc, 0, &moment.scenario.outputs, raws)?;
@@ -233,7 +249,8 @@ fn values_from(
     raws: &[i64],
 ) -> Result<Vec<Value>, AllocError>
     requires { first + length variables.now < 65536 }
-    ensures { IfOk result (λ vs. vs.items ≡ values_from first (map variable variables.now) raws.now) }
+    ensures { IfOk result (λ vs. vs.items ≡
+        values_from first (map variable variables.now) raws.now) }
 {
     let mut values = Vec::new(alloc);
     for (number, variable) in variables.iter().enumerate() {

@@ -22,7 +22,8 @@ pub fn targets_of(
 ) -> Result<Vec<i64>, AllocError>
     requires some { AreSome ranges.now }
     requires few { length ranges.now ≤ most_variables }
-    ensures { IfOk result (λ ts. ts.items ≡ targets_from (word_at words.now.seed words.now.step) 0 ranges.now) }
+    ensures { IfOk result (λ ts. ts.items ≡
+        targets_from (word_at words.now.seed words.now.step) 0 ranges.now) }
 {
     let mut targets = Vec::new(alloc);
     for (number, range) in ranges.iter().enumerate() {
@@ -35,7 +36,8 @@ pub fn targets_of(
 fn target_of(words: &StepWords, number: usize, range: Range) -> i64
     requires some { range.low ≤ℤ range.high }
     requires few { number < most_variables }
-    ensures { result ≡ target_of range (word_at words.now.seed words.now.step (slot_of_variable number)) }
+    ensures { result ≡ target_of range
+        (word_at words.now.seed words.now.step (slot_of_variable number)) }
 {
     target(range, words.word(FIRST_SLOT + number as u32))
 }

@@ -42,9 +42,11 @@ pub fn draw(
 ) -> Result<Option<Drawn>, Memory>
     requires tree { IsOffered moment.now nodes.now sizes.now }
     requires few { length nodes.now ≤ 65536 }
-    requires passes { IsTrue (list_all (node_passes (numbers_of moment.now.scenario.now)) (tree_nodes nodes.now)) }
+    requires passes { IsTrue (list_all (node_passes (numbers_of moment.now.scenario.now))
+        (tree_nodes nodes.now)) }
     requires solver { IsSolverOf moment.now.scenario.now solver.old }
-    ensures draws { IfOk result (λ d. Draws moment.now nodes.now (solver_values solver.new) d (stop_of moment.now)) }
+    ensures draws { IfOk result (λ d.
+        Draws moment.now nodes.now (solver_values solver.new) d (stop_of moment.now)) }
     ensures solver { IsSolverOf moment.now.scenario.now solver.new }
 {
     let mut stack = vec![in alloc; 0; nodes.len()]?;
@@ -63,10 +65,12 @@ fn walk(
 ) -> Result<Option<Drawn>, Memory>
     requires tree { IsOffered moment.now nodes.now sizes.now }
     requires few { length nodes.now ≤ 65536 }
-    requires passes { IsTrue (list_all (node_passes (numbers_of moment.now.scenario.now)) (tree_nodes nodes.now)) }
+    requires passes { IsTrue (list_all (node_passes (numbers_of moment.now.scenario.now))
+        (tree_nodes nodes.now)) }
     requires room { length nodes.now ≤ length stack.old }
     requires solver { IsSolverOf moment.now.scenario.now solver.old }
-    ensures draws { IfOk result (λ d. Draws moment.now nodes.now (solver_values solver.new) d (stop_of moment.now)) }
+    ensures draws { IfOk result (λ d.
+        Draws moment.now nodes.now (solver_values solver.new) d (stop_of moment.now)) }
     ensures solver { IsSolverOf moment.now.scenario.now solver.new }
 {
     let mut depth = push(stack, 0, 0);
@@ -117,7 +121,8 @@ fn look(
 ) -> Result<Finding, Memory>
     requires passes { IsTrue (node_passes (numbers_of moment.now.scenario.now) (tree_node leaf.now)) }
     requires solver { IsSolverOf moment.now.scenario.now solver.old }
-    ensures finds { IfOk result (λ f. finding (solver_values solver.new) f ≡ found_at_node moment.now (node_over moment.now.scenario.now.table leaf.now)) }
+    ensures finds { IfOk result (λ f. finding (solver_values solver.new) f ≡
+        found_at_node moment.now (node_over moment.now.scenario.now.table leaf.now)) }
     ensures solver { IsSolverOf moment.now.scenario.now solver.new }
 {
     match leaf {
@@ -155,11 +160,14 @@ fn push_parts(
 ) -> usize
     requires within { position < 65536 }
     requires room { depth + length weights.items ≤ length stack.old }
-    requires parts { (k : ℕ) → k < length weights.items → part_at sizes.now (position + 1) k < length sizes.now }
+    requires parts { (k : ℕ) → k < length weights.items →
+        part_at sizes.now (position + 1) k < length sizes.now }
     requires sized { length sizes.now ≤ 65536 }
     requires few { length weights.items ≤ 65536 }
     ensures depth { result ≤ depth + length weights.items }
-    ensures tops { take result stack.new ≡ take depth stack.old ++ reverse (map (part_at sizes.now (position + 1)) (tries (word_at words.now.seed words.now.step) position weights.items)) }
+    ensures tops { take result stack.new ≡ take depth stack.old ++
+        reverse (map (part_at sizes.now (position + 1))
+        (tries (word_at words.now.seed words.now.step) position weights.items)) }
 {
     let mut left = weights;
     let end = push_tries(words, stack, depth, position, &mut left, sizes);
@@ -179,12 +187,15 @@ fn push_tries(
 ) -> usize
     requires within { position < 65536 }
     requires room { depth + length left.old ≤ length stack.old }
-    requires parts { (k : ℕ) → k < length left.old → part_at sizes.now (position + 1) k < length sizes.now }
+    requires parts { (k : ℕ) → k < length left.old →
+        part_at sizes.now (position + 1) k < length sizes.now }
     requires sized { length sizes.now ≤ 65536 }
     requires few { length left.old ≤ 65536 }
     ensures least { depth ≤ result }
     ensures most { result ≤ depth + length left.old }
-    ensures tops { take result stack.new ≡ take depth stack.old ++ map (part_at sizes.now (position + 1)) (tries (word_at words.now.seed words.now.step) position left.old) }
+    ensures tops { take result stack.new ≡ take depth stack.old ++
+        map (part_at sizes.now (position + 1))
+        (tries (word_at words.now.seed words.now.step) position left.old) }
 {
     let mut end = depth;
     for tried in 0..left.len() {

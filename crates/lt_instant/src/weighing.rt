@@ -35,8 +35,11 @@ pub fn weigh(
     weights: &[Weight],
     lasts: &[(u32, Last)],
 ) -> Result<Weighed, AllocError>
-    requires { IsTrue (list_all (weight_passes (numbers_of moment.now.scenario.now)) (map weight weights.now)) }
-    ensures { IfOk result (λ w. weighed w ≡ worths (worth_of moment.now) lasts.now (map (weight_mapped (meaning_of moment.now.scenario.now.table)) (map weight weights.now))) }
+    requires { IsTrue (list_all (weight_passes (numbers_of moment.now.scenario.now))
+        (map weight weights.now)) }
+    ensures { IfOk result (λ w. weighed w ≡
+        worths (worth_of moment.now) lasts.now
+        (map (weight_mapped (meaning_of moment.now.scenario.now.table)) (map weight weights.now))) }
 {
     let locals = earlier_locals(alloc, &moment.scenario.locals, lasts)?;
     let known = moment.known(&locals);
@@ -50,9 +53,11 @@ fn weigh_under(
     known: &Known<'_>,
     weights: &[Weight],
 ) -> Result<Weighed, AllocError>
-    requires passes { IsTrue (list_all (weight_passes (numbers_of scenario.now)) (map weight weights.now)) }
+    requires passes { IsTrue (list_all (weight_passes (numbers_of scenario.now))
+        (map weight weights.now)) }
     requires decimals { known.now.decimals ≤ most_decimals }
-    ensures { IfOk result (λ w. weighed w ≡ known_worths scenario.now (valuation_of_known known.now) (map weight weights.now)) }
+    ensures { IfOk result (λ w. weighed w ≡
+        known_worths scenario.now (valuation_of_known known.now) (map weight weights.now)) }
 {
     let mut values = Vec::with_capacity(alloc, weights.len())?;
     for weight in weights {
@@ -111,7 +116,8 @@ pub fn earlier_locals(
     locals: &[Var],
     lasts: &[(u32, Last)],
 ) -> Result<Vec<Option<Value>>, AllocError>
-    ensures { IfOk result (λ values. values.items ≡ earlier_locals_from lasts.now 0 (map variable locals.now)) }
+    ensures { IfOk result (λ values. values.items ≡
+        earlier_locals_from lasts.now 0 (map variable locals.now)) }
 {
     let mut values = Vec::new(alloc);
     for (number, local) in locals.iter().enumerate() {

@@ -30,7 +30,8 @@ pub fn tokens_stand_in_turn()
 
 /// A token of a text is one sign, and no other.
 pub fn a_token_is_one_sign()
-    ensures some { (text : List ℕ) (token : Token) → IsTokenOf text token → (sign : Sign) × IsSign text token sign }
+    ensures some { (text : List ℕ) (token : Token) → IsTokenOf text token → (sign : Sign) ×
+        IsSign text token sign }
     ensures one { (text : List ℕ) (token : Token) (sign other : Sign) →
         IsTokenOf text token → IsSign text token sign → IsSign text token other → sign ≡ other }
 {}

@@ -85,7 +85,8 @@ impl Draft {
         a: FormRef<'_>,
         b: FormRef<'_>,
     ) -> Result<Draft, AllocError>
-        ensures { IfOk result (λ draft. length a.entry.terms.now + length b.entry.terms.now ≤ draft_room draft) }
+        ensures { IfOk result (λ draft. length a.entry.terms.now + length b.entry.terms.now ≤
+            draft_room draft) }
     {
         Draft::with_room(alloc, a.terms.len() + b.terms.len())
     }
@@ -137,8 +138,11 @@ impl Draft {
     /// Overflow, where a coefficient or the constant is past 10^12 in size.
     pub fn set_sum(&mut self, a: FormRef<'_>, b: FormRef<'_>) -> Result<(), Arith>
         requires { length a.terms.now + length b.terms.now ≤ draft_room self.old }
-        ensures told { DraftTells result (draft_form self.new) (form_sum (lent_form a.entry) (lent_form b.entry)) }
-        ensures order { (below : ℕ) → IsTrue (is_form below (lent_form a.entry)) → IsTrue (is_form below (lent_form b.entry)) → OnOk result (IsTrue (is_form below (draft_form self.new))) }
+        ensures told { DraftTells result (draft_form self.new)
+            (form_sum (lent_form a.entry) (lent_form b.entry)) }
+        ensures order { (below : ℕ) → IsTrue (is_form below (lent_form a.entry)) →
+            IsTrue (is_form below (lent_form b.entry)) →
+            OnOk result (IsTrue (is_form below (draft_form self.new))) }
         ensures room { draft_room self.old ≤ draft_room self.new }
     {
         self.set_by(Operation::Sum, a, b)
@@ -151,8 +155,11 @@ impl Draft {
     /// As [`Draft::set_sum`].
     pub fn set_difference(&mut self, a: FormRef<'_>, b: FormRef<'_>) -> Result<(), Arith>
         requires { length a.terms.now + length b.terms.now ≤ draft_room self.old }
-        ensures told { DraftTells result (draft_form self.new) (form_difference (lent_form a.entry) (lent_form b.entry)) }
-        ensures order { (below : ℕ) → IsTrue (is_form below (lent_form a.entry)) → IsTrue (is_form below (lent_form b.entry)) → OnOk result (IsTrue (is_form below (draft_form self.new))) }
+        ensures told { DraftTells result (draft_form self.new)
+            (form_difference (lent_form a.entry) (lent_form b.entry)) }
+        ensures order { (below : ℕ) → IsTrue (is_form below (lent_form a.entry)) →
+            IsTrue (is_form below (lent_form b.entry)) →
+            OnOk result (IsTrue (is_form below (draft_form self.new))) }
         ensures room { draft_room self.old ≤ draft_room self.new }
     {
         self.set_by(Operation::Difference, a, b)
@@ -167,8 +174,10 @@ impl Draft {
     pub fn set_multiple(&mut self, a: FormRef<'_>, by: Fixed, decimals: u32) -> Result<(), Arith>
         requires decimals { decimals ≤ most_decimals }
         requires room { length a.terms.now ≤ draft_room self.old }
-        ensures told { DraftTells result (draft_form self.new) (form_scaled (lent_form a.entry) by.raw decimals) }
-        ensures order { (below : ℕ) → IsTrue (is_form below (lent_form a.entry)) → OnOk result (IsTrue (is_form below (draft_form self.new))) }
+        ensures told { DraftTells result (draft_form self.new)
+            (form_scaled (lent_form a.entry) by.raw decimals) }
+        ensures order { (below : ℕ) → IsTrue (is_form below (lent_form a.entry)) →
+            OnOk result (IsTrue (is_form below (draft_form self.new))) }
         ensures room { draft_room self.old ≤ draft_room self.new }
     {
         self.set_by(Operation::Scaled(by, decimals), a, FormRef::zero())
@@ -183,8 +192,10 @@ impl Draft {
     pub fn set_quotient(&mut self, a: FormRef<'_>, by: Fixed, decimals: u32) -> Result<(), Arith>
         requires decimals { decimals ≤ most_decimals }
         requires room { length a.terms.now ≤ draft_room self.old }
-        ensures told { DraftTells result (draft_form self.new) (form_divided (lent_form a.entry) by.raw decimals) }
-        ensures order { (below : ℕ) → IsTrue (is_form below (lent_form a.entry)) → OnOk result (IsTrue (is_form below (draft_form self.new))) }
+        ensures told { DraftTells result (draft_form self.new)
+            (form_divided (lent_form a.entry) by.raw decimals) }
+        ensures order { (below : ℕ) → IsTrue (is_form below (lent_form a.entry)) →
+            OnOk result (IsTrue (is_form below (draft_form self.new))) }
         ensures room { draft_room self.old ≤ draft_room self.new }
     {
         if by.raw == 0 {
@@ -200,8 +211,11 @@ impl Draft {
         requires second { IsTrue (is_bounded (lent_form b)) }
         requires factor { unsigned_abs factor ≤ 1_000_000 }
         requires room { length a.terms.now + length b.terms.now ≤ draft_room self.old }
-        ensures form { draft_form self.new ≡ form_compared factor (lent_form a.entry) (lent_form b.entry) }
-        ensures order { (below : ℕ) → IsTrue (is_form below (lent_form a.entry)) → IsTrue (is_form below (lent_form b.entry)) → IsTrue (is_difference below (draft_form self.new)) }
+        ensures form { draft_form self.new ≡
+            form_compared factor (lent_form a.entry) (lent_form b.entry) }
+        ensures order { (below : ℕ) → IsTrue (is_form below (lent_form a.entry)) →
+            IsTrue (is_form below (lent_form b.entry)) →
+            IsTrue (is_difference below (draft_form self.new)) }
         ensures room { draft_room self.old ≤ draft_room self.new }
     {
         self.terms.clear();
@@ -225,8 +239,11 @@ impl Draft {
         requires operation { IsOperation operation }
         requires usable { (raw : ℤ) → IsTrue (is_usable operation raw) }
         requires room { length a.terms.now + length b.terms.now ≤ draft_room self.old }
-        ensures told { DraftTells result (draft_form self.new) (form_by (combined operation) (lent_form a.entry) (lent_form b.entry)) }
-        ensures order { (below : ℕ) → IsTrue (is_form below (lent_form a.entry)) → IsTrue (is_form below (lent_form b.entry)) → OnOk result (IsTrue (is_form below (draft_form self.new))) }
+        ensures told { DraftTells result (draft_form self.new)
+            (form_by (combined operation) (lent_form a.entry) (lent_form b.entry)) }
+        ensures order { (below : ℕ) → IsTrue (is_form below (lent_form a.entry)) →
+            IsTrue (is_form below (lent_form b.entry)) →
+            OnOk result (IsTrue (is_form below (draft_form self.new))) }
         ensures bounded { OnOk result (IsTrue (is_bounded (draft_form self.new))) }
         ensures room { draft_room self.old ≤ draft_room self.new }
     {

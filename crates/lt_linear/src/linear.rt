@@ -107,7 +107,8 @@ fn form_by(
 ) -> Result<Form, NumRefusal>
     requires operation { IsOperation operation }
     requires usable { (raw : ℤ) → IsTrue (is_usable operation raw) }
-    ensures told { TellsForm result (form_by (combined operation) (lent_form a.entry) (lent_form b.entry)) }
+    ensures told { TellsForm result
+        (form_by (combined operation) (lent_form a.entry) (lent_form b.entry)) }
     ensures bounded { IfOk result (λ form. IsTrue (is_bounded form)) }
 {
     let mut draft = Draft::for_both(alloc, a, b)?;

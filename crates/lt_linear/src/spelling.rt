@@ -33,7 +33,8 @@ pub(crate) fn first_term<'a>(word: &[u8], behind: &'a [u8], least: u64) -> Optio
     requires { IsTrue (lacks 32 word.now) }
     ensures { MatchOption result
         (SpellsNone least (word.now ++ 32 ∷ behind.now))
-        (λ first. BeginsWith least (word.now ++ 32 ∷ behind.now) first.variable first.coefficient first.rest.now) }
+        (λ first. BeginsWith least (word.now ++ 32 ∷
+        behind.now) first.variable first.coefficient first.rest.now) }
 {
     let (variable, coefficient) = read_term(word)?;
     let rest = after_plus(behind)?;

@@ -59,7 +59,8 @@ pub fn div(a: Fixed, b: Fixed, decimals: u32) -> Result<Fixed, Arith>
     requires { decimals ≤ most_decimals }
     ensures by_zero { b.raw ≡ pos 0 → result ≡ Err Arith.DivisionByZero }
     ensures rounded { b.raw ≢ pos 0 → IsRounded (a.raw *ℤ pos (10 ^ decimals)) b.raw result }
-    ensures value { b.raw ≢ pos 0 → result ≡ bounded (nearest (a.raw *ℤ pos (10 ^ decimals)) b.raw) }
+    ensures value { b.raw ≢ pos 0 →
+        result ≡ bounded (nearest (a.raw *ℤ pos (10 ^ decimals)) b.raw) }
 {
     if b.raw == 0 {
         return Err(Arith::DivisionByZero);

@@ -20,8 +20,10 @@ pub(crate) struct Arranged {
 /// The numbers of atoms that occur, each of them once.
 pub(crate) fn arrange(alloc: Global, table: &Table, occurring: &[u32]) -> Result<Arranged, Memory>
     requires { IsTrue (are_within table.now occurring.now) }
-    ensures numbers { IfOk result (λ atoms. atoms.numbers.items ≡ arranged table.now occurring.now) }
-    ensures known { IfOk result (λ atoms. atoms.known ≡ length (known_numbers table.now occurring.now)) }
+    ensures numbers { IfOk result (λ atoms. atoms.numbers.items ≡
+        arranged table.now occurring.now) }
+    ensures known { IfOk result (λ atoms. atoms.known ≡
+        length (known_numbers table.now occurring.now)) }
 {
     let mut numbers = Vec::new(alloc);
     add_numbers(table, occurring, true, &mut numbers)?;
@@ -38,7 +40,8 @@ fn add_numbers(
     found: &mut Vec<u32>,
 ) -> Result<(), Memory>
     requires { IsTrue (are_within table.now occurring.now) }
-    ensures { OnOk result (found.new.items ≡ with_numbers (is_of_class is_known table.now) found.old.items occurring.now) }
+    ensures { OnOk result (found.new.items ≡
+        with_numbers (is_of_class is_known table.now) found.old.items occurring.now) }
 {
     let mut rest = occurring;
     while let Some((exp, more)) = rest.split_first() {
@@ -51,7 +54,9 @@ fn add_numbers(
 // Puts a number behind others, if it is of the class, and isn't there yet.
 fn add_number(table: &Table, exp: u32, is_known: bool, found: &mut Vec<u32>) -> Result<(), Memory>
     requires { exp < table_len table.now }
-    ensures { OnOk result (found.new.items ≡ (if is_of_class is_known table.now exp then with_number found.old.items exp else found.old.items)) }
+    ensures { OnOk result (found.new.items ≡
+        (if is_of_class is_known table.now exp then with_number found.old.items exp
+        else found.old.items)) }
 {
     if table.facts(exp).is_known != is_known || found.contains(&exp) {
         return Ok(());

@@ -12,7 +12,8 @@ use lt_num::Kind;
 /// Puts the conjuncts of a constraint behind numbers that are there: the parts of its outermost `and`s, in their order.
 pub(crate) fn collect_conjuncts(table: &Table, exp: u32, found: &mut Vec<u32>) -> Result<(), Memory>
     requires { exp < table_len table.now }
-    ensures { OnOk result (Collects table.now (conjuncts_of (table_kinds table.now) (at table.now exp)) found.old.items found.new.items) }
+    ensures { OnOk result (Collects table.now
+        (conjuncts_of (table_kinds table.now) (at table.now exp)) found.old.items found.new.items) }
 {
     match table.shape(exp) {
         Shape::Binary(operator, left, right) => {
@@ -29,7 +30,8 @@ pub(crate) fn collect_conjuncts(table: &Table, exp: u32, found: &mut Vec<u32>) -
 /// Puts the atoms of a Boolean behind numbers that are there, as they occur from left to right.
 pub(crate) fn collect_atoms(table: &Table, exp: u32, found: &mut Vec<u32>) -> Result<(), Memory>
     requires { exp < table_len table.now }
-    ensures { OnOk result (Collects table.now (atoms_in (table_kinds table.now) (at table.now exp)) found.old.items found.new.items) }
+    ensures { OnOk result (Collects table.now (atoms_in (table_kinds table.now) (at table.now exp))
+        found.old.items found.new.items) }
 {
     if table.facts(exp).is_known {
         return put(exp, found);

@@ -21,7 +21,9 @@ use std::alloc::Global;
 /// Want of memory.
 pub fn parts(alloc: Global, table: &Table, exp: u32) -> Result<Vec<Part>, Memory>
     requires { exp < table_len table.now }
-    ensures { IfOk result (λ parts. AreParts table.now (conjuncts_of (table_kinds table.now) (at table.now exp)) (map piece_of parts.items)) }
+    ensures { IfOk result (λ parts.
+        AreParts table.now (conjuncts_of (table_kinds table.now) (at table.now exp))
+        (map piece_of parts.items)) }
 {
     let mut conjuncts = Vec::new(alloc);
     collect_conjuncts(table, exp, &mut conjuncts)?;
@@ -41,7 +43,9 @@ pub fn parts(alloc: Global, table: &Table, exp: u32) -> Result<Vec<Part>, Memory
 /// Want of memory.
 pub fn most_atoms(alloc: Global, table: &Table, exp: u32) -> Result<usize, Memory>
     requires { exp < table_len table.now }
-    ensures { IfOk result (λ most. (pieces : List Piece) × AreParts table.now (conjuncts_of (table_kinds table.now) (at table.now exp)) pieces × (most ≡ most_atoms_of pieces)) }
+    ensures { IfOk result (λ most. (pieces : List Piece) ×
+        AreParts table.now (conjuncts_of (table_kinds table.now) (at table.now exp)) pieces ×
+        (most ≡ most_atoms_of pieces)) }
 {
     let found = parts(alloc, table, exp)?;
     Ok(greatest(&found))

@@ -25,7 +25,9 @@ pub(crate) fn outline(
     atoms: &[u32],
 ) -> Result<Formula, Memory>
     requires { exp < table_len table.now }
-    ensures { IfOk result (λ formula. Outlines (IsFlagOf table.now atoms.now) (table_kinds table.now) (at table.now exp) (formula_view formula)) }
+    ensures { IfOk result (λ formula.
+        Outlines (IsFlagOf table.now atoms.now) (table_kinds table.now) (at table.now exp)
+        (formula_view formula)) }
 {
     if table.facts(exp).is_known {
         return flag(exp, atoms);
@@ -59,7 +61,9 @@ fn boxed_outline(
     atoms: &[u32],
 ) -> Result<Box<Formula>, Memory>
     requires { exp < table_len table.now }
-    ensures { IfOk result (λ formula. Outlines (IsFlagOf table.now atoms.now) (table_kinds table.now) (at table.now exp) (boxed_view formula)) }
+    ensures { IfOk result (λ formula.
+        Outlines (IsFlagOf table.now atoms.now) (table_kinds table.now) (at table.now exp)
+        (boxed_view formula)) }
 {
     let formula = outline(alloc, table, exp, atoms)?;
     Ok(Box::new(alloc, formula)?)
@@ -72,7 +76,8 @@ fn comparison(
     exp: u32,
     atoms: &[u32],
 ) -> Result<Formula, Memory>
-    ensures { IfOk result (λ formula. OutlinesComparison (λ f. IsFlagAt atoms.now exp f) operator (formula_view formula)) }
+    ensures { IfOk result (λ formula.
+        OutlinesComparison (λ f. IsFlagAt atoms.now exp f) operator (formula_view formula)) }
 {
     let formula = flag(exp, atoms)?;
     match operator {
@@ -91,7 +96,8 @@ fn flag(exp: u32, atoms: &[u32]) -> Result<Formula, Memory>
 
 // The place of a number among others, if it is there and has a number.
 fn place_of(exp: u32, atoms: &[u32]) -> Option<u32>
-    ensures { IfSome result (λ place. (place < length atoms.now) × (slice_index_or atoms.now place 0 ≡ exp)) }
+    ensures { IfSome result (λ place. (place < length atoms.now) ×
+        (slice_index_or atoms.now place 0 ≡ exp)) }
 {
     let place = atoms.iter().position(|atom| *atom == exp)?;
     u32::try_from(place).ok()

@@ -67,7 +67,9 @@ pub(crate) fn answer_within(
     requires width { room.old.rows.rows.width ≡ suc (length ranges.now) }
     requires row { room.old.rows.rows.width ≤ vec_capacity room.old.rows.row }
     requires marks { circuit_len (space_circuit space.now) ≤ vec_capacity room.old.rows.marks }
-    ensures tells { Tells result values.new (first_solution (passes space.now) (ranges_in scope.now ranges.now) targets.now) (need scope.now ranges.now) budget }
+    ensures tells { Tells result values.new
+        (first_solution (passes space.now) (ranges_in scope.now ranges.now) targets.now)
+        (need scope.now ranges.now) budget }
     ensures current { length room.new.current.items ≡ length room.old.current.items }
     ensures stack { vec_capacity room.old.stack ≤ vec_capacity room.new.stack }
     ensures verdicts { vec_capacity room.new.verdicts ≡ vec_capacity room.old.verdicts }

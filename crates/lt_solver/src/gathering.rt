@@ -37,7 +37,9 @@ pub(crate) fn gather(space: &Space, room: &mut RowRoom)
     requires some { 0 < room.old.rows.width }
     requires row { room.old.rows.width ≤ vec_capacity room.old.row }
     requires marks { circuit_len (space_circuit space.now) ≤ vec_capacity room.old.marks }
-    ensures follow { (ranges : List Range) → suc (length ranges) ≡ room.old.rows.width → length ranges ≤ most_variables → AreDomains ranges → Follow (passes space.now) ranges room.new.rows.width room.new.rows.cells.items }
+    ensures follow { (ranges : List Range) → suc (length ranges) ≡ room.old.rows.width →
+        length ranges ≤ most_variables → AreDomains ranges →
+        Follow (passes space.now) ranges room.new.rows.width room.new.rows.cells.items }
     ensures width { room.new.rows.width ≡ room.old.rows.width }
     ensures row { vec_capacity room.new.row ≡ vec_capacity room.old.row }
     ensures marks { vec_capacity room.new.marks ≡ vec_capacity room.old.marks }
@@ -52,7 +54,10 @@ fn gather_from(circuit: &Circuit, root: u32, decimals: u32, room: &mut RowRoom)
     requires some { 0 < room.old.rows.width }
     requires row { room.old.rows.width ≤ vec_capacity room.old.row }
     requires marks { circuit_len circuit.now ≤ vec_capacity room.old.marks }
-    ensures follow { (ranges : List Range) → suc (length ranges) ≡ room.old.rows.width → length ranges ≤ most_variables → AreDomains ranges → Follow (passes_at decimals circuit.now root) ranges room.new.rows.width room.new.rows.cells.items }
+    ensures follow { (ranges : List Range) → suc (length ranges) ≡ room.old.rows.width →
+        length ranges ≤ most_variables → AreDomains ranges →
+        Follow (passes_at decimals circuit.now root) ranges room.new.rows.width
+        room.new.rows.cells.items }
     ensures width { room.new.rows.width ≡ room.old.rows.width }
     ensures row { vec_capacity room.new.row ≡ vec_capacity room.old.row }
     ensures marks { vec_capacity room.new.marks ≡ vec_capacity room.old.marks }
@@ -76,10 +81,16 @@ fn gather_gate(circuit: &Circuit, number: u32, decimals: u32, room: &mut RowRoom
     requires decimals { decimals ≤ most_decimals }
     requires some { 0 < room.old.rows.width }
     requires row { room.old.rows.width ≤ vec_capacity room.old.row }
-    ensures follow { (test : List ℤ → Bool) (ranges : List Range) → suc (length ranges) ≡ room.old.rows.width → length ranges ≤ most_variables → AreDomains ranges
-        → ((values : List ℤ) → IsPointOf ranges values → test values ≡ true → AllHold decimals values (circuit_formulas circuit.now) room.old.marks.items)
-        → Follow test ranges room.old.rows.width room.old.rows.cells.items → Follow test ranges room.new.rows.width room.new.rows.cells.items }
-    ensures all { (values : List ℤ) → AllHold decimals values (circuit_formulas circuit.now) room.old.marks.items → AllHold decimals values (circuit_formulas circuit.now) room.new.marks.items }
+    ensures follow { (test : List ℤ → Bool) (ranges : List Range) →
+        suc (length ranges) ≡ room.old.rows.width → length ranges ≤ most_variables →
+        AreDomains ranges
+        → ((values : List ℤ) → IsPointOf ranges values → test values ≡ true →
+        AllHold decimals values (circuit_formulas circuit.now) room.old.marks.items)
+        → Follow test ranges room.old.rows.width room.old.rows.cells.items →
+        Follow test ranges room.new.rows.width room.new.rows.cells.items }
+    ensures all { (values : List ℤ) →
+        AllHold decimals values (circuit_formulas circuit.now) room.old.marks.items →
+        AllHold decimals values (circuit_formulas circuit.now) room.new.marks.items }
     ensures len { length room.new.marks.items ≡ length room.old.marks.items }
     ensures width { room.new.rows.width ≡ room.old.rows.width }
     ensures row { vec_capacity room.new.row ≡ vec_capacity room.old.row }
@@ -112,9 +123,13 @@ fn gather_comparison(circuit: &Circuit, number: u32, is_so: bool, decimals: u32,
     requires decimals { decimals ≤ most_decimals }
     requires some { 0 < room.old.rows.width }
     requires row { room.old.rows.width ≤ vec_capacity room.old.row }
-    ensures follow { (test : List ℤ → Bool) (ranges : List Range) → suc (length ranges) ≡ room.old.rows.width → length ranges ≤ most_variables → AreDomains ranges
-        → ((values : List ℤ) → IsPointOf ranges values → test values ≡ true → holds decimals values (formula_at (circuit_formulas circuit.now) number) ≡ is_so)
-        → Follow test ranges room.old.rows.width room.old.rows.cells.items → Follow test ranges room.new.rows.width room.new.rows.cells.items }
+    ensures follow { (test : List ℤ → Bool) (ranges : List Range) →
+        suc (length ranges) ≡ room.old.rows.width → length ranges ≤ most_variables →
+        AreDomains ranges
+        → ((values : List ℤ) → IsPointOf ranges values → test values ≡ true →
+        holds decimals values (formula_at (circuit_formulas circuit.now) number) ≡ is_so)
+        → Follow test ranges room.old.rows.width room.old.rows.cells.items →
+        Follow test ranges room.new.rows.width room.new.rows.cells.items }
     ensures marks { room.new.marks ≡ room.old.marks }
     ensures width { room.new.rows.width ≡ room.old.rows.width }
     ensures row { vec_capacity room.new.row ≡ vec_capacity room.old.row }
@@ -169,9 +184,13 @@ fn gather_bound(terms: &[(u32, i64)], negated: bool, constant: Option<i128>, roo
     requires constant { IfSome constant (λ c. unsigned_abs c ≤ most_part) }
     requires some { 0 < room.old.rows.width }
     requires row { room.old.rows.width ≤ vec_capacity room.old.row }
-    ensures follow { (test : List ℤ → Bool) (ranges : List Range) → suc (length ranges) ≡ room.old.rows.width → length ranges ≤ most_variables → AreDomains ranges
-        → ((values : List ℤ) → IsPointOf ranges values → test values ≡ true → IsBound negated (sum_at terms.now values) constant)
-        → Follow test ranges room.old.rows.width room.old.rows.cells.items → Follow test ranges room.new.rows.width room.new.rows.cells.items }
+    ensures follow { (test : List ℤ → Bool) (ranges : List Range) →
+        suc (length ranges) ≡ room.old.rows.width → length ranges ≤ most_variables →
+        AreDomains ranges
+        → ((values : List ℤ) → IsPointOf ranges values → test values ≡ true →
+        IsBound negated (sum_at terms.now values) constant)
+        → Follow test ranges room.old.rows.width room.old.rows.cells.items →
+        Follow test ranges room.new.rows.width room.new.rows.cells.items }
     ensures marks { room.new.marks ≡ room.old.marks }
     ensures width { room.new.rows.width ≡ room.old.rows.width }
     ensures row { vec_capacity room.new.row ≡ vec_capacity room.old.row }
@@ -206,7 +225,8 @@ fn write_row(
     requires few { length terms.now ≤ most_terms }
     requires constant { unsigned_abs constant ≤ most_part }
     requires room { variables < vec_capacity row.old }
-    ensures items { row.new.items ≡ with_terms negated (padded (pos 0) variables constant) terms.now }
+    ensures items { row.new.items ≡
+        with_terms negated (padded (pos 0) variables constant) terms.now }
     ensures below { AreBelow most_cell row.new.items }
     ensures capacity { vec_capacity row.new ≡ vec_capacity row.old }
 {

@@ -36,7 +36,8 @@ pub(crate) fn judge(
     requires decimals { decimals ≤ most_decimals }
     requires domains { AreDomains ranges.now }
     requires room { circuit_len circuit.now ≤ vec_capacity verdicts.old }
-    ensures value { result ≡ verdict_of decimals ranges.now (formula_at (circuit_formulas circuit.now) root) }
+    ensures value { result ≡ verdict_of decimals ranges.now
+        (formula_at (circuit_formulas circuit.now) root) }
     ensures room { vec_capacity verdicts.new ≡ vec_capacity verdicts.old }
 {
     verdicts.clear();
@@ -58,8 +59,10 @@ fn judge_number(
     requires within { number < circuit_len circuit.now }
     requires decimals { decimals ≤ most_decimals }
     requires domains { AreDomains ranges.now }
-    requires earlier { earlier.now ≡ map (verdict_of decimals ranges.now) (take number (circuit_formulas circuit.now)) }
-    ensures { result ≡ verdict_of decimals ranges.now (formula_at (circuit_formulas circuit.now) number) }
+    requires earlier { earlier.now ≡
+        map (verdict_of decimals ranges.now) (take number (circuit_formulas circuit.now)) }
+    ensures { result ≡ verdict_of decimals ranges.now
+        (formula_at (circuit_formulas circuit.now) number) }
 {
     judge_gate(
         circuit.gate(number),
@@ -124,7 +127,8 @@ fn judge_comparison(relation: Relation, span: Span, constant: i64, decimals: u32
     requires decimals { decimals ≤ most_decimals }
     requires least { unsigned_abs span.least ≤ 2 ^ 108 }
     requires greatest { unsigned_abs span.greatest ≤ 2 ^ 108 }
-    ensures { result ≡ compared relation (span.least +ℤ constant *ℤ pos (10 ^ decimals)) (span.greatest +ℤ constant *ℤ pos (10 ^ decimals)) }
+    ensures { result ≡ compared relation (span.least +ℤ constant *ℤ pos (10 ^ decimals))
+        (span.greatest +ℤ constant *ℤ pos (10 ^ decimals)) }
 {
     let whole = with_constant(span, constant, decimals);
     Verdict::of_comparison(relation, whole.least, whole.greatest)

@@ -43,9 +43,11 @@ pub(crate) fn look(
     requires domains { AreDomains current.old }
     requires whole { AreWhole rows.now.width rows.now.cells.items current.old }
     requires reaches { ReachesAll (rows_of rows.now) current.old }
-    requires implied { (values : List ℤ) → IsPointOf current.old values → passes space.now values ≡ true → SatisfyAll (rows_of rows.now) values }
+    requires implied { (values : List ℤ) → IsPointOf current.old values →
+        passes space.now values ≡ true → SatisfyAll (rows_of rows.now) values }
     requires room { circuit_len (space_circuit space.now) ≤ vec_capacity verdicts.old }
-    ensures sees { (targets : List ℤ) → length targets ≡ length current.old → Sees (passes space.now) targets current.old current.new result }
+    ensures sees { (targets : List ℤ) → length targets ≡ length current.old →
+        Sees (passes space.now) targets current.old current.new result }
     ensures narrower { IsNarrower current.old current.new }
     ensures room { vec_capacity verdicts.new ≡ vec_capacity verdicts.old }
 {
@@ -66,9 +68,11 @@ fn look_closer(
     requires domains { AreDomains current.old }
     requires whole { AreWhole rows.now.width rows.now.cells.items current.old }
     requires reaches { ReachesAll (rows_of rows.now) current.old }
-    requires implied { (values : List ℤ) → IsPointOf current.old values → passes space.now values ≡ true → SatisfyAll (rows_of rows.now) values }
+    requires implied { (values : List ℤ) → IsPointOf current.old values →
+        passes space.now values ≡ true → SatisfyAll (rows_of rows.now) values }
     requires room { circuit_len (space_circuit space.now) ≤ vec_capacity verdicts.old }
-    ensures sees { (targets : List ℤ) → length targets ≡ length current.old → Sees (passes space.now) targets current.old current.new result }
+    ensures sees { (targets : List ℤ) → length targets ≡ length current.old →
+        Sees (passes space.now) targets current.old current.new result }
     ensures narrower { IsNarrower current.old current.new }
     ensures room { vec_capacity verdicts.new ≡ vec_capacity verdicts.old }
 {
@@ -86,7 +90,8 @@ fn look_at_point(space: &Space, current: &[Range], verdicts: &mut Vec<Verdict>) 
     requires domains { AreDomains current.now }
     requires fixed { AreFixed (length current.now) current.now }
     requires room { circuit_len (space_circuit space.now) ≤ vec_capacity verdicts.old }
-    ensures sees { (targets : List ℤ) → length targets ≡ length current.now → Sees (passes space.now) targets current.now current.now result }
+    ensures sees { (targets : List ℤ) → length targets ≡ length current.now →
+        Sees (passes space.now) targets current.now current.now result }
     ensures room { vec_capacity verdicts.new ≡ vec_capacity verdicts.old }
 {
     match verdict_within(space, current, verdicts) {
@@ -100,7 +105,8 @@ fn look_at_point(space: &Space, current: &[Range], verdicts: &mut Vec<Verdict>) 
 fn verdict_within(space: &Space, ranges: &[Range], verdicts: &mut Vec<Verdict>) -> Verdict
     requires domains { AreDomains ranges.now }
     requires room { circuit_len (space_circuit space.now) ≤ vec_capacity verdicts.old }
-    ensures value { result ≡ verdict_of (space_decimals space.now) ranges.now (space_formula space.now) }
+    ensures value { result ≡ verdict_of (space_decimals space.now) ranges.now
+        (space_formula space.now) }
     ensures room { vec_capacity verdicts.new ≡ vec_capacity verdicts.old }
 {
     judge(
@@ -115,7 +121,9 @@ fn verdict_within(space: &Space, ranges: &[Range], verdicts: &mut Vec<Verdict>) 
 // The first variable with several numbers.
 fn first_open(ranges: &[Range]) -> Option<usize>
     requires { AreSome ranges.now }
-    ensures { MatchOption result (AreFixed (length ranges.now) ranges.now) (λ i. (i < length ranges.now) × AreFixed i ranges.now × ((range_at ranges.now i).low <ℤ (range_at ranges.now i).high)) }
+    ensures { MatchOption result (AreFixed (length ranges.now) ranges.now) (λ i.
+        (i < length ranges.now) × AreFixed i ranges.now ×
+        ((range_at ranges.now i).low <ℤ (range_at ranges.now i).high)) }
 {
     for i in 0..ranges.len() {
         if ranges[i].low < ranges[i].high {

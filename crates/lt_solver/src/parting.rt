@@ -29,7 +29,8 @@ pub(crate) fn part_box(
     requires several { (range_at current.old variable).low <ℤ (range_at current.old variable).high }
     requires domains { AreDomains current.old }
     requires room { vec_len stack.old + length current.old ≤ vec_capacity stack.old }
-    ensures parted { IsParted (slice_index_or targets.now variable (pos 0)) variable current.old current.new stack.old.items stack.new.items }
+    ensures parted { IsParted (slice_index_or targets.now variable (pos 0)) variable current.old
+        current.new stack.old.items stack.new.items }
     ensures len { vec_len stack.new ≡ vec_len stack.old + length current.old }
     ensures capacity { vec_capacity stack.old ≤ vec_capacity stack.new }
 {
@@ -44,7 +45,8 @@ fn split(range: Range, target: i64) -> Parts
     requires several { range.low <ℤ range.high }
     requires low { unsigned_abs range.low ≤ most_raw }
     requires high { unsigned_abs range.high ≤ most_raw }
-    ensures parts { raws_from target range ≡ raws_from target result.first ++ raws_from target result.second }
+    ensures parts { raws_from target range ≡ raws_from target result.first ++
+        raws_from target result.second }
     ensures first { IsPart target range result.first }
     ensures second { IsPart target range result.second }
 {
@@ -61,7 +63,8 @@ fn split_at(range: Range, target: i64) -> Parts
     requires under { target ≤ℤ range.high }
     requires low { unsigned_abs range.low ≤ most_raw }
     requires high { unsigned_abs range.high ≤ most_raw }
-    ensures parts { raws_from target range ≡ raws_from target result.first ++ raws_from target result.second }
+    ensures parts { raws_from target range ≡ raws_from target result.first ++
+        raws_from target result.second }
     ensures first { IsPart target range result.first }
     ensures second { IsPart target range result.second }
 {
@@ -85,7 +88,8 @@ fn halve(range: Range, target: i64) -> Parts
     requires outside { (target ≤ℤ range.low) ⊎ (range.high <ℤ target) }
     requires low { unsigned_abs range.low ≤ most_raw }
     requires high { unsigned_abs range.high ≤ most_raw }
-    ensures parts { raws_from target range ≡ raws_from target result.first ++ raws_from target result.second }
+    ensures parts { raws_from target range ≡ raws_from target result.first ++
+        raws_from target result.second }
     ensures first { IsPart target range result.first }
     ensures second { IsPart target range result.second }
 {

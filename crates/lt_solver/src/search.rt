@@ -33,10 +33,13 @@ pub(crate) fn search(
     requires targets { length targets.now ≡ length current.old }
     requires whole { AreWhole rows.now.width rows.now.cells.items current.old }
     requires reaches { ReachesAll (rows_of rows.now) current.old }
-    requires implied { (values : List ℤ) → IsPointOf current.old values → passes space.now values ≡ true → SatisfyAll (rows_of rows.now) values }
-    requires stack { levels_of targets.now current.old * length current.old ≤ vec_capacity stack.old }
+    requires implied { (values : List ℤ) → IsPointOf current.old values →
+        passes space.now values ≡ true → SatisfyAll (rows_of rows.now) values }
+    requires stack { levels_of targets.now current.old * length current.old ≤
+        vec_capacity stack.old }
     requires verdicts { circuit_len (space_circuit space.now) ≤ vec_capacity verdicts.old }
-    ensures found { first_solution (passes space.now) current.old targets.now ≡ (if result then Some (first_point targets.now current.new) else None) }
+    ensures found { first_solution (passes space.now) current.old targets.now ≡
+        (if result then Some (first_point targets.now current.new) else None) }
     ensures narrower { IsNarrower current.old current.new }
     ensures stack { vec_capacity stack.old ≤ vec_capacity stack.new }
     ensures verdicts { vec_capacity verdicts.new ≡ vec_capacity verdicts.old }
@@ -65,7 +68,8 @@ pub(crate) fn search(
 fn take_box(current: &mut [Range], stack: &mut Vec<Range>)
     requires { length current.old ≤ vec_len stack.old }
     ensures current { current.new ≡ drop (vec_len stack.old - length current.old) stack.old.items }
-    ensures stack { stack.new.items ≡ take (vec_len stack.old - length current.old) stack.old.items }
+    ensures stack { stack.new.items ≡
+        take (vec_len stack.old - length current.old) stack.old.items }
     ensures len { vec_len stack.new ≡ vec_len stack.old - length current.old }
     ensures capacity { vec_capacity stack.new ≡ vec_capacity stack.old }
 {

@@ -88,7 +88,11 @@ impl Workspace {
     ) -> Answer
         requires targets { length targets.now ≡ length (workspace_ranges self.old) }
         requires room { circuit_len (space_circuit space.now) ≤ workspace_gates self.old }
-        ensures tells { Tells result (workspace_values self.new) (first_solution (λ vs. holds (space_decimals space.now) vs (space_formula space.now)) (ranges_in scope.now (workspace_ranges self.old)) targets.now) (need scope.now (workspace_ranges self.old)) budget }
+        ensures tells { Tells result (workspace_values self.new)
+            (first_solution (λ vs.
+            holds (space_decimals space.now) vs (space_formula space.now))
+            (ranges_in scope.now (workspace_ranges self.old)) targets.now)
+            (need scope.now (workspace_ranges self.old)) budget }
         ensures ranges { workspace_ranges self.new ≡ workspace_ranges self.old }
         ensures gates { workspace_gates self.new ≡ workspace_gates self.old }
     {

@@ -38,7 +38,9 @@ pub fn formula_of(
     requires within { exp < table_len table.now }
     requires few { HasFewVariables (table_kinds table.now) }
     requires decimals { known.now.decimals ≤ most_decimals }
-    ensures { Tells formula_view result (formula_of (valuation_of_known known.now) (table_kinds table.now) (spelled (table_expressions table.now) exp)) }
+    ensures { Tells formula_view result
+        (formula_of (valuation_of_known known.now) (table_kinds table.now)
+        (spelled (table_expressions table.now) exp)) }
 {
     if table.facts(exp).is_known {
         return known_formula(table, exp, known);
@@ -73,7 +75,9 @@ fn boxed_formula(
     requires within { exp < table_len table.now }
     requires few { HasFewVariables (table_kinds table.now) }
     requires decimals { known.now.decimals ≤ most_decimals }
-    ensures { Tells boxed_view result (formula_of (valuation_of_known known.now) (table_kinds table.now) (spelled (table_expressions table.now) exp)) }
+    ensures { Tells boxed_view result
+        (formula_of (valuation_of_known known.now) (table_kinds table.now)
+        (spelled (table_expressions table.now) exp)) }
 {
     let formula = formula_of(alloc, table, exp, known)?;
     boxed(alloc, formula)
@@ -93,7 +97,11 @@ fn both_formulas(
     requires right { right < table_len table.now }
     requires few { HasFewVariables (table_kinds table.now) }
     requires decimals { known.now.decimals ≤ most_decimals }
-    ensures { Tells boxed_views result (both (formula_of (valuation_of_known known.now) (table_kinds table.now) (spelled (table_expressions table.now) left)) (formula_of (valuation_of_known known.now) (table_kinds table.now) (spelled (table_expressions table.now) right))) }
+    ensures { Tells boxed_views result
+        (both (formula_of (valuation_of_known known.now) (table_kinds table.now)
+        (spelled (table_expressions table.now) left))
+        (formula_of (valuation_of_known known.now) (table_kinds table.now)
+        (spelled (table_expressions table.now) right))) }
 {
     let first = boxed_formula(alloc, table, left, known)?;
     let second = boxed_formula(alloc, table, right, known)?;
@@ -115,9 +123,13 @@ fn binary_formula(
     requires right { right < table_len table.now }
     requires few { HasFewVariables (table_kinds table.now) }
     requires decimals { known.now.decimals ≤ most_decimals }
-    ensures { Tells formula_view result (binary_formula operator (valuation_of_known known.now) (table_kinds table.now) (spelled (table_expressions table.now) left) (spelled (table_expressions table.now) right)
-        (formula_of (valuation_of_known known.now) (table_kinds table.now) (spelled (table_expressions table.now) left))
-        (formula_of (valuation_of_known known.now) (table_kinds table.now) (spelled (table_expressions table.now) right))) }
+    ensures { Tells formula_view result
+        (binary_formula operator (valuation_of_known known.now) (table_kinds table.now)
+        (spelled (table_expressions table.now) left) (spelled (table_expressions table.now) right)
+        (formula_of (valuation_of_known known.now) (table_kinds table.now)
+        (spelled (table_expressions table.now) left))
+        (formula_of (valuation_of_known known.now) (table_kinds table.now)
+        (spelled (table_expressions table.now) right))) }
 {
     let kind = table.facts(left).kind;
     if !matches!(kind, Kind::Bool) {
@@ -147,10 +159,15 @@ fn choice_formula(
     requires second { second < table_len table.now }
     requires few { HasFewVariables (table_kinds table.now) }
     requires decimals { known.now.decimals ≤ most_decimals }
-    ensures { Tells formula_view result (choice_formula (valuation_of_known known.now) (table_kinds table.now) (spelled (table_expressions table.now) condition)
-        (formula_of (valuation_of_known known.now) (table_kinds table.now) (spelled (table_expressions table.now) condition))
-        (formula_of (valuation_of_known known.now) (table_kinds table.now) (spelled (table_expressions table.now) first))
-        (formula_of (valuation_of_known known.now) (table_kinds table.now) (spelled (table_expressions table.now) second))) }
+    ensures { Tells formula_view result
+        (choice_formula (valuation_of_known known.now) (table_kinds table.now)
+        (spelled (table_expressions table.now) condition)
+        (formula_of (valuation_of_known known.now) (table_kinds table.now)
+        (spelled (table_expressions table.now) condition))
+        (formula_of (valuation_of_known known.now) (table_kinds table.now)
+        (spelled (table_expressions table.now) first))
+        (formula_of (valuation_of_known known.now) (table_kinds table.now)
+        (spelled (table_expressions table.now) second))) }
 {
     if table.facts(condition).is_known {
         return if known_value(table, condition, known)?.is_true() {
@@ -168,7 +185,9 @@ fn choice_formula(
 fn known_formula(table: &Table, exp: u32, known: &Known<'_>) -> Result<Formula, FormulaRefusal>
     requires within { exp < table_len table.now }
     requires decimals { known.now.decimals ≤ most_decimals }
-    ensures { Tells formula_view result (known_formula (valuation_of_known known.now) (table_kinds table.now) (spelled (table_expressions table.now) exp)) }
+    ensures { Tells formula_view result
+        (known_formula (valuation_of_known known.now) (table_kinds table.now)
+        (spelled (table_expressions table.now) exp)) }
 {
     let value = known_value(table, exp, known)?;
     Ok(Formula::Truth(value.is_true()))
@@ -183,7 +202,8 @@ pub(crate) fn settled_truth(
 ) -> Result<Option<bool>, Arith>
     requires within { left < table_len table.now }
     requires decimals { known.now.decimals ≤ most_decimals }
-    ensures { result ≡ settled_truth (valuation_of_known known.now) (table_kinds table.now) operator (spelled (table_expressions table.now) left) }
+    ensures { result ≡ settled_truth (valuation_of_known known.now) (table_kinds table.now) operator
+        (spelled (table_expressions table.now) left) }
 {
     if !table.facts(left).is_known {
         return Ok(None);
@@ -202,7 +222,8 @@ pub fn connected(
     left: Box<Formula>,
     right: Box<Formula>,
 ) -> Result<Formula, FormulaRefusal>
-    ensures { Tells formula_view result (Ok (connected operator (formula_view left.value) (formula_view right.value))) }
+    ensures { Tells formula_view result
+        (Ok (connected operator (formula_view left.value) (formula_view right.value))) }
 {
     match operator {
         BinaryOperator::And => Ok(Formula::And(left, right)),

@@ -78,7 +78,8 @@ impl Circuit {
         ensures len { IfOk result (λ circuit. circuit_len circuit ≡ 0) }
         ensures terms { IfOk result (λ circuit. circuit_terms circuit ≡ []) }
         ensures room { IfOk result (λ circuit. circuit_room circuit ≡ min gates 4_294_967_296) }
-        ensures terms_room { IfOk result (λ circuit. circuit_terms_room circuit ≡ min terms 4_294_967_295) }
+        ensures terms_room { IfOk result (λ circuit. circuit_terms_room circuit ≡
+            min terms 4_294_967_295) }
     {
         Ok(Circuit {
             gates: Vec::with_capacity(alloc, gates)?,
@@ -118,7 +119,8 @@ impl Circuit {
     /// A gate.
     pub fn gate(&self, number: u32) -> Gate
         requires { number < circuit_len self.now }
-        ensures formula { formula_at (circuit_formulas self.now) number ≡ gate_formula (circuit_terms self.now) (circuit_formulas self.now) result }
+        ensures formula { formula_at (circuit_formulas self.now) number ≡
+            gate_formula (circuit_terms self.now) (circuit_formulas self.now) result }
         ensures fits { IsTrue (gate_fits (length (circuit_terms self.now)) number result) }
     {
         self.gates[number as usize]
@@ -135,10 +137,12 @@ impl Circuit {
 
     /// Puts a gate behind those that are there, in reserved room, and answers its number.
     pub fn push(&mut self, gate: Gate) -> u32
-        requires fits { IsTrue (gate_fits (length (circuit_terms self.old)) (circuit_len self.old) gate) }
+        requires fits { IsTrue (gate_fits (length (circuit_terms self.old)) (circuit_len self.old)
+            gate) }
         requires room { circuit_len self.old < circuit_room self.old }
         ensures number { result ≡ circuit_len self.old }
-        ensures formulas { circuit_formulas self.new ≡ circuit_formulas self.old ++ gate_formula (circuit_terms self.old) (circuit_formulas self.old) gate ∷ [] }
+        ensures formulas { circuit_formulas self.new ≡ circuit_formulas self.old ++
+            gate_formula (circuit_terms self.old) (circuit_formulas self.old) gate ∷ [] }
         ensures len { circuit_len self.new ≡ circuit_len self.old + 1 }
         ensures terms { circuit_terms self.new ≡ circuit_terms self.old }
         ensures room { circuit_room self.new ≡ circuit_room self.old }
@@ -154,9 +158,11 @@ impl Circuit {
     pub fn push_comparison(&mut self, relation: Relation, form: &Form) -> u32
         requires exact { IsTrue (is_exact_form form.now) }
         requires room { circuit_len self.old < circuit_room self.old }
-        requires terms_room { length (circuit_terms self.old) + length form.now.terms ≤ circuit_terms_room self.old }
+        requires terms_room { length (circuit_terms self.old) + length form.now.terms ≤
+            circuit_terms_room self.old }
         ensures number { result ≡ circuit_len self.old }
-        ensures formulas { circuit_formulas self.new ≡ circuit_formulas self.old ++ atom (Compare form.now relation) ∷ [] }
+        ensures formulas { circuit_formulas self.new ≡ circuit_formulas self.old ++
+            atom (Compare form.now relation) ∷ [] }
         ensures len { circuit_len self.new ≡ circuit_len self.old + 1 }
         ensures terms { circuit_terms self.new ≡ circuit_terms self.old ++ form.now.terms }
         ensures room { circuit_room self.new ≡ circuit_room self.old }
@@ -169,9 +175,11 @@ impl Circuit {
     pub fn push_lent(&mut self, relation: Relation, form: FormRef<'_>) -> u32
         requires exact { IsTrue (is_exact_form (lent_form form)) }
         requires room { circuit_len self.old < circuit_room self.old }
-        requires terms_room { length (circuit_terms self.old) + length form.terms.now ≤ circuit_terms_room self.old }
+        requires terms_room { length (circuit_terms self.old) + length form.terms.now ≤
+            circuit_terms_room self.old }
         ensures number { result ≡ circuit_len self.old }
-        ensures formulas { circuit_formulas self.new ≡ circuit_formulas self.old ++ atom (Compare (lent_form form.entry) relation) ∷ [] }
+        ensures formulas { circuit_formulas self.new ≡ circuit_formulas self.old ++
+            atom (Compare (lent_form form.entry) relation) ∷ [] }
         ensures len { circuit_len self.new ≡ circuit_len self.old + 1 }
         ensures terms { circuit_terms self.new ≡ circuit_terms self.old ++ form.entry.terms.now }
         ensures room { circuit_room self.new ≡ circuit_room self.old }
@@ -191,7 +199,8 @@ impl Circuit {
     // Puts terms behind those that are there, in reserved room.
     fn push_terms(&mut self, terms: &[(u32, i64)])
         requires exact { IsTrue (are_terms terms.now) }
-        requires room { length (circuit_terms self.old) + length terms.now ≤ circuit_terms_room self.old }
+        requires room { length (circuit_terms self.old) + length terms.now ≤
+            circuit_terms_room self.old }
         ensures formulas { circuit_formulas self.new ≡ circuit_formulas self.old }
         ensures len { circuit_len self.new ≡ circuit_len self.old }
         ensures terms { circuit_terms self.new ≡ circuit_terms self.old ++ terms.now }

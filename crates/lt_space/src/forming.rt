@@ -32,7 +32,9 @@ pub(crate) fn form_value(
     requires within { exp < table_len table.now }
     requires few { HasFewVariables (table_kinds table.now) }
     requires decimals { known.now.decimals ≤ most_decimals }
-    ensures told { Tells same result (form_of (valuation_of_known known.now) (table_kinds table.now) (spelled (table_expressions table.now) exp)) }
+    ensures told { Tells same result
+        (form_of (valuation_of_known known.now) (table_kinds table.now)
+        (spelled (table_expressions table.now) exp)) }
     ensures bounded { IfOk result (λ form. IsTrue (is_bounded form)) }
 {
     if table.facts(exp).is_known {
@@ -76,12 +78,18 @@ fn binary_form(
     requires within { exp < table_len table.now }
     requires left { left < exp }
     requires right { right < exp }
-    requires spells { spelled (table_expressions table.now) exp ≡ binary operator (spelled (table_expressions table.now) left) (spelled (table_expressions table.now) right) }
+    requires spells { spelled (table_expressions table.now) exp ≡
+        binary operator (spelled (table_expressions table.now) left)
+        (spelled (table_expressions table.now) right) }
     requires few { HasFewVariables (table_kinds table.now) }
     requires decimals { known.now.decimals ≤ most_decimals }
-    ensures told { Tells same result (binary_form operator (valuation_of_known known.now) (table_kinds table.now) (spelled (table_expressions table.now) left) (spelled (table_expressions table.now) right)
-        (form_of (valuation_of_known known.now) (table_kinds table.now) (spelled (table_expressions table.now) left))
-        (form_of (valuation_of_known known.now) (table_kinds table.now) (spelled (table_expressions table.now) right))) }
+    ensures told { Tells same result
+        (binary_form operator (valuation_of_known known.now) (table_kinds table.now)
+        (spelled (table_expressions table.now) left) (spelled (table_expressions table.now) right)
+        (form_of (valuation_of_known known.now) (table_kinds table.now)
+        (spelled (table_expressions table.now) left))
+        (form_of (valuation_of_known known.now) (table_kinds table.now)
+        (spelled (table_expressions table.now) right))) }
     ensures bounded { IfOk result (λ form. IsTrue (is_bounded form)) }
 {
     match operator {
@@ -116,7 +124,11 @@ pub(crate) fn both_forms(
     requires right { right < table_len table.now }
     requires few { HasFewVariables (table_kinds table.now) }
     requires decimals { known.now.decimals ≤ most_decimals }
-    ensures told { Tells same result (both (form_of (valuation_of_known known.now) (table_kinds table.now) (spelled (table_expressions table.now) left)) (form_of (valuation_of_known known.now) (table_kinds table.now) (spelled (table_expressions table.now) right))) }
+    ensures told { Tells same result
+        (both (form_of (valuation_of_known known.now) (table_kinds table.now)
+        (spelled (table_expressions table.now) left))
+        (form_of (valuation_of_known known.now) (table_kinds table.now)
+        (spelled (table_expressions table.now) right))) }
     ensures first { IfOk result (λ forms. IsTrue (is_bounded forms.0)) }
     ensures second { IfOk result (λ forms. IsTrue (is_bounded forms.1)) }
 {
@@ -139,9 +151,13 @@ fn product_form(
     requires right { right < table_len table.now }
     requires few { HasFewVariables (table_kinds table.now) }
     requires decimals { known.now.decimals ≤ most_decimals }
-    ensures told { Tells same result (binary_form BinaryOperator.Mul (valuation_of_known known.now) (table_kinds table.now) (spelled (table_expressions table.now) left) (spelled (table_expressions table.now) right)
-        (form_of (valuation_of_known known.now) (table_kinds table.now) (spelled (table_expressions table.now) left))
-        (form_of (valuation_of_known known.now) (table_kinds table.now) (spelled (table_expressions table.now) right))) }
+    ensures told { Tells same result
+        (binary_form BinaryOperator.Mul (valuation_of_known known.now) (table_kinds table.now)
+        (spelled (table_expressions table.now) left) (spelled (table_expressions table.now) right)
+        (form_of (valuation_of_known known.now) (table_kinds table.now)
+        (spelled (table_expressions table.now) left))
+        (form_of (valuation_of_known known.now) (table_kinds table.now)
+        (spelled (table_expressions table.now) right))) }
     ensures bounded { IfOk result (λ form. IsTrue (is_bounded form)) }
 {
     let facts = table.facts(left);
@@ -191,7 +207,10 @@ fn form_times_known(
 ) -> Result<Form, FormulaRefusal>
     requires within { factor < table_len table.now }
     requires decimals { known.now.decimals ≤ most_decimals }
-    ensures told { Tells same result (after (value_under (valuation_of_known known.now) (table_kinds table.now) (spelled (table_expressions table.now) factor)) (λ by. form_times kind known.now.decimals form.now (raw_of by))) }
+    ensures told { Tells same result
+        (after (value_under (valuation_of_known known.now) (table_kinds table.now)
+        (spelled (table_expressions table.now) factor)) (λ by.
+        form_times kind known.now.decimals form.now (raw_of by))) }
     ensures bounded { IfOk result (λ form. IsTrue (is_bounded form)) }
 {
     let by = known_value(table, factor, known)?;
@@ -208,7 +227,10 @@ fn form_over_known(
 ) -> Result<Form, FormulaRefusal>
     requires within { divisor < table_len table.now }
     requires decimals { known.now.decimals ≤ most_decimals }
-    ensures told { Tells same result (after (value_under (valuation_of_known known.now) (table_kinds table.now) (spelled (table_expressions table.now) divisor)) (λ by. form_divided form.now (raw_of by) known.now.decimals)) }
+    ensures told { Tells same result
+        (after (value_under (valuation_of_known known.now) (table_kinds table.now)
+        (spelled (table_expressions table.now) divisor)) (λ by.
+        form_divided form.now (raw_of by) known.now.decimals)) }
     ensures bounded { IfOk result (λ form. IsTrue (is_bounded form)) }
 {
     let by = known_value(table, divisor, known)?;
@@ -219,7 +241,8 @@ fn form_over_known(
 // What a call on forms answered.
 fn formed(answer: Result<Form, NumRefusal>) -> Result<Form, FormulaRefusal>
     ensures told { (due : FormAnswer) → TellsForm answer due → Tells same result due }
-    ensures bounded { IfOk answer (λ form. IsTrue (is_bounded form)) → IfOk result (λ form. IsTrue (is_bounded form)) }
+    ensures bounded { IfOk answer (λ form. IsTrue (is_bounded form)) →
+        IfOk result (λ form. IsTrue (is_bounded form)) }
 {
     Ok(answer?)
 }
@@ -233,7 +256,9 @@ fn known_form(
 ) -> Result<Form, FormulaRefusal>
     requires within { exp < table_len table.now }
     requires decimals { known.now.decimals ≤ most_decimals }
-    ensures told { Tells same result (known_form (valuation_of_known known.now) (table_kinds table.now) (spelled (table_expressions table.now) exp)) }
+    ensures told { Tells same result
+        (known_form (valuation_of_known known.now) (table_kinds table.now)
+        (spelled (table_expressions table.now) exp)) }
     ensures bounded { IfOk result (λ form. IsTrue (is_bounded form)) }
 {
     let value = known_value(table, exp, known)?;
@@ -249,7 +274,8 @@ fn variable_form(
     decimals: u32,
 ) -> Result<Form, FormulaRefusal>
     requires { decimals ≤ most_decimals }
-    ensures told { Tells same result (Ok (variable_form variable (pos (10 ^ decimals_of kind decimals)))) }
+    ensures told { Tells same result
+        (Ok (variable_form variable (pos (10 ^ decimals_of kind decimals)))) }
     ensures bounded { IfOk result (λ form. IsTrue (is_bounded form)) }
 {
     let coefficient = power_of_ten(decimals_of(kind, decimals));

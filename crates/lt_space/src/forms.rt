@@ -68,7 +68,8 @@ impl Forms {
     /// Puts a form behind those that are there, and answers its number.
     pub(crate) fn push(&mut self, form: FormRef<'_>) -> u32
         requires room { length (forms_of self.old) < forms_room self.old }
-        requires terms_room { forms_terms self.old + length form.terms.now ≤ forms_terms_room self.old }
+        requires terms_room { forms_terms self.old + length form.terms.now ≤
+            forms_terms_room self.old }
         ensures number { result ≡ length (forms_of self.old) }
         ensures forms { forms_of self.new ≡ forms_of self.old ++ lent_form form.entry ∷ [] }
         ensures terms { forms_terms self.new ≡ forms_terms self.old + length form.entry.terms.now }
@@ -101,7 +102,8 @@ impl Forms {
     fn push_place(&mut self, place: Place)
         requires within { IsTrue (are_within (forms_terms self.old) (place ∷ [])) }
         requires room { length (forms_of self.old) < forms_room self.old }
-        ensures forms { forms_of self.new ≡ forms_of self.old ++ form_in self.old.terms.items place ∷ [] }
+        ensures forms { forms_of self.new ≡ forms_of self.old ++
+            form_in self.old.terms.items place ∷ [] }
         ensures terms { self.new.terms.items ≡ self.old.terms.items }
         ensures room { forms_room self.new ≡ forms_room self.old }
         ensures terms_room { forms_terms_room self.new ≡ forms_terms_room self.old }

@@ -39,7 +39,8 @@ pub(crate) fn atom_at(circuit: &Circuit, number: u32) -> Loaded<'_>
 // The atom that a gate is. It is skipped where it is none.
 fn plain_atom_at(circuit: &Circuit, number: u32) -> Loaded<'_>
     requires { number < circuit_len circuit.now }
-    ensures { loaded_formula result ≡ plain_atom_of (formula_at (circuit_formulas circuit.now) number) }
+    ensures { loaded_formula result ≡
+        plain_atom_of (formula_at (circuit_formulas circuit.now) number) }
 {
     match circuit.gate(number) {
         Gate::Truth(truth) => Loaded::Truth(truth),

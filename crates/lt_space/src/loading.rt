@@ -39,8 +39,10 @@ pub(crate) fn load_and_note(
     requires variables { work.old.measures.variables ≡ variables_of (table_kinds table.now) }
     requires room { HasWorkRoom (length wanted.now) work.old }
     requires notes { length (memo_numbers noted.old) ≡ table_len table.now }
-    ensures loads { LoadTells (formula_of_all (valuation_of_known known.now) (table_kinds table.now) (map (spelled (table_expressions table.now)) wanted.now)) result work.old work.new }
-    ensures evaluated { OnOk result (AreEvaluated (valuation_of_known known.now) table.now wanted.now (formulas_in work.new) (memo_numbers noted.new)) }
+    ensures loads { LoadTells (formula_of_all (valuation_of_known known.now) (table_kinds table.now)
+        (map (spelled (table_expressions table.now)) wanted.now)) result work.old work.new }
+    ensures evaluated { OnOk result (AreEvaluated (valuation_of_known known.now) table.now
+        wanted.now (formulas_in work.new) (memo_numbers noted.new)) }
     ensures none { OnErr result (IsTrue (are_free (memo_numbers noted.new))) }
     ensures below { IsTrue (are_below (length (formulas_in work.new)) (memo_numbers noted.new)) }
     ensures len { length (memo_numbers noted.new) ≡ length (memo_numbers noted.old) }
@@ -73,7 +75,8 @@ pub(crate) fn load_into(
     requires expressions { length (gates_in work.old) ≡ table_len table.now }
     requires variables { work.old.measures.variables ≡ variables_of (table_kinds table.now) }
     requires room { HasWorkRoom (length wanted.now) work.old }
-    ensures loads { LoadTells (formula_of_all (valuation_of_known known.now) (table_kinds table.now) (map (spelled (table_expressions table.now)) wanted.now)) result work.old work.new }
+    ensures loads { LoadTells (formula_of_all (valuation_of_known known.now) (table_kinds table.now)
+        (map (spelled (table_expressions table.now)) wanted.now)) result work.old work.new }
     ensures ready { OnOk result (IsReady (valuation_of_known known.now) table.now work.new) }
 {
     work.clear();
@@ -92,8 +95,10 @@ fn visit_all(
     requires few { variables_of (table_kinds table.now) ≤ most_variables }
     requires decimals { known.now.decimals ≤ most_decimals }
     requires ready { IsReady (valuation_of_known known.now) table.now work.old }
-    requires room { circuit_len work.old.circuit + unkept (gates_in work.old) * 2 + length wanted.now + 1 ≤ circuit_room work.old.circuit }
-    ensures loads { LoadTells (formula_of_all (valuation_of_known known.now) (table_kinds table.now) (map (spelled (table_expressions table.now)) wanted.now)) result work.old work.new }
+    requires room { circuit_len work.old.circuit + unkept (gates_in work.old) * 2 + length
+        wanted.now + 1 ≤ circuit_room work.old.circuit }
+    ensures loads { LoadTells (formula_of_all (valuation_of_known known.now) (table_kinds table.now)
+        (map (spelled (table_expressions table.now)) wanted.now)) result work.old work.new }
     ensures ready { OnOk result (IsReady (valuation_of_known known.now) table.now work.new) }
 {
     let Some((first, more)) = wanted.split_first() else {
@@ -116,8 +121,11 @@ fn join_all(
     requires few { variables_of (table_kinds table.now) ≤ most_variables }
     requires decimals { known.now.decimals ≤ most_decimals }
     requires ready { IsReady (valuation_of_known known.now) table.now work.old }
-    requires room { circuit_len work.old.circuit + unkept (gates_in work.old) * 2 + length wanted.now ≤ circuit_room work.old.circuit }
-    ensures loads { LoadTells (joined_onto (formula_at (formulas_in work.old) first) (formulas_of (valuation_of_known known.now) (table_kinds table.now) (map (spelled (table_expressions table.now)) wanted.now))) result work.old work.new }
+    requires room { circuit_len work.old.circuit + unkept (gates_in work.old) * 2 + length
+        wanted.now ≤ circuit_room work.old.circuit }
+    ensures loads { LoadTells (joined_onto (formula_at (formulas_in work.old) first)
+        (formulas_of (valuation_of_known known.now) (table_kinds table.now)
+        (map (spelled (table_expressions table.now)) wanted.now))) result work.old work.new }
     ensures ready { OnOk result (IsReady (valuation_of_known known.now) table.now work.new) }
 {
     let mut root = first;

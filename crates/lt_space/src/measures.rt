@@ -80,7 +80,8 @@ impl Measures {
         requires second { b < length (measured self.old) }
         requires forms { AreForms self.old }
         requires place { HasPlace self.old }
-        ensures { PutTells (form_sum (form_at (measured self.old) a) (form_at (measured self.old) b)) result self.old self.new }
+        ensures { PutTells (form_sum (form_at (measured self.old) a)
+            (form_at (measured self.old) b)) result self.old self.new }
     {
         self.draft.set_sum(self.forms.form(a), self.forms.form(b))?;
         Ok(self.push_draft())
@@ -92,7 +93,8 @@ impl Measures {
         requires second { b < length (measured self.old) }
         requires forms { AreForms self.old }
         requires place { HasPlace self.old }
-        ensures { PutTells (form_difference (form_at (measured self.old) a) (form_at (measured self.old) b)) result self.old self.new }
+        ensures { PutTells (form_difference (form_at (measured self.old) a)
+            (form_at (measured self.old) b)) result self.old self.new }
     {
         self.draft
             .set_difference(self.forms.form(a), self.forms.form(b))?;
@@ -104,7 +106,8 @@ impl Measures {
         requires first { a < length (measured self.old) }
         requires forms { AreForms self.old }
         requires place { HasPlace self.old }
-        ensures { PutTells (form_difference (constant_form (pos 0)) (form_at (measured self.old) a)) result self.old self.new }
+        ensures { PutTells (form_difference (constant_form (pos 0)) (form_at (measured self.old) a))
+            result self.old self.new }
     {
         self.draft
             .set_difference(FormRef::zero(), self.forms.form(a))?;
@@ -117,7 +120,8 @@ impl Measures {
         requires decimals { decimals ≤ most_decimals }
         requires forms { AreForms self.old }
         requires place { HasPlace self.old }
-        ensures { PutTells (form_scaled (form_at (measured self.old) a) by.raw decimals) result self.old self.new }
+        ensures { PutTells (form_scaled (form_at (measured self.old) a) by.raw decimals) result
+            self.old self.new }
     {
         self.draft.set_multiple(self.forms.form(a), by, decimals)?;
         Ok(self.push_draft())
@@ -129,7 +133,8 @@ impl Measures {
         requires decimals { decimals ≤ most_decimals }
         requires forms { AreForms self.old }
         requires place { HasPlace self.old }
-        ensures { PutTells (form_divided (form_at (measured self.old) a) by.raw decimals) result self.old self.new }
+        ensures { PutTells (form_divided (form_at (measured self.old) a) by.raw decimals) result
+            self.old self.new }
     {
         self.draft.set_quotient(self.forms.form(a), by, decimals)?;
         Ok(self.push_draft())
@@ -142,7 +147,8 @@ impl Measures {
         requires factor { unsigned_abs factor ≤ 1_000_000 }
         requires forms { AreForms self.old }
         requires draft { self.old.variables + self.old.variables + 1 ≤ draft_room self.old.draft }
-        ensures form { draft_form self.new.draft ≡ form_compared factor (form_at (measured self.old) a) (form_at (measured self.old) b) }
+        ensures form { draft_form self.new.draft ≡
+            form_compared factor (form_at (measured self.old) a) (form_at (measured self.old) b) }
         ensures order { IsTrue (is_difference self.old.variables (draft_form self.new.draft)) }
         ensures rest { IsRedrafted self.old self.new }
     {

@@ -27,7 +27,8 @@ pub(crate) fn measure(
     requires few { HasFewVariables (table_kinds table.now) }
     requires decimals { known.now.decimals ≤ most_decimals }
     requires ready { AreReady (valuation_of_known known.now) table.now measures.old }
-    ensures { Gives (valuation_of_known known.now) table.now (exp + 1) 0 (form_due (valuation_of_known known.now) table.now exp) result measures.old measures.new }
+    ensures { Gives (valuation_of_known known.now) table.now (exp + 1) 0
+        (form_due (valuation_of_known known.now) table.now exp) result measures.old measures.new }
 {
     if let Some(form) = measures.memo.find(exp) {
         return Ok(form);
@@ -49,7 +50,8 @@ fn evaluate(
     requires few { HasFewVariables (table_kinds table.now) }
     requires decimals { known.now.decimals ≤ most_decimals }
     requires ready { AwaitForm (valuation_of_known known.now) table.now exp measures.old }
-    ensures { Gives (valuation_of_known known.now) table.now exp 1 (form_due (valuation_of_known known.now) table.now exp) result measures.old measures.new }
+    ensures { Gives (valuation_of_known known.now) table.now exp 1
+        (form_due (valuation_of_known known.now) table.now exp) result measures.old measures.new }
 {
     if table.facts(exp).is_known {
         return known_form(table, exp, known, measures);
@@ -91,12 +93,17 @@ fn binary_form(
 ) -> Result<u32, Arith>
     requires left { left < exp }
     requires right { right < exp }
-    requires spells { spelled (table_expressions table.now) exp ≡ binary operator (spelled (table_expressions table.now) left) (spelled (table_expressions table.now) right) }
+    requires spells { spelled (table_expressions table.now) exp ≡
+        binary operator (spelled (table_expressions table.now) left)
+        (spelled (table_expressions table.now) right) }
     requires few { HasFewVariables (table_kinds table.now) }
     requires decimals { known.now.decimals ≤ most_decimals }
     requires ready { AwaitForm (valuation_of_known known.now) table.now exp measures.old }
-    ensures { Gives (valuation_of_known known.now) table.now exp 1 (binary_form operator (valuation_of_known known.now) (table_kinds table.now) (spelled (table_expressions table.now) left) (spelled (table_expressions table.now) right)
-        (form_due (valuation_of_known known.now) table.now left) (form_due (valuation_of_known known.now) table.now right)) result measures.old measures.new }
+    ensures { Gives (valuation_of_known known.now) table.now exp 1
+        (binary_form operator (valuation_of_known known.now) (table_kinds table.now)
+        (spelled (table_expressions table.now) left) (spelled (table_expressions table.now) right)
+        (form_due (valuation_of_known known.now) table.now left)
+        (form_due (valuation_of_known known.now) table.now right)) result measures.old measures.new }
 {
     match operator {
         BinaryOperator::Add => {
@@ -134,8 +141,11 @@ fn product_form(
     requires few { HasFewVariables (table_kinds table.now) }
     requires decimals { known.now.decimals ≤ most_decimals }
     requires ready { AwaitForm (valuation_of_known known.now) table.now exp measures.old }
-    ensures { Gives (valuation_of_known known.now) table.now exp 1 (binary_form BinaryOperator.Mul (valuation_of_known known.now) (table_kinds table.now) (spelled (table_expressions table.now) left) (spelled (table_expressions table.now) right)
-        (form_due (valuation_of_known known.now) table.now left) (form_due (valuation_of_known known.now) table.now right)) result measures.old measures.new }
+    ensures { Gives (valuation_of_known known.now) table.now exp 1
+        (binary_form BinaryOperator.Mul (valuation_of_known known.now) (table_kinds table.now)
+        (spelled (table_expressions table.now) left) (spelled (table_expressions table.now) right)
+        (form_due (valuation_of_known known.now) table.now left)
+        (form_due (valuation_of_known known.now) table.now right)) result measures.old measures.new }
 {
     let facts = table.facts(left);
     let decimals = decimals_of(facts.kind, known.decimals);
@@ -160,7 +170,9 @@ fn known_form(
     requires within { exp < table_len table.now }
     requires decimals { known.now.decimals ≤ most_decimals }
     requires ready { AwaitForm (valuation_of_known known.now) table.now exp measures.old }
-    ensures { Gives (valuation_of_known known.now) table.now exp 1 (known_form (valuation_of_known known.now) (table_kinds table.now) (spelled (table_expressions table.now) exp)) result measures.old measures.new }
+    ensures { Gives (valuation_of_known known.now) table.now exp 1
+        (known_form (valuation_of_known known.now) (table_kinds table.now)
+        (spelled (table_expressions table.now) exp)) result measures.old measures.new }
 {
     let value = known_value(table, exp, known)?;
     let number = add(Fixed { raw: value.raw() }, Fixed { raw: 0 })?;

@@ -39,7 +39,9 @@ struct Front<'a> {
 
 // The first mark: out of scope, where there is none.
 fn front_of<'a>(marks: &'a [bool]) -> Front<'a>
-    ensures { (range : Range) (ranges : List Range) → ranges_in marks.now (range ∷ ranges) ≡ range_in result.is_in range ∷ ranges_in result.behind.now ranges }
+    ensures { (range : Range) (ranges : List Range) →
+        ranges_in marks.now (range ∷ ranges) ≡ range_in result.is_in range ∷
+        ranges_in result.behind.now ranges }
 {
     match marks.split_first() {
         Some((mark, behind)) => Front {

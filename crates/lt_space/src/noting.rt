@@ -30,9 +30,12 @@ pub(crate) fn note(table: &Table, exp: u32, known: &Known<'_>, work: &mut Work, 
     requires few { variables_of (table_kinds table.now) ≤ most_variables }
     requires decimals { known.now.decimals ≤ most_decimals }
     requires once { HasEachOnce (table_expressions table.now) }
-    requires noted { AreNoted (valuation_of_known known.now) table.now work.old (memo_numbers noted.old) }
+    requires noted { AreNoted (valuation_of_known known.now) table.now work.old
+        (memo_numbers noted.old) }
     requires due { IsDue (formula_due (valuation_of_known known.now) table.now exp) }
-    ensures { Notes (valuation_of_known known.now) table.now (λ k. Evaluates (valuation_of_known known.now) (table_kinds table.now) (at table.now exp) (at table.now k)) work.old work.new (memo_numbers noted.old) (memo_numbers noted.new) }
+    ensures { Notes (valuation_of_known known.now) table.now (λ k.
+        Evaluates (valuation_of_known known.now) (table_kinds table.now) (at table.now exp)
+        (at table.now k)) work.old work.new (memo_numbers noted.old) (memo_numbers noted.new) }
 {
     if noted.find(exp).is_some() {
         return;
@@ -54,9 +57,13 @@ pub(crate) fn note_all(
     requires few { variables_of (table_kinds table.now) ≤ most_variables }
     requires decimals { known.now.decimals ≤ most_decimals }
     requires once { HasEachOnce (table_expressions table.now) }
-    requires noted { AreNoted (valuation_of_known known.now) table.now work.old (memo_numbers noted.old) }
+    requires noted { AreNoted (valuation_of_known known.now) table.now work.old
+        (memo_numbers noted.old) }
     requires due { AreDue (valuation_of_known known.now) table.now wanted.now }
-    ensures { Notes (valuation_of_known known.now) table.now (λ k. EvaluateSome (valuation_of_known known.now) (table_kinds table.now) (map (at table.now) wanted.now) (at table.now k)) work.old work.new (memo_numbers noted.old) (memo_numbers noted.new) }
+    ensures { Notes (valuation_of_known known.now) table.now (λ k.
+        EvaluateSome (valuation_of_known known.now) (table_kinds table.now)
+        (map (at table.now) wanted.now) (at table.now k)) work.old work.new (memo_numbers noted.old)
+        (memo_numbers noted.new) }
 {
     let mut rest = wanted;
     while let Some((exp, more)) = rest.split_first() {
@@ -72,9 +79,12 @@ fn note_parts(table: &Table, exp: u32, known: &Known<'_>, work: &mut Work, noted
     requires few { variables_of (table_kinds table.now) ≤ most_variables }
     requires decimals { known.now.decimals ≤ most_decimals }
     requires once { HasEachOnce (table_expressions table.now) }
-    requires noted { AreNoted (valuation_of_known known.now) table.now work.old (memo_numbers noted.old) }
+    requires noted { AreNoted (valuation_of_known known.now) table.now work.old
+        (memo_numbers noted.old) }
     requires due { IsDue (formula_due (valuation_of_known known.now) table.now exp) }
-    ensures { Notes (valuation_of_known known.now) table.now (λ k. EvaluatesWithin (valuation_of_known known.now) (table_kinds table.now) (at table.now exp) (at table.now k)) work.old work.new (memo_numbers noted.old) (memo_numbers noted.new) }
+    ensures { Notes (valuation_of_known known.now) table.now (λ k.
+        EvaluatesWithin (valuation_of_known known.now) (table_kinds table.now) (at table.now exp)
+        (at table.now k)) work.old work.new (memo_numbers noted.old) (memo_numbers noted.new) }
 {
     match table.shape(exp) {
         Shape::Constant(..) | Shape::Variable(..) | Shape::Previous(..) => {}
@@ -104,9 +114,14 @@ fn note_one(
     requires few { variables_of (table_kinds table.now) ≤ most_variables }
     requires decimals { known.now.decimals ≤ most_decimals }
     requires once { HasEachOnce (table_expressions table.now) }
-    requires noted { AreNoted (valuation_of_known known.now) table.now work.old (memo_numbers noted.old) }
-    requires due { IsDue (formula_of (valuation_of_known known.now) (table_kinds table.now) (unary operator (at table.now part))) }
-    ensures { Notes (valuation_of_known known.now) table.now (λ k. EvaluatesWithin (valuation_of_known known.now) (table_kinds table.now) (unary operator (at table.now part)) (at table.now k)) work.old work.new (memo_numbers noted.old) (memo_numbers noted.new) }
+    requires noted { AreNoted (valuation_of_known known.now) table.now work.old
+        (memo_numbers noted.old) }
+    requires due { IsDue (formula_of (valuation_of_known known.now) (table_kinds table.now)
+        (unary operator (at table.now part))) }
+    ensures { Notes (valuation_of_known known.now) table.now (λ k.
+        EvaluatesWithin (valuation_of_known known.now) (table_kinds table.now)
+        (unary operator (at table.now part)) (at table.now k)) work.old work.new
+        (memo_numbers noted.old) (memo_numbers noted.new) }
 {
     if table.facts(part).is_known {
         return;
@@ -130,9 +145,14 @@ fn note_two(
     requires few { variables_of (table_kinds table.now) ≤ most_variables }
     requires decimals { known.now.decimals ≤ most_decimals }
     requires once { HasEachOnce (table_expressions table.now) }
-    requires noted { AreNoted (valuation_of_known known.now) table.now work.old (memo_numbers noted.old) }
-    requires due { IsDue (formula_of (valuation_of_known known.now) (table_kinds table.now) (binary operator (at table.now left) (at table.now right))) }
-    ensures { Notes (valuation_of_known known.now) table.now (λ k. EvaluatesWithin (valuation_of_known known.now) (table_kinds table.now) (binary operator (at table.now left) (at table.now right)) (at table.now k)) work.old work.new (memo_numbers noted.old) (memo_numbers noted.new) }
+    requires noted { AreNoted (valuation_of_known known.now) table.now work.old
+        (memo_numbers noted.old) }
+    requires due { IsDue (formula_of (valuation_of_known known.now) (table_kinds table.now)
+        (binary operator (at table.now left) (at table.now right))) }
+    ensures { Notes (valuation_of_known known.now) table.now (λ k.
+        EvaluatesWithin (valuation_of_known known.now) (table_kinds table.now)
+        (binary operator (at table.now left) (at table.now right)) (at table.now k)) work.old
+        work.new (memo_numbers noted.old) (memo_numbers noted.new) }
 {
     if !is_divided(table, operator, left, right) {
         return;
@@ -161,9 +181,14 @@ fn note_choice(
     requires few { variables_of (table_kinds table.now) ≤ most_variables }
     requires decimals { known.now.decimals ≤ most_decimals }
     requires once { HasEachOnce (table_expressions table.now) }
-    requires noted { AreNoted (valuation_of_known known.now) table.now work.old (memo_numbers noted.old) }
-    requires due { IsDue (formula_of (valuation_of_known known.now) (table_kinds table.now) (choice (at table.now condition) (at table.now first) (at table.now second))) }
-    ensures { Notes (valuation_of_known known.now) table.now (λ k. EvaluatesWithin (valuation_of_known known.now) (table_kinds table.now) (choice (at table.now condition) (at table.now first) (at table.now second)) (at table.now k)) work.old work.new (memo_numbers noted.old) (memo_numbers noted.new) }
+    requires noted { AreNoted (valuation_of_known known.now) table.now work.old
+        (memo_numbers noted.old) }
+    requires due { IsDue (formula_of (valuation_of_known known.now) (table_kinds table.now)
+        (choice (at table.now condition) (at table.now first) (at table.now second))) }
+    ensures { Notes (valuation_of_known known.now) table.now (λ k.
+        EvaluatesWithin (valuation_of_known known.now) (table_kinds table.now)
+        (choice (at table.now condition) (at table.now first) (at table.now second))
+        (at table.now k)) work.old work.new (memo_numbers noted.old) (memo_numbers noted.new) }
 {
     if are_known(table, condition, first, second) {
         return;
@@ -186,7 +211,8 @@ fn note_choice(
 fn is_divided(table: &Table, operator: BinaryOperator, left: u32, right: u32) -> bool
     requires left { left < table_len table.now }
     requires right { right < table_len table.now }
-    ensures { result ≡ is_divided (table_kinds table.now) operator (at table.now left) (at table.now right) }
+    ensures { result ≡ is_divided (table_kinds table.now) operator (at table.now left)
+        (at table.now right) }
 {
     let first = table.facts(left);
     if !is_boolean(first.kind) {
@@ -223,7 +249,9 @@ fn are_known(table: &Table, a: u32, b: u32, c: u32) -> bool
     requires a { a < table_len table.now }
     requires b { b < table_len table.now }
     requires c { c < table_len table.now }
-    ensures { result ≡ (is_known (table_kinds table.now) (at table.now a) && (is_known (table_kinds table.now) (at table.now b) && is_known (table_kinds table.now) (at table.now c))) }
+    ensures { result ≡ (is_known (table_kinds table.now) (at table.now a) &&
+        (is_known (table_kinds table.now) (at table.now b) &&
+        is_known (table_kinds table.now) (at table.now c))) }
 {
     table.facts(a).is_known && table.facts(b).is_known && table.facts(c).is_known
 }
@@ -232,7 +260,9 @@ fn are_known(table: &Table, a: u32, b: u32, c: u32) -> bool
 fn is_settled(table: &Table, operator: BinaryOperator, left: u32, known: &Known<'_>) -> bool
     requires within { left < table_len table.now }
     requires decimals { known.now.decimals ≤ most_decimals }
-    ensures { result ≡ is_settled (settled_truth (valuation_of_known known.now) (table_kinds table.now) operator (spelled (table_expressions table.now) left)) }
+    ensures { result ≡ is_settled
+        (settled_truth (valuation_of_known known.now) (table_kinds table.now) operator
+        (spelled (table_expressions table.now) left)) }
 {
     matches!(settled_truth(table, operator, left, known), Ok(Some(_)))
 }
@@ -241,7 +271,9 @@ fn is_settled(table: &Table, operator: BinaryOperator, left: u32, known: &Known<
 fn is_truth(table: &Table, exp: u32, known: &Known<'_>) -> bool
     requires within { exp < table_len table.now }
     requires decimals { known.now.decimals ≤ most_decimals }
-    ensures { result ≡ is_truth (value_under (valuation_of_known known.now) (table_kinds table.now) (spelled (table_expressions table.now) exp)) }
+    ensures { result ≡ is_truth
+        (value_under (valuation_of_known known.now) (table_kinds table.now)
+        (spelled (table_expressions table.now) exp)) }
 {
     match known_value(table, exp, known) {
         Ok(value) => value.is_true(),

@@ -102,7 +102,9 @@ impl Space {
         requires within { IsTrue (list_all (λ exp. nat_lt exp (table_len table.now)) wanted.now) }
         requires most { length wanted.now ≤ space_most self.old }
         requires decimals { known.now.decimals ≤ most_decimals }
-        ensures loads { loaded (space_formula self.new) result ≡ formula_of_all (valuation_of_known known.now) (table_kinds table.now) (map (spelled (table_expressions table.now)) wanted.now) }
+        ensures loads { loaded (space_formula self.new) result ≡
+            formula_of_all (valuation_of_known known.now) (table_kinds table.now)
+            (map (spelled (table_expressions table.now)) wanted.now) }
         ensures wanted { OnOk result (space_wanted self.new ≡ wanted.now) }
         ensures none { OnErr result (space_wanted self.new ≡ []) }
         ensures empty { OnErr result (space_formula self.new ≡ truth true) }

@@ -29,7 +29,8 @@ pub(crate) fn visit(
     requires few { variables_of (table_kinds table.now) ≤ most_variables }
     requires decimals { known.now.decimals ≤ most_decimals }
     requires ready { IsReady (valuation_of_known known.now) table.now work.old }
-    ensures { Visits (valuation_of_known known.now) table.now (exp + 1) 0 (formula_due (valuation_of_known known.now) table.now exp) result work.old work.new }
+    ensures { Visits (valuation_of_known known.now) table.now (exp + 1) 0
+        (formula_due (valuation_of_known known.now) table.now exp) result work.old work.new }
 {
     if let Some(gate) = work.memo.find(exp) {
         return Ok(gate);
@@ -46,7 +47,8 @@ fn evaluate(table: &Table, exp: u32, known: &Known<'_>, work: &mut Work) -> Resu
     requires few { variables_of (table_kinds table.now) ≤ most_variables }
     requires decimals { known.now.decimals ≤ most_decimals }
     requires ready { AwaitsGate (valuation_of_known known.now) table.now exp work.old }
-    ensures { Visits (valuation_of_known known.now) table.now exp 1 (formula_due (valuation_of_known known.now) table.now exp) result work.old work.new }
+    ensures { Visits (valuation_of_known known.now) table.now exp 1
+        (formula_due (valuation_of_known known.now) table.now exp) result work.old work.new }
 {
     if table.facts(exp).is_known {
         return known_gate(table, exp, known, work);
@@ -85,8 +87,11 @@ fn binary_gate(
     requires few { variables_of (table_kinds table.now) ≤ most_variables }
     requires decimals { known.now.decimals ≤ most_decimals }
     requires ready { AwaitsGate (valuation_of_known known.now) table.now exp work.old }
-    ensures { Visits (valuation_of_known known.now) table.now exp 1 (binary_formula operator (valuation_of_known known.now) (table_kinds table.now) (spelled (table_expressions table.now) left) (spelled (table_expressions table.now) right)
-        (formula_due (valuation_of_known known.now) table.now left) (formula_due (valuation_of_known known.now) table.now right)) result work.old work.new }
+    ensures { Visits (valuation_of_known known.now) table.now exp 1
+        (binary_formula operator (valuation_of_known known.now) (table_kinds table.now)
+        (spelled (table_expressions table.now) left) (spelled (table_expressions table.now) right)
+        (formula_due (valuation_of_known known.now) table.now left)
+        (formula_due (valuation_of_known known.now) table.now right)) result work.old work.new }
 {
     let kind = table.facts(left).kind;
     if !matches!(kind, Kind::Bool) {
@@ -117,8 +122,12 @@ fn choice_gate(
     requires few { variables_of (table_kinds table.now) ≤ most_variables }
     requires decimals { known.now.decimals ≤ most_decimals }
     requires ready { AwaitsGate (valuation_of_known known.now) table.now exp work.old }
-    ensures { Visits (valuation_of_known known.now) table.now exp 1 (choice_formula (valuation_of_known known.now) (table_kinds table.now) (spelled (table_expressions table.now) condition)
-        (formula_due (valuation_of_known known.now) table.now condition) (formula_due (valuation_of_known known.now) table.now first) (formula_due (valuation_of_known known.now) table.now second)) result work.old work.new }
+    ensures { Visits (valuation_of_known known.now) table.now exp 1
+        (choice_formula (valuation_of_known known.now) (table_kinds table.now)
+        (spelled (table_expressions table.now) condition)
+        (formula_due (valuation_of_known known.now) table.now condition)
+        (formula_due (valuation_of_known known.now) table.now first)
+        (formula_due (valuation_of_known known.now) table.now second)) result work.old work.new }
 {
     if table.facts(condition).is_known {
         return if known_value(table, condition, known)?.is_true() {
@@ -148,7 +157,9 @@ fn comparison_gate(
     requires few { variables_of (table_kinds table.now) ≤ most_variables }
     requires decimals { known.now.decimals ≤ most_decimals }
     requires ready { AwaitsGate (valuation_of_known known.now) table.now exp work.old }
-    ensures { Visits (valuation_of_known known.now) table.now exp 1 (after (form_due (valuation_of_known known.now) table.now left) (λ f. after (form_due (valuation_of_known known.now) table.now right)
+    ensures { Visits (valuation_of_known known.now) table.now exp 1
+        (after (form_due (valuation_of_known known.now) table.now left) (λ f.
+        after (form_due (valuation_of_known known.now) table.now right)
         (λ h. Ok (comparison operator (kind_of (table_kinds table.now) (spelled (table_expressions table.now) left)) known.now.decimals f h)))) result work.old work.new }
 {
     let scale = Scale {
@@ -172,7 +183,9 @@ fn known_gate(table: &Table, exp: u32, known: &Known<'_>, work: &mut Work) -> Re
     requires within { exp < table_len table.now }
     requires decimals { known.now.decimals ≤ most_decimals }
     requires ready { AwaitsGate (valuation_of_known known.now) table.now exp work.old }
-    ensures { Visits (valuation_of_known known.now) table.now exp 1 (known_formula (valuation_of_known known.now) (table_kinds table.now) (spelled (table_expressions table.now) exp)) result work.old work.new }
+    ensures { Visits (valuation_of_known known.now) table.now exp 1
+        (known_formula (valuation_of_known known.now) (table_kinds table.now)
+        (spelled (table_expressions table.now) exp)) result work.old work.new }
 {
     let value = known_value(table, exp, known)?;
     Ok(work.circuit.push(Gate::Truth(value.is_true())))

@@ -80,7 +80,9 @@ pub(crate) fn connect(circuit: &mut Circuit, operator: BinaryOperator, left: u32
     requires left { left < length (circuit_formulas circuit.old) }
     requires right { right < length (circuit_formulas circuit.old) }
     requires room { HasGates 2 circuit.old }
-    ensures { IsPushed 2 0 circuit.old circuit.new result (connected operator (formula_at (circuit_formulas circuit.old) left) (formula_at (circuit_formulas circuit.old) right)) }
+    ensures { IsPushed 2 0 circuit.old circuit.new result
+        (connected operator (formula_at (circuit_formulas circuit.old) left)
+        (formula_at (circuit_formulas circuit.old) right)) }
 {
     match operator {
         BinaryOperator::And => circuit.push(Gate::And(left, right)),
@@ -111,10 +113,13 @@ pub(crate) fn compare(
     requires scale { scale.decimals ≤ most_decimals }
     requires forms { AreForms measures.old }
     requires few { measures.old.variables ≤ most_variables }
-    requires draft { measures.old.variables + measures.old.variables + 1 ≤ draft_room measures.old.draft }
+    requires draft { measures.old.variables + measures.old.variables + 1 ≤
+        draft_room measures.old.draft }
     requires room { HasGates 2 circuit.old }
     requires terms { HasTerms measures.old.variables circuit.old }
-    ensures pushed { IsPushed 2 measures.old.variables circuit.old circuit.new result (comparison operator scale.kind scale.decimals (form_at (measured measures.old) a) (form_at (measured measures.old) b)) }
+    ensures pushed { IsPushed 2 measures.old.variables circuit.old circuit.new result
+        (comparison operator scale.kind scale.decimals (form_at (measured measures.old) a)
+        (form_at (measured measures.old) b)) }
     ensures measures { IsRedrafted measures.old measures.new }
 {
     match operator {
@@ -152,10 +157,13 @@ fn put_comparison(
     requires scale { scale.decimals ≤ most_decimals }
     requires forms { AreForms measures.old }
     requires few { measures.old.variables ≤ most_variables }
-    requires draft { measures.old.variables + measures.old.variables + 1 ≤ draft_room measures.old.draft }
+    requires draft { measures.old.variables + measures.old.variables + 1 ≤
+        draft_room measures.old.draft }
     requires room { HasGates 1 circuit.old }
     requires terms { HasTerms measures.old.variables circuit.old }
-    ensures pushed { IsPushed 1 measures.old.variables circuit.old circuit.new result (compared scale.kind scale.decimals (form_at (measured measures.old) a) (form_at (measured measures.old) b) relation) }
+    ensures pushed { IsPushed 1 measures.old.variables circuit.old circuit.new result
+        (compared scale.kind scale.decimals (form_at (measured measures.old) a)
+        (form_at (measured measures.old) b) relation) }
     ensures measures { IsRedrafted measures.old measures.new }
 {
     measures.set_comparison(a, b, factor_of(scale.kind, scale.decimals));

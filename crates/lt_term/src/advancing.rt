@@ -31,9 +31,13 @@ struct Both {
 pub fn advance(alloc: Global, term: &Term, values: &[(u32, Value)]) -> Result<Term, Memory>
     ensures numbers { IfOk result (λ t. process t ≡ advanced values.now (process term.now)) }
     // It is the one of the rules, too, with whatever the numbers of constraints stand for.
-    ensures expressions { IfOk result (λ t. (meaning : ℕ → Expression) → with_constraints meaning (process t) ≡ advanced values.now (with_constraints meaning (process term.now))) }
-    ensures passes { IfOk result (λ t. (tests : Tests ℕ) → passes tests (process t) ≡ passes tests (process term.now)) }
-    ensures done { IfOk result (λ t. (k : ℕ) → IsDoneTo k (process term.now) → IsDoneTo k (process t)) }
+    ensures expressions { IfOk result (λ t. (meaning : ℕ → Expression) →
+        with_constraints meaning (process t) ≡
+        advanced values.now (with_constraints meaning (process term.now))) }
+    ensures passes { IfOk result (λ t. (tests : Tests ℕ) →
+        passes tests (process t) ≡ passes tests (process term.now)) }
+    ensures done { IfOk result (λ t. (k : ℕ) → IsDoneTo k (process term.now) →
+        IsDoneTo k (process t)) }
 {
     let next = renewed(alloc, term, values)?;
     Ok(next)
@@ -53,7 +57,8 @@ fn renewed(alloc: Global, term: &Term, values: &[(u32, Value)]) -> Result<Term, 
 // The term with the values, and nothing where no scope of it is entered.
 #[cycle(advance)]
 fn go_on(alloc: Global, term: &Term, values: &[(u32, Value)]) -> Result<Option<Term>, AllocError>
-    ensures { IfOk result (λ t. process (term_of term.now t) ≡ advanced values.now (process term.now)) }
+    ensures { IfOk result (λ t. process (term_of term.now t) ≡
+        advanced values.now (process term.now)) }
 {
     match term {
         Term::Eps | Term::Dead | Term::Con(_) | Term::Raise(_) => Ok(None),
@@ -133,7 +138,8 @@ fn go_on_part(
     part: &Rc<Term>,
     values: &[(u32, Value)],
 ) -> Result<Option<Rc<Term>>, AllocError>
-    ensures { IfOk result (λ t. process (part_of part.now.value t) ≡ advanced values.now (process part.now.value)) }
+    ensures { IfOk result (λ t. process (part_of part.now.value t) ≡
+        advanced values.now (process part.now.value)) }
 {
     match go_on(alloc, part, values)? {
         None => Ok(None),
@@ -149,8 +155,10 @@ fn go_on_both(
     second: &Rc<Term>,
     values: &[(u32, Value)],
 ) -> Result<Option<Both>, AllocError>
-    ensures first { IfOk result (λ b. process (first_of first.now.value b) ≡ advanced values.now (process first.now.value)) }
-    ensures second { IfOk result (λ b. process (second_of second.now.value b) ≡ advanced values.now (process second.now.value)) }
+    ensures first { IfOk result (λ b. process (first_of first.now.value b) ≡
+        advanced values.now (process first.now.value)) }
+    ensures second { IfOk result (λ b. process (second_of second.now.value b) ≡
+        advanced values.now (process second.now.value)) }
 {
     let new_first = go_on_part(alloc, first, values)?;
     let new_second = go_on_part(alloc, second, values)?;
@@ -164,8 +172,10 @@ fn both_of(
     second: &Rc<Term>,
     new_second: Option<Rc<Term>>,
 ) -> Result<Option<Both>, AllocError>
-    ensures first { IfOk result (λ b. process (first_of first.now.value b) ≡ process (part_of first.now.value new_first)) }
-    ensures second { IfOk result (λ b. process (second_of second.now.value b) ≡ process (part_of second.now.value new_second)) }
+    ensures first { IfOk result (λ b. process (first_of first.now.value b) ≡
+        process (part_of first.now.value new_first)) }
+    ensures second { IfOk result (λ b. process (second_of second.now.value b) ≡
+        process (part_of second.now.value new_second)) }
 {
     match (new_first, new_second) {
         (None, None) => Ok(None),
@@ -183,7 +193,8 @@ fn go_on_each(
     parts: &Vec<(u32, Term)>,
     values: &[(u32, Value)],
 ) -> Result<Option<Vec<(u32, Term)>>, AllocError>
-    ensures { IfOk result (λ v. choices (choices_of parts.now.items v) ≡ advanced_each values.now (choices parts.now.items)) }
+    ensures { IfOk result (λ v. choices (choices_of parts.now.items v) ≡
+        advanced_each values.now (choices parts.now.items)) }
 {
     if !is_entered_anywhere(parts) {
         return Ok(None);

@@ -25,7 +25,8 @@ pub(crate) fn sequence(
     first: Rc<Term>,
     second: &Rc<Term>,
 ) -> Result<Rc<Term>, AllocError>
-    ensures { IfOk result (λ t. process t.value ≡ followed_by (process first.value) (process second.now.value)) }
+    ensures { IfOk result (λ t. process t.value ≡
+        followed_by (process first.value) (process second.now.value)) }
 {
     let second = second.clone()?;
     match &*first {
@@ -40,7 +41,8 @@ pub(crate) fn side_by_side(
     first: &Rc<Term>,
     second: Rc<Term>,
 ) -> Result<Rc<Term>, AllocError>
-    ensures { IfOk result (λ t. process t.value ≡ beside (process first.now.value) (process second.value)) }
+    ensures { IfOk result (λ t. process t.value ≡
+        beside (process first.now.value) (process second.value)) }
 {
     let first = first.clone()?;
     match (&*first, &*second) {
@@ -72,7 +74,8 @@ pub(crate) fn scoped(
     last: Last,
     body: Rc<Term>,
 ) -> Result<Rc<Term>, AllocError>
-    ensures { IfOk result (λ t. process t.value ≡ with_scope local (kept start last) (process body.value)) }
+    ensures { IfOk result (λ t. process t.value ≡
+        with_scope local (kept start last) (process body.value)) }
 {
     let last = kept_value(start, last);
     match &*body {
@@ -98,7 +101,8 @@ pub(crate) fn caught(
     body: Rc<Term>,
     handler: &Rc<Term>,
 ) -> Result<Rc<Term>, AllocError>
-    ensures { IfOk result (λ t. process t.value ≡ catching exception (process body.value) (process handler.now.value)) }
+    ensures { IfOk result (λ t. process t.value ≡
+        catching exception (process body.value) (process handler.now.value)) }
 {
     match &*body {
         Term::Eps => Ok(body),
@@ -120,7 +124,8 @@ pub(crate) fn tried(
     body: Rc<Term>,
     otherwise: &Rc<Term>,
 ) -> Result<Rc<Term>, AllocError>
-    ensures { IfOk result (λ t. process t.value ≡ trying (process body.value) (process otherwise.now.value)) }
+    ensures { IfOk result (λ t. process t.value ≡
+        trying (process body.value) (process otherwise.now.value)) }
 {
     match &*body {
         Term::Eps => Ok(body),

@@ -29,12 +29,17 @@ use std::rc::Rc;
 pub fn offers(alloc: Global, scenario: &Scenario, term: &Term) -> Result<Tree, Memory>
     requires { IsCounted (process term.now) }
     // The tree of the rules, with the numbers of the constraints ..
-    ensures numbers { IfOk result (λ t. tree_nodes t.nodes.items ≡ flattened (offers_of (kinds_of scenario.now.locals.items) (process term.now))) }
+    ensures numbers { IfOk result (λ t. tree_nodes t.nodes.items ≡
+        flattened (offers_of (kinds_of scenario.now.locals.items) (process term.now))) }
     // .. and so with whatever these numbers stand for.
     ensures expressions { IfOk result (λ t. (meaning : ℕ → Expression) →
-        map (node_with_constraints meaning) (tree_nodes t.nodes.items) ≡ flattened (offers_of (kinds_of scenario.now.locals.items) (with_constraints meaning (process term.now)))) }
+        map (node_with_constraints meaning) (tree_nodes t.nodes.items) ≡
+        flattened (offers_of (kinds_of scenario.now.locals.items)
+        (with_constraints meaning (process term.now)))) }
     // Its numbers are those of the term.
-    ensures passes { IfOk result (λ t. (tests : Tests ℕ) → IsTrue (passes tests (process term.now)) → IsTrue (list_all (node_passes tests) (tree_nodes t.nodes.items))) }
+    ensures passes { IfOk result (λ t. (tests : Tests ℕ) →
+        IsTrue (passes tests (process term.now)) →
+        IsTrue (list_all (node_passes tests) (tree_nodes t.nodes.items))) }
 {
     let nodes = nodes_of(alloc, &scenario.locals, term)?;
     Ok(Tree { nodes })
@@ -44,7 +49,8 @@ pub fn offers(alloc: Global, scenario: &Scenario, term: &Term) -> Result<Tree, M
 #[cycle(emit)]
 fn nodes_of(alloc: Global, locals: &[Var], term: &Term) -> Result<Vec<TreeNode>, AllocError>
     requires { IsCounted (process term.now) }
-    ensures { IfOk result (λ nodes. tree_nodes nodes.items ≡ flattened (offers_of (kinds_of locals.now) (process term.now))) }
+    ensures { IfOk result (λ nodes. tree_nodes nodes.items ≡
+        flattened (offers_of (kinds_of locals.now) (process term.now))) }
 {
     let mut nodes = Vec::new(alloc);
     emit(alloc, locals, &mut nodes, term)?;
@@ -60,7 +66,8 @@ fn emit(
     term: &Term,
 ) -> Result<(), AllocError>
     requires { IsCounted (process term.now) }
-    ensures { OnOk result (tree_nodes out.new.items ≡ tree_nodes out.old.items ++ flattened (offers_of (kinds_of locals.now) (process term.now))) }
+    ensures { OnOk result (tree_nodes out.new.items ≡ tree_nodes out.old.items ++
+        flattened (offers_of (kinds_of locals.now) (process term.now))) }
 {
     match term {
         Term::Eps => put(out, TreeNode::Vanish),
@@ -131,7 +138,8 @@ fn emit_parts(
     parts: &Vec<(u32, Term)>,
 ) -> Result<(), AllocError>
     requires counted { All (λ p. IsCounted (process p.1)) parts.now.items }
-    ensures { OnOk result (tree_nodes out.new.items ≡ tree_nodes out.old.items ++ flat_map (λ p. flattened (offers_of (kinds_of locals.now) (process p.1))) parts.now.items) }
+    ensures { OnOk result (tree_nodes out.new.items ≡ tree_nodes out.old.items ++
+        flat_map (λ p. flattened (offers_of (kinds_of locals.now) (process p.1))) parts.now.items) }
 {
     for (_, part) in parts {
         emit(alloc, locals, out, part)?;
@@ -141,7 +149,8 @@ fn emit_parts(
 
 // The node of one instant in which an expression holds, and after which there is nothing.
 fn put_instant(alloc: Global, out: &mut Vec<TreeNode>, constraint: u32) -> Result<(), AllocError>
-    ensures { OnOk result (tree_nodes out.new.items ≡ tree_nodes out.old.items ++ leaf_node (go (constraint ∷ []) [] eps) ∷ []) }
+    ensures { OnOk result (tree_nodes out.new.items ≡ tree_nodes out.old.items ++
+        leaf_node (go (constraint ∷ []) [] eps) ∷ []) }
 {
     let next = shared(alloc, Term::Eps)?;
     let constraints = vec![in alloc; constraint]?;
@@ -162,7 +171,8 @@ fn put_choice(
     out: &mut Vec<TreeNode>,
     parts: &Vec<(u32, Term)>,
 ) -> Result<(), AllocError>
-    ensures { OnOk result (tree_nodes out.new.items ≡ tree_nodes out.old.items ++ weighted_node [] (map (λ p. expression p.0) parts.now.items) ∷ []) }
+    ensures { OnOk result (tree_nodes out.new.items ≡ tree_nodes out.old.items ++
+        weighted_node [] (map (λ p. expression p.0) parts.now.items) ∷ []) }
 {
     let weights = weights_of(alloc, parts)?;
     let lasts = Vec::new(alloc);
@@ -187,7 +197,9 @@ fn put_loop(
     nodes: Vec<TreeNode>,
     body: &Rc<Term>,
 ) -> Result<(), AllocError>
-    ensures { OnOk result (tree_nodes out.new.items ≡ tree_nodes out.old.items ++ ordered_node ∷ (flat_map (replaced (in_turn (loop (process body.now.value)))) (tree_nodes nodes.items) ++ leaf_node vanish ∷ [])) }
+    ensures { OnOk result (tree_nodes out.new.items ≡ tree_nodes out.old.items ++ ordered_node ∷
+        (flat_map (replaced (in_turn (loop (process body.now.value)))) (tree_nodes nodes.items) ++
+        leaf_node vanish ∷ [])) }
 {
     put(out, TreeNode::Pri)?;
     let again = once_more(alloc, body)?;
@@ -205,7 +217,10 @@ fn put_counted(
     body: &Rc<Term>,
 ) -> Result<(), AllocError>
     requires { done ≤ most_turns }
-    ensures { OnOk result (tree_nodes out.new.items ≡ tree_nodes out.old.items ++ weighted_node [] (more counter done ∷ stop counter done ∷ []) ∷ (flat_map (replaced (in_turn (count counter (suc done) (process body.now.value)))) (tree_nodes nodes.items) ++ leaf_node vanish ∷ [])) }
+    ensures { OnOk result (tree_nodes out.new.items ≡ tree_nodes out.old.items ++
+        weighted_node [] (more counter done ∷ stop counter done ∷ []) ∷
+        (flat_map (replaced (in_turn (count counter (suc done) (process body.now.value))))
+        (tree_nodes nodes.items) ++ leaf_node vanish ∷ [])) }
 {
     put_count(alloc, out, counter, done)?;
     let again = one_more_done(alloc, counter, done, body)?;
@@ -220,7 +235,8 @@ fn put_count(
     counter: u32,
     done: u64,
 ) -> Result<(), AllocError>
-    ensures { OnOk result (tree_nodes out.new.items ≡ tree_nodes out.old.items ++ weighted_node [] (more counter done ∷ stop counter done ∷ []) ∷ []) }
+    ensures { OnOk result (tree_nodes out.new.items ≡ tree_nodes out.old.items ++
+        weighted_node [] (more counter done ∷ stop counter done ∷ []) ∷ []) }
 {
     let mut weights = Vec::new(alloc);
     weights.push(Weight::More { counter, done })?;
@@ -245,7 +261,8 @@ fn one_more_done(
     body: &Rc<Term>,
 ) -> Result<Rc<Term>, AllocError>
     requires { done ≤ most_turns }
-    ensures { IfOk result (λ t. process t.value ≡ count counter (suc done) (process body.now.value)) }
+    ensures { IfOk result (λ t. process t.value ≡
+        count counter (suc done) (process body.now.value)) }
 {
     let again = Term::Count {
         counter,
@@ -265,7 +282,10 @@ fn put_seq(
     second: &Rc<Term>,
 ) -> Result<(), AllocError>
     requires { IsCounted (process second.now.value) }
-    ensures { OnOk result (tree_nodes out.new.items ≡ tree_nodes out.old.items ++ flat_map (replaced (in_seq (process second.now.value) (offers_of (kinds_of locals.now) (process second.now.value)))) (tree_nodes nodes.items)) }
+    ensures { OnOk result (tree_nodes out.new.items ≡ tree_nodes out.old.items ++
+        flat_map (replaced
+        (in_seq (process second.now.value)
+        (offers_of (kinds_of locals.now) (process second.now.value)))) (tree_nodes nodes.items)) }
 {
     for node in nodes {
         match node {
@@ -302,7 +322,9 @@ fn put_par(
     second: &Term,
 ) -> Result<(), AllocError>
     requires { IsCounted (process second.now) }
-    ensures { OnOk result (tree_nodes out.new.items ≡ tree_nodes out.old.items ++ flat_map (replaced (in_par (offers_of (kinds_of locals.now) (process second.now)))) (tree_nodes nodes.items)) }
+    ensures { OnOk result (tree_nodes out.new.items ≡ tree_nodes out.old.items ++
+        flat_map (replaced (in_par (offers_of (kinds_of locals.now) (process second.now))))
+        (tree_nodes nodes.items)) }
 {
     for node in nodes {
         match node {
@@ -332,7 +354,10 @@ fn put_catch(
     handler: &Rc<Term>,
 ) -> Result<(), AllocError>
     requires { IsCounted (process handler.now.value) }
-    ensures { OnOk result (tree_nodes out.new.items ≡ tree_nodes out.old.items ++ flat_map (replaced (in_catch exception (process handler.now.value) (offers_of (kinds_of locals.now) (process handler.now.value)))) (tree_nodes nodes.items)) }
+    ensures { OnOk result (tree_nodes out.new.items ≡ tree_nodes out.old.items ++
+        flat_map (replaced
+        (in_catch exception (process handler.now.value)
+        (offers_of (kinds_of locals.now) (process handler.now.value)))) (tree_nodes nodes.items)) }
 {
     for node in nodes {
         match node {

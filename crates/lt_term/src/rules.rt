@@ -20,7 +20,8 @@ use std::rc::Rc;
 
 /// One more node.
 pub(crate) fn put(out: &mut Vec<TreeNode>, node: TreeNode) -> Result<(), AllocError>
-    ensures { OnOk result (tree_nodes out.new.items ≡ tree_nodes out.old.items ++ tree_node node ∷ []) }
+    ensures { OnOk result (tree_nodes out.new.items ≡ tree_nodes out.old.items ++ tree_node node ∷
+        []) }
 {
     out.push(node)?;
     Ok(())
@@ -33,7 +34,8 @@ pub(crate) fn put_turn(
     nodes: Vec<TreeNode>,
     again: &Rc<Term>,
 ) -> Result<(), AllocError>
-    ensures { OnOk result (tree_nodes out.new.items ≡ tree_nodes out.old.items ++ flat_map (replaced (in_turn (process again.now.value))) (tree_nodes nodes.items)) }
+    ensures { OnOk result (tree_nodes out.new.items ≡ tree_nodes out.old.items ++
+        flat_map (replaced (in_turn (process again.now.value))) (tree_nodes nodes.items)) }
 {
     for node in nodes {
         match node {
@@ -68,7 +70,9 @@ pub(crate) fn put_joined(
     next: &Rc<Term>,
     nodes: Vec<TreeNode>,
 ) -> Result<(), AllocError>
-    ensures { OnOk result (tree_nodes out.new.items ≡ tree_nodes out.old.items ++ flat_map (replaced (joined constraints.now.items lasts.now.items (process next.now.value))) (tree_nodes nodes.items)) }
+    ensures { OnOk result (tree_nodes out.new.items ≡ tree_nodes out.old.items ++
+        flat_map (replaced (joined constraints.now.items lasts.now.items (process next.now.value)))
+        (tree_nodes nodes.items)) }
 {
     for node in nodes {
         put(out, join(alloc, constraints, lasts, next, node)?)?;
@@ -84,7 +88,9 @@ fn join(
     next: &Rc<Term>,
     node: TreeNode,
 ) -> Result<TreeNode, AllocError>
-    ensures { IfOk result (λ n. tree_node n ∷ [] ≡ replaced (joined constraints.now.items lasts.now.items (process next.now.value)) (tree_node node)) }
+    ensures { IfOk result (λ n. tree_node n ∷ [] ≡
+        replaced (joined constraints.now.items lasts.now.items (process next.now.value))
+        (tree_node node)) }
 {
     match node {
         TreeNode::Vanish => Ok(TreeNode::Go {
@@ -112,7 +118,8 @@ pub(crate) fn put_assert(
     nodes: Vec<TreeNode>,
     constraint: u32,
 ) -> Result<(), AllocError>
-    ensures { OnOk result (tree_nodes out.new.items ≡ tree_nodes out.old.items ++ flat_map (replaced (in_assert constraint)) (tree_nodes nodes.items)) }
+    ensures { OnOk result (tree_nodes out.new.items ≡ tree_nodes out.old.items ++
+        flat_map (replaced (in_assert constraint)) (tree_nodes nodes.items)) }
 {
     for node in nodes {
         match node {
@@ -147,7 +154,10 @@ pub(crate) fn put_exist(
     local: u32,
     last: Last,
 ) -> Result<(), AllocError>
-    ensures { OnOk result (tree_nodes out.new.items ≡ tree_nodes out.old.items ++ flat_map (λ n. replaced (in_exist start local last) (node_with_local (local, last) n)) (tree_nodes nodes.items)) }
+    ensures { OnOk result (tree_nodes out.new.items ≡ tree_nodes out.old.items ++
+        flat_map (λ n.
+        replaced (in_exist start local last) (node_with_local (local, last) n))
+        (tree_nodes nodes.items)) }
 {
     for node in nodes {
         match node {
@@ -184,7 +194,8 @@ pub(crate) fn put_try(
     nodes: Vec<TreeNode>,
     otherwise: &Rc<Term>,
 ) -> Result<(), AllocError>
-    ensures { OnOk result (tree_nodes out.new.items ≡ tree_nodes out.old.items ++ flat_map (replaced (in_try (process otherwise.now.value))) (tree_nodes nodes.items)) }
+    ensures { OnOk result (tree_nodes out.new.items ≡ tree_nodes out.old.items ++
+        flat_map (replaced (in_try (process otherwise.now.value))) (tree_nodes nodes.items)) }
 {
     for node in nodes {
         match node {

@@ -35,7 +35,8 @@ struct Tally {
 /// How many nodes the tree of a term has: 65,537 where there are more. It is found from the numbers of leaves
 /// of the parts.
 pub fn size(alloc: Global, term: &Term) -> Result<u64, Memory>
-    ensures { IfOk result (λ n. (kinds : List Kind) → n ≡ capped (size (offers_of kinds (process term.now)))) }
+    ensures { IfOk result (λ n. (kinds : List Kind) →
+        n ≡ capped (size (offers_of kinds (process term.now)))) }
 {
     let tally = tally_of(alloc, term)?;
     Ok(total(&tally))
@@ -118,7 +119,8 @@ fn one_raise(alloc: Global, exception: u32) -> Result<Tally, AllocError>
 
 // So many copies of a part beside the rest.
 fn with_copies(rest: Tally, copies: u64, part: &Tally) -> Result<Tally, AllocError>
-    ensures { IfOk result (λ k. (w : Weights) → IsAlike (tally_weight w k) (tally_weight w rest + copies * tally_weight w part.now)) }
+    ensures { IfOk result (λ k. (w : Weights) →
+        IsAlike (tally_weight w k) (tally_weight w rest + copies * tally_weight w part.now)) }
 {
     let raises = with_more_raises(rest.raises, copies, &part.raises)?;
     Ok(Tally {
@@ -145,7 +147,8 @@ fn with_more_raises(
 
 // Both of two.
 fn both(first: Tally, second: &Tally) -> Result<Tally, AllocError>
-    ensures { IfOk result (λ k. (w : Weights) → IsAlike (tally_weight w k) (tally_weight w first + tally_weight w second.now)) }
+    ensures { IfOk result (λ k. (w : Weights) →
+        IsAlike (tally_weight w k) (tally_weight w first + tally_weight w second.now)) }
 {
     with_copies(first, 1, second)
 }
@@ -160,7 +163,9 @@ fn with_choice(mut below: Tally) -> Tally
 
 // A first part, with a second one for each of its leaves that vanish.
 fn followed(mut first: Tally, second: &Tally) -> Result<Tally, AllocError>
-    ensures { IfOk result (λ k. (w : Weights) → IsAlike (tally_weight w k) (tally_weight (record w { vanish = tally_weight w second.now }) first)) }
+    ensures { IfOk result (λ k. (w : Weights) →
+        IsAlike (tally_weight w k)
+        (tally_weight (record w { vanish = tally_weight w second.now }) first)) }
 {
     let copies = first.vanishes;
     first.vanishes = 0;
@@ -169,7 +174,9 @@ fn followed(mut first: Tally, second: &Tally) -> Result<Tally, AllocError>
 
 // A choice between one more turn, in which a leaf that vanishes does nothing, and the end.
 fn repeated(mut body: Tally) -> Tally
-    ensures { (w : Weights) → IsAlike (tally_weight w result) (w.other + (tally_weight (record w { vanish = w.other }) body + w.vanish)) }
+    ensures { (w : Weights) →
+        IsAlike (tally_weight w result)
+        (w.other + (tally_weight (record w { vanish = w.other }) body + w.vanish)) }
 {
     body.others = sum(sum(body.others, body.vanishes), 1);
     body.vanishes = 1;
@@ -180,7 +187,14 @@ fn repeated(mut body: Tally) -> Tally
 // its leaves that vanish go on. What the second one raises is put down once for all these leaves, so that it doesn't
 // grow with each side.
 fn beside(mut first: Tally, mut second: Tally) -> Result<Tally, AllocError>
-    ensures { IfOk result (λ k. (w : Weights) → IsAlike (tally_weight w k) (tally_weight (record w { vanish = tally_weight w second; go = tally_weight (record w { vanish = w.go }) second }) first)) }
+    ensures { IfOk result (λ k. (w : Weights) →
+        IsAlike (tally_weight w k)
+        (tally_weight
+        (record w {
+          vanish = tally_weight w second;
+          go = tally_weight (record w { vanish = w.go })
+              second;
+        }) first)) }
 {
     let over = first.vanishes;
     let going = first.goes;
@@ -196,7 +210,9 @@ fn beside(mut first: Tally, mut second: Tally) -> Result<Tally, AllocError>
 
 // A part, with its handler for each of its leaves that raise an exception.
 fn caught(exception: u32, mut body: Tally, handler: &Tally) -> Result<Tally, AllocError>
-    ensures { IfOk result (λ k. (w : Weights) → IsAlike (tally_weight w k) (tally_weight (with_raise w exception (tally_weight w handler.now)) body)) }
+    ensures { IfOk result (λ k. (w : Weights) →
+        IsAlike (tally_weight w k)
+        (tally_weight (with_raise w exception (tally_weight w handler.now)) body)) }
 {
     let copies = raised(&body, exception);
     let raises = others_raised(&body, exception)?;
@@ -238,7 +254,8 @@ fn others_raised(tally: &Tally, exception: u32) -> Result<Vec<(u32, u64)>, Alloc
 // The nodes of the tree of a term.
 #[cycle(tally)]
 fn tally_of(alloc: Global, term: &Term) -> Result<Tally, AllocError>
-    ensures { IfOk result (λ k. (w : Weights) → IsAlike (tally_weight w k) (weight_of w (process term.now))) }
+    ensures { IfOk result (λ k. (w : Weights) →
+        IsAlike (tally_weight w k) (weight_of w (process term.now))) }
 {
     match term {
         Term::Eps => Ok(one_vanish(alloc)),
@@ -283,8 +300,10 @@ fn tally_of(alloc: Global, term: &Term) -> Result<Tally, AllocError>
 // The nodes of the trees of two terms, each by itself.
 #[cycle(tally)]
 fn tallies_of(alloc: Global, first: &Term, second: &Term) -> Result<(Tally, Tally), AllocError>
-    ensures first { IfOk result (λ ks. (w : Weights) → IsAlike (tally_weight w ks.0) (weight_of w (process first.now))) }
-    ensures second { IfOk result (λ ks. (w : Weights) → IsAlike (tally_weight w ks.1) (weight_of w (process second.now))) }
+    ensures first { IfOk result (λ ks. (w : Weights) →
+        IsAlike (tally_weight w ks.0) (weight_of w (process first.now))) }
+    ensures second { IfOk result (λ ks. (w : Weights) →
+        IsAlike (tally_weight w ks.1) (weight_of w (process second.now))) }
 {
     let first = tally_of(alloc, first)?;
     let second = tally_of(alloc, second)?;
@@ -294,7 +313,9 @@ fn tallies_of(alloc: Global, first: &Term, second: &Term) -> Result<(Tally, Tall
 // The nodes of the trees of two terms, and a choice above them.
 #[cycle(tally)]
 fn tally_of_either(alloc: Global, first: &Term, second: &Term) -> Result<Tally, AllocError>
-    ensures { IfOk result (λ k. (w : Weights) → IsAlike (tally_weight w k) (w.other + (weight_of w (process first.now) + weight_of w (process second.now)))) }
+    ensures { IfOk result (λ k. (w : Weights) →
+        IsAlike (tally_weight w k)
+        (w.other + (weight_of w (process first.now) + weight_of w (process second.now)))) }
 {
     let (first, second) = tallies_of(alloc, first, second)?;
     let below = both(first, &second)?;
@@ -304,7 +325,8 @@ fn tally_of_either(alloc: Global, first: &Term, second: &Term) -> Result<Tally, 
 // The nodes of the trees of the parts of a choice.
 #[cycle(tally)]
 fn tally_of_each(alloc: Global, parts: &Vec<(u32, Term)>) -> Result<Tally, AllocError>
-    ensures { IfOk result (λ k. (w : Weights) → IsAlike (tally_weight w k) (sum_by (λ p. weight_of w (process p.1)) parts.now.items)) }
+    ensures { IfOk result (λ k. (w : Weights) →
+        IsAlike (tally_weight w k) (sum_by (λ p. weight_of w (process p.1)) parts.now.items)) }
 {
     let mut all = nothing(alloc);
     for (_, part) in parts {

@@ -30,7 +30,8 @@ pub(crate) fn check_expr(
     scope: &mut Scope,
     expr: &Expr,
 ) -> Result<TypeName, TypeRefusal>
-    ensures answered { Answers result (exp_refusals scope.old (exp expr.now)) (type_of scope.old (exp expr.now)) }
+    ensures answered { Answers result (exp_refusals scope.old (exp expr.now))
+        (type_of scope.old (exp expr.now)) }
     ensures kept { OnOk result (scope.new ≡ scope.old) }
 {
     let mut sides = Vec::new(alloc);
@@ -52,7 +53,8 @@ pub(crate) fn check_expr(
 #[cycle(check)]
 fn check_operand(alloc: Global, scope: &mut Scope, expr: &Expr) -> Result<TypeName, TypeRefusal>
     requires operand { IsOperand (exp expr.now) }
-    ensures answered { Answers result (exp_refusals scope.old (exp expr.now)) (type_of scope.old (exp expr.now)) }
+    ensures answered { Answers result (exp_refusals scope.old (exp expr.now))
+        (type_of scope.old (exp expr.now)) }
     ensures kept { OnOk result (scope.new ≡ scope.old) }
 {
     match expr {
@@ -83,7 +85,8 @@ fn check_use(
     name: &Name,
     args: &Option<Args>,
 ) -> Result<TypeName, TypeRefusal>
-    ensures answered { Answers result (exp_refusals scope.old (used (word name.now) args.now)) (type_of scope.old (used (word name.now) args.now)) }
+    ensures answered { Answers result (exp_refusals scope.old (used (word name.now) args.now))
+        (type_of scope.old (used (word name.now) args.now)) }
     ensures kept { OnOk result (scope.new ≡ scope.old) }
 {
     match args {
@@ -100,7 +103,9 @@ fn check_call(
     name: &Name,
     args: &[Arg],
 ) -> Result<TypeName, TypeRefusal>
-    ensures answered { Answers result (exp_refusals scope.old (called (word name.now) (arguments_of (map argument args.now)))) (type_of scope.old (called (word name.now) (arguments_of (map argument args.now)))) }
+    ensures answered { Answers result
+        (exp_refusals scope.old (called (word name.now) (arguments_of (map argument args.now))))
+        (type_of scope.old (called (word name.now) (arguments_of (map argument args.now)))) }
     ensures kept { OnOk result (scope.new ≡ scope.old) }
 {
     if scope.lookup(&name.text).is_none() {
@@ -113,8 +118,10 @@ fn check_call(
 // Arguments, and the types that they have.
 #[cycle(check)]
 fn check_args(alloc: Global, scope: &mut Scope, args: &[Arg]) -> Result<Vec<TypeName>, TypeRefusal>
-    ensures answered { Checks result (arguments_refusals scope.old (arguments_of (map argument args.now))) }
-    ensures kinds { IfOk result (λ kinds. map Some kinds.items ≡ map (argument_type scope.old) (map argument args.now)) }
+    ensures answered { Checks result
+        (arguments_refusals scope.old (arguments_of (map argument args.now))) }
+    ensures kinds { IfOk result (λ kinds. map Some kinds.items ≡
+        map (argument_type scope.old) (map argument args.now)) }
     ensures kept { OnOk result (scope.new ≡ scope.old) }
 {
     let mut kinds = Vec::new(alloc);
@@ -127,7 +134,8 @@ fn check_args(alloc: Global, scope: &mut Scope, args: &[Arg]) -> Result<Vec<Type
 // An argument, and the type that it has.
 #[cycle(check)]
 fn check_arg(alloc: Global, scope: &mut Scope, arg: &Arg) -> Result<TypeName, TypeRefusal>
-    ensures answered { Answers result (argument_refusals scope.old (argument arg.now)) (argument_type scope.old (argument arg.now)) }
+    ensures answered { Answers result (argument_refusals scope.old (argument arg.now))
+        (argument_type scope.old (argument arg.now)) }
     ensures kept { OnOk result (scope.new ≡ scope.old) }
 {
     match arg {
@@ -142,7 +150,8 @@ fn check_arg(alloc: Global, scope: &mut Scope, arg: &Arg) -> Result<TypeName, Ty
 // An operator and its operand.
 #[tactic(auto, using(crate::proofs::Leading::leads))]
 fn check_unary(operator: UnOp, kind: TypeName, at: Span) -> Result<TypeName, TypeRefusal>
-    ensures { Answers result (typed (unary_takes operator) (Some kind) at) (Some (unary_gives operator kind)) }
+    ensures { Answers result (typed (unary_takes operator) (Some kind) at)
+        (Some (unary_gives operator kind)) }
 {
     if takes_one(operator, kind) {
         return Ok(gives_one(operator, kind));
@@ -158,7 +167,8 @@ fn check_binary(
     right: TypeName,
     at: Span,
 ) -> Result<TypeName, TypeRefusal>
-    ensures { Answers result (operands (binary_takes operator) (Some left) (Some right) at) (Some (binary_gives operator left)) }
+    ensures { Answers result (operands (binary_takes operator) (Some left) (Some right) at)
+        (Some (binary_gives operator left)) }
 {
     if is_same(right, left) && takes_two(operator, left) {
         return Ok(gives_two(operator, left));

@@ -31,8 +31,11 @@ pub(crate) fn check_groups(
     groups: &Groups,
 ) -> Result<(), TypeRefusal>
     requires from { from ≤ length scope.old.names }
-    ensures answered { Checks result (groups_refusals (role_view role) scope.old (declared_since from scope.old) (groupings groups.now)) }
-    ensures declared { OnOk result (scope.new ≡ with_groups (role_view role) scope.old (groupings groups.now)) }
+    ensures answered { Checks result
+        (groups_refusals (role_view role) scope.old (declared_since from scope.old)
+        (groupings groups.now)) }
+    ensures declared { OnOk result (scope.new ≡
+        with_groups (role_view role) scope.old (groupings groups.now)) }
 {
     for group in &groups.items {
         check_group(alloc, scope, role, from, group)?;
@@ -50,8 +53,11 @@ fn check_group(
     group: &Group,
 ) -> Result<(), TypeRefusal>
     requires from { from ≤ length scope.old.names }
-    ensures answered { Checks result (group_refusals (role_view role) scope.old (declared_since from scope.old) (group_of group.now)) }
-    ensures declared { OnOk result (scope.new ≡ with_group (role_view role) scope.old (group_of group.now)) }
+    ensures answered { Checks result
+        (group_refusals (role_view role) scope.old (declared_since from scope.old)
+        (group_of group.now)) }
+    ensures declared { OnOk result (scope.new ≡
+        with_group (role_view role) scope.old (group_of group.now)) }
 {
     scope.check_new_names(from, &group.names)?;
     check_range(alloc, scope.decimals(), group.kind, &group.range)?;
@@ -81,7 +87,10 @@ fn check_first(
 // That a group may be as it is written.
 #[tactic(auto, using(crate::proofs::Leading::leads))]
 fn check_form(role: Role, group: &Group) -> Result<(), TypeRefusal>
-    ensures { Checks result (unless (may_be_written (role_view role) group.now.kind group.now.by_ref (interval group.now.range) (maybe_exp group.now.first)) (TypeRefusal.Mismatch (first_place (words group.now.names)))) }
+    ensures { Checks result
+        (unless (may_be_written (role_view role) group.now.kind group.now.by_ref
+        (interval group.now.range) (maybe_exp group.now.first))
+        (TypeRefusal.Mismatch (first_place (words group.now.names)))) }
 {
     if is_well_formed(role, group) {
         return Ok(());
@@ -91,7 +100,8 @@ fn check_form(role: Role, group: &Group) -> Result<(), TypeRefusal>
 
 // Whether a group may be as it is written, whatever its names, its range and its first value are.
 fn is_well_formed(role: Role, group: &Group) -> bool
-    ensures { result ≡ may_be_written (role_view role) group.now.kind group.now.by_ref (interval group.now.range) (maybe_exp group.now.first) }
+    ensures { result ≡ may_be_written (role_view role) group.now.kind group.now.by_ref
+        (interval group.now.range) (maybe_exp group.now.first) }
 {
     match role {
         Role::Variables => {
@@ -157,7 +167,8 @@ fn check_params(
     params: &Option<Groups>,
 ) -> Result<(), TypeRefusal>
     ensures answered { Checks result (parameters_refusals scope.old (parameters_view params.now)) }
-    ensures declared { OnOk result (scope.new ≡ with_parameters scope.old (parameters_view params.now)) }
+    ensures declared { OnOk result (scope.new ≡
+        with_parameters scope.old (parameters_view params.now)) }
 {
     match params {
         None => Ok(()),
@@ -205,7 +216,8 @@ pub(crate) fn declare_macro(
 // The parameters of a macro: one without a list of them has none.
 #[tactic(auto, using(crate::proofs::Leading::leads, crate::proofs::Scopes::groups_steps))]
 fn params_of(alloc: Global, params: &Option<Groups>) -> Result<Vec<Param>, TypeRefusal>
-    ensures ok { IfOk result (λ v. map param_view v.items ≡ parameters_of (parameters_view params.now)) }
+    ensures ok { IfOk result (λ v. map param_view v.items ≡
+        parameters_of (parameters_view params.now)) }
     ensures memory { Checks result [] }
 {
     let mut all = Vec::new(alloc);
@@ -217,7 +229,8 @@ fn params_of(alloc: Global, params: &Option<Groups>) -> Result<Vec<Param>, TypeR
 
 // One parameter for each name of the groups.
 fn add_params(all: &mut Vec<Param>, groups: &Groups) -> Result<(), TypeRefusal>
-    ensures ok { OnOk result (map param_view all.new.items ≡ map param_view all.old.items ++ groups_parameters (groupings groups.now)) }
+    ensures ok { OnOk result (map param_view all.new.items ≡ map param_view all.old.items ++
+        groups_parameters (groupings groups.now)) }
     ensures memory { Checks result [] }
 {
     for group in &groups.items {
@@ -228,7 +241,8 @@ fn add_params(all: &mut Vec<Param>, groups: &Groups) -> Result<(), TypeRefusal>
 
 // One parameter for each name of a group.
 fn add_group_params(all: &mut Vec<Param>, group: &Group) -> Result<(), TypeRefusal>
-    ensures ok { OnOk result (map param_view all.new.items ≡ map param_view all.old.items ++ group_parameters (group_of group.now)) }
+    ensures ok { OnOk result (map param_view all.new.items ≡ map param_view all.old.items ++
+        group_parameters (group_of group.now)) }
     ensures memory { Checks result [] }
 {
     for _ in &group.names.items {

@@ -40,7 +40,9 @@ fn check_ends(
     range: &Range,
 ) -> Result<(), TypeRefusal>
     requires few { decimals ≤ most_decimals }
-    ensures { Checks result (range_of decimals kind (record { low = figure range.now.low; high = figure range.now.high })) }
+    ensures { Checks result
+        (range_of decimals kind
+        (record { low = figure range.now.low; high = figure range.now.high })) }
 {
     check_end_kind(kind, &range.low)?;
     check_end_kind(kind, &range.high)?;

@@ -63,7 +63,8 @@ pub fn check(alloc: Global, program: Program, decimals: u32) -> Result<Typed, Ty
     requires few { decimals ≤ most_decimals }
     ensures same { IfOk result (λ t. (t.program ≡ program) × (t.decimals ≡ decimals)) }
     ensures typed { IfOk result (λ t. IsWellTyped decimals (declarations program)) }
-    ensures only { IsWellTyped decimals (declarations program) → IfErr result (λ r. r ≡ TypeRefusal.Memory) }
+    ensures only { IsWellTyped decimals (declarations program) →
+        IfErr result (λ r. r ≡ TypeRefusal.Memory) }
     ensures refused { IfErr result (λ r. Leads r (type_refusals decimals (declarations program))) }
 {
     check_program(alloc, &program, decimals)?;
@@ -83,7 +84,8 @@ fn check_program(alloc: Global, program: &Program, decimals: u32) -> Result<(), 
 // The declarations of a text, and that one of them is a node.
 #[tactic(auto, using(crate::proofs::Leading::leads))]
 fn check_text(alloc: Global, scope: &mut Scope, decls: &[Decl]) -> Result<(), TypeRefusal>
-    ensures { Checks result (declarations_refusals scope.old (map declaration decls.now) ++ unless (has_node (map declaration decls.now)) TypeRefusal.NoNode) }
+    ensures { Checks result (declarations_refusals scope.old (map declaration decls.now) ++
+        unless (has_node (map declaration decls.now)) TypeRefusal.NoNode) }
 {
     check_decls(alloc, scope, decls)?;
     if has_a_node(decls) {
@@ -124,8 +126,10 @@ fn check_decl(alloc: Global, scope: &mut Scope, decl: &Decl) -> Result<(), TypeR
 // A node.
 #[tactic(auto, using(crate::proofs::Leading::leads, crate::proofs::Scopes::scope_ends, crate::proofs::Scopes::inputs_and_outputs_end))]
 fn check_node(alloc: Global, scope: &mut Scope, declared: &NodeDecl) -> Result<(), TypeRefusal>
-    ensures answered { Checks result (declaration_refusals scope.old (node_declaration declared.now)) }
-    ensures declared { OnOk result (scope.new ≡ with_declaration scope.old (node_declaration declared.now)) }
+    ensures answered { Checks result
+        (declaration_refusals scope.old (node_declaration declared.now)) }
+    ensures declared { OnOk result (scope.new ≡
+        with_declaration scope.old (node_declaration declared.now)) }
 {
     scope.check_new_node(&declared.name)?;
     let before = scope.name_count();

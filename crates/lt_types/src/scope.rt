@@ -98,7 +98,8 @@ impl Scope {
     #[tactic(auto, using(crate::proofs::Stacks::scope_steps))]
     pub(crate) fn check_new_names(&mut self, from: usize, names: &Names) -> Result<(), TypeRefusal>
         requires { from ≤ length self.old.names }
-        ensures answered { Checks result (new_names (declared_since from self.old) (words names.now)) }
+        ensures answered { Checks result
+            (new_names (declared_since from self.old) (words names.now)) }
         ensures kept { self.new ≡ self.old }
     {
         self.names.check_new(from, names)
@@ -106,7 +107,11 @@ impl Scope {
 
     // A name, and what it stands for.
     pub(crate) fn declare(&mut self, name: &str, entry: Entry) -> Result<(), TypeRefusal>
-        ensures ok { OnOk result (self.new ≡ record self.old { names = record { name = name.now; entry = entry_view entry } ∷ self.old.names }) }
+        ensures ok { OnOk result (self.new ≡
+            record self.old {
+              names = record { name = name.now; entry = entry_view entry } ∷
+                  self.old.names;
+            }) }
         ensures memory { Checks result [] }
     {
         self.entries.push(entry)?;
@@ -125,7 +130,11 @@ impl Scope {
         kind: TypeName,
         by_ref: bool,
     ) -> Result<(), TypeRefusal>
-        ensures ok { OnOk result (self.new ≡ record self.old { names = with_bindings (group_entry (role_view role) kind by_ref) (words names.now) self.old.names }) }
+        ensures ok { OnOk result (self.new ≡
+            record self.old {
+              names = with_bindings (group_entry (role_view role) kind by_ref) (words names.now)
+                  self.old.names;
+            }) }
         ensures memory { Checks result [] }
     {
         for name in &names.items {
@@ -166,7 +175,8 @@ impl Scope {
         names: &Names,
     ) -> Result<(), TypeRefusal>
         requires { from ≤ length self.old.exceptions }
-        ensures answered { Checks result (new_names (since from self.old.exceptions) (words names.now)) }
+        ensures answered { Checks result
+            (new_names (since from self.old.exceptions) (words names.now)) }
         ensures kept { self.new ≡ self.old }
     {
         self.exceptions.check_new(from, names)
@@ -209,7 +219,8 @@ impl Scope {
 
     // A node.
     pub(crate) fn declare_node(&mut self, name: &Name) -> Result<(), TypeRefusal>
-        ensures ok { OnOk result (self.new ≡ record self.old { nodes = string_bytes name.now.text ∷ self.old.nodes }) }
+        ensures ok { OnOk result (self.new ≡
+            record self.old { nodes = string_bytes name.now.text ∷ self.old.nodes }) }
         ensures memory { Checks result [] }
     {
         self.nodes.push(&name.text)

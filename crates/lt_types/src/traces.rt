@@ -66,7 +66,8 @@ pub(crate) fn check_trace(
 // That an expression of a type may stand as a trace.
 #[tactic(auto, using(crate::proofs::Leading::leads))]
 fn check_served(kind: TypeName, expr: &Expr) -> Result<(), TypeRefusal>
-    ensures { Checks result (typed (λ k. may_serve_as k TypeName.Trace) (Some kind) (span_of (exp expr.now))) }
+    ensures { Checks result
+        (typed (λ k. may_serve_as k TypeName.Trace) (Some kind) (span_of (exp expr.now))) }
 {
     if serves_as(kind, TypeName::Trace) {
         return Ok(());
@@ -95,7 +96,8 @@ pub(crate) fn check_braces(
 // Traces.
 #[cycle(check)]
 fn check_traces(alloc: Global, scope: &mut Scope, traces: &[TraceExpr]) -> Result<(), TypeRefusal>
-    ensures answered { Checks result (traces_refusals scope.old (traces_of (map trace_view traces.now))) }
+    ensures answered { Checks result
+        (traces_refusals scope.old (traces_of (map trace_view traces.now))) }
     ensures kept { OnOk result (scope.new ≡ scope.old) }
 {
     for part in traces {
@@ -119,7 +121,8 @@ fn check_parts(alloc: Global, scope: &mut Scope, parts: &Parts) -> Result<(), Ty
 // An alternative, with its weight where it has one.
 #[cycle(check)]
 fn check_part(alloc: Global, scope: &mut Scope, part: &Part) -> Result<(), TypeRefusal>
-    ensures answered { Checks result (alternative_refusals scope.old (weighed part.now.weight part.now.body)) }
+    ensures answered { Checks result
+        (alternative_refusals scope.old (weighed part.now.weight part.now.body)) }
     ensures kept { OnOk result (scope.new ≡ scope.old) }
 {
     if let Some(weight) = &part.weight {

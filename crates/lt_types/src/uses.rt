@@ -21,7 +21,8 @@ use lt_ast::{Arg, Args, Expr, Name, Span, TypeName};
 // A name alone.
 #[tactic(auto, using(crate::proofs::Leading::leads))]
 pub(crate) fn check_alone(scope: &Scope, name: &Name) -> Result<TypeName, TypeRefusal>
-    ensures { Answers result (exp_refusals scope.now (named (word name.now))) (type_of scope.now (named (word name.now))) }
+    ensures { Answers result (exp_refusals scope.now (named (word name.now)))
+        (type_of scope.now (named (word name.now))) }
 {
     match scope.lookup(&name.text) {
         None => Err(TypeRefusal::Unknown(name.span)),
@@ -32,7 +33,8 @@ pub(crate) fn check_alone(scope: &Scope, name: &Name) -> Result<TypeName, TypeRe
 // What a name alone stands for.
 #[tactic(auto, using(crate::proofs::Leading::leads, crate::proofs::Naming::alone_many))]
 fn check_entry_alone(name: &Name, entry: &Entry) -> Result<TypeName, TypeRefusal>
-    ensures { Answers result (alone (word name.now) (Some (entry_view entry.now))) (Some (entry_type (entry_view entry.now))) }
+    ensures { Answers result (alone (word name.now) (Some (entry_view entry.now)))
+        (Some (entry_type (entry_view entry.now))) }
 {
     match entry {
         Entry::Variable(kind) => Ok(*kind),
@@ -49,7 +51,8 @@ pub(crate) fn check_behind_pre(
     name: &Name,
     at: Span,
 ) -> Result<TypeName, TypeRefusal>
-    ensures { Answers result (exp_refusals scope.now (pre (word name.now) at)) (type_of scope.now (pre (word name.now) at)) }
+    ensures { Answers result (exp_refusals scope.now (pre (word name.now) at))
+        (type_of scope.now (pre (word name.now) at)) }
 {
     match scope.lookup(&name.text) {
         None => Err(TypeRefusal::Unknown(name.span)),
@@ -91,7 +94,10 @@ pub(crate) fn check_applied(
 ) -> Result<TypeName, TypeRefusal>
     requires known { IsSome (found scope.now.names (string_bytes name.now.text)) }
     requires kinds { map Some kinds.now ≡ map (argument_type scope.now) (map argument args.now) }
-    ensures { Answers result (applied scope.now (word name.now) (arguments_of (map argument args.now)) (found scope.now.names (string_bytes name.now.text))) (option_map entry_type (found scope.now.names (string_bytes name.now.text))) }
+    ensures { Answers result
+        (applied scope.now (word name.now) (arguments_of (map argument args.now))
+        (found scope.now.names (string_bytes name.now.text)))
+        (option_map entry_type (found scope.now.names (string_bytes name.now.text))) }
 {
     match scope.lookup(&name.text) {
         None => unreachable!(),
@@ -108,7 +114,9 @@ fn check_entry_applied(
     entry: &Entry,
 ) -> Result<TypeName, TypeRefusal>
     requires { map Some kinds.now ≡ map (argument_type scope.now) (map argument args.now) }
-    ensures { Answers result (applied scope.now (word name.now) (arguments_of (map argument args.now)) (Some (entry_view entry.now))) (Some (entry_type (entry_view entry.now))) }
+    ensures { Answers result
+        (applied scope.now (word name.now) (arguments_of (map argument args.now))
+        (Some (entry_view entry.now))) (Some (entry_type (entry_view entry.now))) }
 {
     match entry {
         Entry::Variable(_) => Err(TypeRefusal::Arity(name.span)),
@@ -131,7 +139,9 @@ fn check_arguments_fit(
     params: &[Param],
 ) -> Result<(), TypeRefusal>
     requires { map Some kinds.now ≡ map (argument_type scope.now) (map argument args.now) }
-    ensures { Checks result (arguments_misfit scope.now (arguments_of (map argument args.now)) (map param_view params.now)) }
+    ensures { Checks result
+        (arguments_misfit scope.now (arguments_of (map argument args.now))
+        (map param_view params.now)) }
 {
     let mut args = args;
     let mut kinds = kinds;
@@ -169,7 +179,8 @@ fn check_argument_fits(
 #[tactic(auto, using(crate::proofs::Naming::served_trace))]
 fn argument_fits(scope: &Scope, arg: &Arg, kind: TypeName, param: Param) -> bool
     requires { argument_type scope.now (argument arg.now) ≡ Some kind }
-    ensures { argument_misfit scope.now (argument arg.now) (param_view param) ≡ unless result (TypeRefusal.Mismatch (argument_span (argument arg.now))) }
+    ensures { argument_misfit scope.now (argument arg.now) (param_view param) ≡
+        unless result (TypeRefusal.Mismatch (argument_span (argument arg.now))) }
 {
     match arg {
         Arg::Value(expr) if param.by_ref => is_variable(scope, expr, param.kind),
