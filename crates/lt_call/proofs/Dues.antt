@@ -3,16 +3,17 @@ use Rattle.std.proofs.Common.{◌≡◌, ℕ, ◌<◌, Bool, true, false, nat_le
 use Rattle.std.proofs.lemmas.Bool.{leb-false, lt-leb}
 use Rattle.lt_loop.specs.Stands.{is_served}
 use Rattle.lt_play.specs.Rules.{known_scene}
-use Rattle.lt_prepare.specs.Laws.{TextsHaveOnePrintedAnswer, TextsHaveOneScenarioAnswer}
-use Rattle.lt_prepare.specs.Prepared.{IsPrintedAnswer, IsScenarioAnswer}
-use Rattle.lt_prepare.specs.declared.refusal.Refusal.{Refusal as Reason}
+use Rattle.lt_frontend.specs.Laws.{TextsHaveOnePrintedAnswer, TextsHaveOneScenarioAnswer}
+use Rattle.lt_frontend.specs.Prepared.{IsPrintedAnswer, IsScenarioAnswer}
+use Rattle.lt_frontend.specs.declared.refusal.Refusal.{Refusal as Reason}
 use Rattle.lt_stress.specs.Scenario.{scenario_text, variables_of}
 use Rattle.lt_term.specs.Scene.{Scene}
-use Rattle.lt_words.specs.Settings.{default_decimals, longest_text, longest_replay}
-use Rattle.lt_words.specs.Words.{Request}
-use Rattle.lt_words.specs.declared.words.Mode.{Mode}
-use Rattle.lt_words.specs.declared.words.Mode.TheVariants as mode
-use Rattle.lt_call.specs.Course.{Giver, by_file, by_nobody, by_program, files_of, giver_of, talk_to}
+use Rattle.lt_args.specs.Settings.{default_decimals, longest_text, longest_replay}
+use Rattle.lt_args.specs.Words.{Request}
+use Rattle.lt_args.specs.declared.words.Mode.{Mode}
+use Rattle.lt_args.specs.declared.words.Mode.TheVariants as mode
+use Rattle.lt_loop.specs.InputSource.{InputSource, from_nobody, from_program, from_trace, talk_of}
+use Rattle.lt_call.specs.Run.{files_of}
 use Rattle.lt_call.specs.Due.{Answer, Contents, HasScene, HasShortTrace, IsDue, IsServed, IsShort, by_all, by_number, by_scenario, has_file, refuses, writes, plays, stresses, stressed, unstressed, too_long, no_scenario, unserved, long_trace, runs, unprinted, prints}
 use Rattle.lt_call.specs.Laws.{ContentsHaveOneDueAnswer}
 use Rattle.lt_call.specs.declared.status.Refusal.TheVariants as refusal
@@ -20,10 +21,10 @@ use Rattle.lt_call.specs.declared.status.Refusal.TheVariants as refusal
 -- The answer, computed.
 
 -- whether the earlier trace is short, where one is asked for
-abbrev pub is_short : Giver → Contents → Bool
-is_short by_nobody c = true
-is_short (by_program command) c = true
-is_short (by_file name) c = nat_le (length c.replay) longest_replay
+abbrev pub is_short : InputSource → Contents → Bool
+is_short from_nobody c = true
+is_short (from_program command) c = true
+is_short (from_trace name) c = nat_le (length c.replay) longest_replay
 
 -- of a scenario whose inputs are given values, by whether the earlier trace is short
 abbrev pub traced : Request → Bool → Scene → Answer
@@ -31,18 +32,18 @@ traced r true s = by_all r (plays s)
 traced r false s = by_all r (refuses refusal.TooLong)
 
 -- it takes all files that are asked for
-pub traced_files : (r : Request) (short : Bool) (s : Scene) → (traced r short s).files ≡ r.file ∷ files_of (giver_of r)
+pub traced_files : (r : Request) (short : Bool) (s : Scene) → (traced r short s).files ≡ r.file ∷ files_of r.inputs
 traced_files r true s = refl
 traced_files r false s = refl
 
 -- of a scenario, by whether its inputs are given values
 abbrev served : Request → Contents → Bool → Scene → Answer
-served r c true s = traced r (is_short (giver_of r) c) s
+served r c true s = traced r (is_short r.inputs c) s
 served r c false s = by_scenario r (refuses refusal.NeedsController)
 
 -- whether they are
 abbrev are_given : Request → Scene → Bool
-are_given r s = is_served (talk_to (giver_of r)) (known_scene s)
+are_given r s = is_served (talk_of r.inputs) (known_scene s)
 
 -- of what a text has as a scenario
 abbrev of_scene : Request → Contents → Result Scene Reason → Answer
@@ -69,23 +70,23 @@ of_number n (Err reason) = by_number (refuses (refusal.Scenario reason))
 abbrev HasDue : Request → Contents → Type 0
 HasDue r c = (answer : Answer) × IsDue r c answer
 
-short_trace : (g : Giver) (c : Contents) → is_short g c ≡ true → HasShortTrace g c
-short_trace by_nobody c e = tt
-short_trace (by_program command) c e = tt
-short_trace (by_file name) c e = leb-true (length c.replay) longest_replay e
+short_trace : (g : InputSource) (c : Contents) → is_short g c ≡ true → HasShortTrace g c
+short_trace from_nobody c e = tt
+short_trace (from_program command) c e = tt
+short_trace (from_trace name) c e = leb-true (length c.replay) longest_replay e
 
 -- an earlier trace that isn't short is one
-pub long_file : (g : Giver) (c : Contents) → is_short g c ≡ false → (name : List ℕ) × (g ≡ by_file name) × (longest_replay < length c.replay)
-long_file by_nobody c e = absurd (cc)
-long_file (by_program command) c e = absurd (cc)
-long_file (by_file name) c e = (name, refl, leb-false (length c.replay) longest_replay e)
+pub long_file : (g : InputSource) (c : Contents) → is_short g c ≡ false → (name : List ℕ) × (g ≡ from_trace name) × (longest_replay < length c.replay)
+long_file from_nobody c e = absurd (cc)
+long_file (from_program command) c e = absurd (cc)
+long_file (from_trace name) c e = (name, refl, leb-false (length c.replay) longest_replay e)
 
-pub traced_due : (r : Request) (c : Contents) (s : Scene) (short : Bool) → is_short (giver_of r) c ≡ short → r.mode ≡ mode.Run → IsShort c → HasScene r c s → IsServed r s → IsDue r c (traced r short s)
-traced_due r c s true e run fits has given = runs s run fits has given (short_trace (giver_of r) c e)
-traced_due r c s false e run fits has given = let file = long_file (giver_of r) c e in long_trace s file.0 run fits has given file.1 file.2
+pub traced_due : (r : Request) (c : Contents) (s : Scene) (short : Bool) → is_short r.inputs c ≡ short → r.mode ≡ mode.Run → IsShort c → HasScene r c s → IsServed r s → IsDue r c (traced r short s)
+traced_due r c s true e run fits has given = runs s run fits has given (short_trace r.inputs c e)
+traced_due r c s false e run fits has given = let file = long_file r.inputs c e in long_trace s file.0 run fits has given file.1 file.2
 
 served_due : (r : Request) (c : Contents) (s : Scene) (given : Bool) → are_given r s ≡ given → r.mode ≡ mode.Run → IsShort c → HasScene r c s → IsDue r c (served r c given s)
-served_due r c s true e run fits has = traced_due r c s (is_short (giver_of r) c) refl run fits has e
+served_due r c s true e run fits has = traced_due r c s (is_short r.inputs c) refl run fits has e
 served_due r c s false e run fits has = unserved s run fits has e
 
 scene_due : (r : Request) (c : Contents) (x : Result Scene Reason) → r.mode ≡ mode.Run → IsShort c → IsScenarioAnswer r.decimals r.node c.scenario x → IsDue r c (of_scene r c x)
@@ -119,25 +120,25 @@ data Row (r : Request) (c : Contents) (answer : Answer) : Type 0 where
   print : (x : Result (List ℕ) Reason) → r.mode ≡ mode.Print → IsShort c → IsPrintedAnswer c.scenario x → answer ≡ of_print r x → Row r c answer
   number : (n : ℕ) (x : Result Scene Reason) → r.mode ≡ mode.Stress n → IsAnswerOf n x → answer ≡ of_number n x → Row r c answer
 
-trace_short : (g : Giver) (c : Contents) → HasShortTrace g c → is_short g c ≡ true
-trace_short by_nobody c h = refl
-trace_short (by_program command) c h = refl
-trace_short (by_file name) c h = le-leb (length c.replay) longest_replay h
+trace_short : (g : InputSource) (c : Contents) → HasShortTrace g c → is_short g c ≡ true
+trace_short from_nobody c h = refl
+trace_short (from_program command) c h = refl
+trace_short (from_trace name) c h = le-leb (length c.replay) longest_replay h
 
-trace_long : (g : Giver) (c : Contents) (name : List ℕ) → g ≡ by_file name → longest_replay < length c.replay → is_short g c ≡ false
-trace_long by_nobody c name e h = absurd (cc)
-trace_long (by_program command) c name e h = absurd (cc)
-trace_long (by_file other) c name e h = lt-leb (length c.replay) longest_replay h
+trace_long : (g : InputSource) (c : Contents) (name : List ℕ) → g ≡ from_trace name → longest_replay < length c.replay → is_short g c ≡ false
+trace_long from_nobody c name e h = absurd (cc)
+trace_long (from_program command) c name e h = absurd (cc)
+trace_long (from_trace other) c name e h = lt-leb (length c.replay) longest_replay h
 
-served_as : (r : Request) (c : Contents) (s : Scene) (short : Bool) → IsServed r s → is_short (giver_of r) c ≡ short → traced r short s ≡ of_scene r c (Ok s)
+served_as : (r : Request) (c : Contents) (s : Scene) (short : Bool) → IsServed r s → is_short r.inputs c ≡ short → traced r short s ≡ of_scene r c (Ok s)
 served_as r c s short given e = sym (ap (λ b. served r c b s) given ∙ ap (λ b. traced r b s) e)
 
 row : (r : Request) (c : Contents) (answer : Answer) → IsDue r c answer → Row r c answer
 row r c answer (too_long has l) = long has l refl
 row r c answer (no_scenario reason m fits is) = run (Err reason) m fits is refl
 row r c answer (unserved s m fits has e) = run (Ok s) m fits has (sym (ap (λ b. served r c b s) e))
-row r c answer (long_trace s name m fits has given e l) = run (Ok s) m fits has (served_as r c s false given (trace_long (giver_of r) c name e l))
-row r c answer (runs s m fits has given short) = run (Ok s) m fits has (served_as r c s true given (trace_short (giver_of r) c short))
+row r c answer (long_trace s name m fits has given e l) = run (Ok s) m fits has (served_as r c s false given (trace_long r.inputs c name e l))
+row r c answer (runs s m fits has given short) = run (Ok s) m fits has (served_as r c s true given (trace_short r.inputs c short))
 row r c answer (unprinted reason m fits is) = print (Err reason) m fits is refl
 row r c answer (prints text m fits is) = print (Ok text) m fits is refl
 row r c answer (unstressed n reason m is) = number n (Err reason) m is refl

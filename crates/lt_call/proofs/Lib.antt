@@ -1,3 +1,4 @@
+pub mod Blames
 pub mod Dues
 pub mod Ends
 pub mod Gives

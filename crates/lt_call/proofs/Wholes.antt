@@ -1,35 +1,39 @@
 -- What follows for whole calls.
 use Rattle.std.proofs.Common.{◌≡◌, ◌≢◌, ℕ, ◌⊎◌, inl, inr, Bool, true, false, List, [], ◌++◌, None, Some, refl, ap, sym, ◌∙◌, subst, arith, append-nil}
+use Rattle.lt_rif.specs.Trace.{end_number}
 use Rattle.std.specs.Io.KnownBytes.{Appends, Keeps}
 use Rattle.std.specs.declared.option.Option.{Option}
-use Rattle.lt_drive.specs.Drive.{Course}
-use Rattle.lt_drive.specs.Outside.{text_to}
+use Rattle.lt_drive.specs.Drive.{Continuation}
+use Rattle.lt_drive.specs.Interaction.{text_to}
+use Rattle.lt_session.specs.Session.{IsPlayed}
+use Rattle.lt_io.specs.Programs.{Programs}
+use Rattle.lt_io.specs.Outside.{Outside, Sources, without_files}
+use Rattle.lt_call.specs.Call.{faults_of}
 use Rattle.lt_drive.specs.Told as told_streams
-use Rattle.lt_drive.specs.declared.driven.Driven.TheVariants as driven
+use Rattle.lt_drive.specs.declared.drive_end.DriveEnd.TheVariants as drive_end
 use Rattle.lt_io.specs.Causes.{Rose, WhereTold}
 use Rattle.lt_loop.specs.Play.{Piece, Play, Stop, ends, step_count}
-use Rattle.lt_loop.specs.Standing.{Standing}
+use Rattle.lt_loop.specs.CoreState.{CoreState}
 use Rattle.lt_loop.specs.declared.event.Destination.TheVariants as destination
 use Rattle.lt_rif.specs.declared.end.End.{End}
 use Rattle.lt_rif.specs.declared.end.End.TheVariants as end
 use Rattle.lt_rif.specs.declared.end.Who.{Who}
 use Rattle.lt_rif.specs.declared.end.Who.TheVariants as who
-use Rattle.lt_session.specs.Session.{IsPlayed, Outside as Beside}
 use Rattle.lt_session.specs.Sent.{AreSent}
 use Rattle.lt_session.specs.Whole.{UndisturbedSessionsAreWhole}
-use Rattle.lt_session.specs.declared.played.Played.{Played}
-use Rattle.lt_session.specs.declared.played.Played.TheVariants as played
+use Rattle.lt_session.specs.declared.session_end.SessionEnd.{SessionEnd}
+use Rattle.lt_session.specs.declared.session_end.SessionEnd.TheVariants as session_end
 use Rattle.lt_step.specs.Machine.{State}
 use Rattle.lt_term.specs.Scene.{Scene}
-use Rattle.lt_words.specs.Words.{Request}
+use Rattle.lt_args.specs.Words.{Request}
 use Rattle.lt_call.specs.Call.{AreContents, GivesDue, IsCounted, IsText, IsTrace, blames}
-use Rattle.lt_call.specs.Course.{Giver, IsCourseOf, by_file, by_nobody, by_program, giver_of, oracle_of, origin_of, run_of}
+use Rattle.lt_loop.specs.InputSource.{InputSource, from_nobody, from_program, from_trace, with_contents}
+use Rattle.lt_call.specs.Run.{IsContinuationOf, oracle_of, run_of}
 use Rattle.lt_call.specs.Due.{Answer, Contents, IsDue, Work, has_file, refuses, writes, plays, stresses}
 use Rattle.lt_call.specs.Given as given
-use Rattle.lt_call.specs.Given.{Gives, IsDone, PutsNothing, number_behind, status_of}
+use Rattle.lt_call.specs.Given.{Gives, IsDone, PutsNothing, status_of}
 use Rattle.lt_call.specs.Laws.{ContentsHaveOneDueAnswer, IsCutEarly, IsDetermined, IsUnbroken, IsUncut, IsWhole, RefusalsAreExact, SameCallSameBytes, SidesTell, Tell, TellsText, TellsTrace, UncutCallsAreWhole, UndisturbedCallsAreUncut, told_status, told_text}
 use Rattle.lt_call.specs.Lines.{status_lines}
-use Rattle.lt_call.specs.Outside.{Outside, beside, faults_of}
 use Rattle.lt_call.specs.declared.status.Status.{Status}
 use Rattle.lt_call.specs.declared.status.Status.TheVariants as status
 use Rattle.lt_call.specs.declared.status.Refusal.{Refusal}
@@ -38,10 +42,10 @@ use Rattle.lt_call.specs.declared.status.Device.TheVariants as device
 
 -- Contents that are told.
 
-same_trace : (g : Giver) (told : List ℕ → Option (List ℕ)) (trace other : List ℕ) → TellsTrace g told trace → IsTrace g told other → other ≡ trace
-same_trace by_nobody told trace other tells is = is ∙ sym tells
-same_trace (by_program command) told trace other tells is = is ∙ sym tells
-same_trace (by_file name) told trace other tells is = let P : Option (List ℕ) → Type 0 = λ o. WhereTold o (λ bytes. other ≡ bytes) in subst P tells is
+same_trace : (g : InputSource) (told : List ℕ → Option (List ℕ)) (trace other : List ℕ) → TellsTrace g told trace → IsTrace g told other → other ≡ trace
+same_trace from_nobody told trace other tells is = is ∙ sym tells
+same_trace (from_program command) told trace other tells is = is ∙ sym tells
+same_trace (from_trace name) told trace other tells is = let P : Option (List ℕ) → Type 0 = λ o. WhereTold o (λ bytes. other ≡ bytes) in subst P tells is
 
 same_scenario : (has : Bool) (told : Option (List ℕ)) (text other : List ℕ) → TellsText has told text → IsText has told other → other ≡ text
 same_scenario false told text other tells is = is ∙ sym tells
@@ -51,11 +55,11 @@ same_scenario true told text other tells is = let P : Option (List ℕ) → Type
 same_contents : (r : Request) (told : List ℕ → Option (List ℕ)) (c other : Contents) → Tell r told c → AreContents r told other → other ≡ c
 same_contents r told c other tell are =
     let a : other.scenario ≡ c.scenario = same_scenario (has_file r.mode) (told r.file) c.scenario other.scenario tell.0 are.0 in
-    let b : other.replay ≡ c.replay = same_trace (giver_of r) told c.replay other.replay tell.1 are.1 in
+    let b : other.replay ≡ c.replay = same_trace r.inputs told c.replay other.replay tell.1 are.1 in
     ap (λ bytes. record { scenario = bytes; replay = other.replay }) a ∙ ap (λ bytes. record { scenario = c.scenario; replay = bytes }) b
 
 -- the answer that is due to contents that are told is the one that a call gives
-gives_this : ContentsHaveOneDueAnswer → (r : Request) (c : Contents) (told : List ℕ → Option (List ℕ)) (asked names : List (List ℕ)) (old new : Outside) (s : Status) (answer : Answer) → Tell r told c → GivesDue r told asked old new names s → IsDue r c answer → Gives r c answer asked old new names s
+gives_this : ContentsHaveOneDueAnswer → (r : Request) (c : Contents) (told : List ℕ → Option (List ℕ)) (asked names : List (List ℕ)) (old new : Outside Sources) (s : Status) (answer : Answer) → Tell r told c → GivesDue r told asked old new names s → IsDue r c answer → Gives r c answer asked old new names s
 gives_this law r c told asked names old new s answer tell gives due =
     let same : gives.0 ≡ c = same_contents r told c gives.0 tell gives.1 in
     let P : Contents → Type 0 = λ d. IsDue r d gives.2 in
@@ -69,33 +73,33 @@ unbroken : (e : End) → IsUnbroken e → (w : Who) → e ≢ end.Device w
 unbroken e h w is = let P : End → Type 0 = λ x. IsUnbroken x in absurd (subst P is h)
 
 -- a run that ended by itself
-ended_whole : UndisturbedSessionsAreWhole State → (r : Request) (trace : List ℕ) (c o : List ℕ) (scene : Scene) (k : Course) (core : Standing State) (e : End) (old new : Outside) → IsCourseOf r scene k →
-    IsPlayed k (origin_of (giver_of r) trace) (oracle_of r.oracle) (beside old) (beside new) core (played.Driven (driven.Ended e)) → IsUnbroken e → SidesTell r (record { scenario = []; replay = trace }) old.programs c o →
-    IsWhole r trace c o (plays scene) scene.exceptions old new (status_of (played.Driven (driven.Ended e)) core.written)
+ended_whole : UndisturbedSessionsAreWhole State → (r : Request) (trace : List ℕ) (c o : List ℕ) (scene : Scene) (k : Continuation) (core : CoreState State) (e : End) (old new : Outside Sources) → IsContinuationOf r scene k →
+    IsPlayed k (with_contents r.inputs trace) (oracle_of r.oracle) (without_files old) (without_files new) core (session_end.Driven (drive_end.Ended e)) → IsUnbroken e → SidesTell r (record { scenario = []; replay = trace }) old.inputs.programs c o →
+    IsWhole r trace c o (plays scene) scene.exceptions old new (status_of (session_end.Driven (drive_end.Ended e)) core.written)
 ended_whole law r trace c o scene k core e old new course is whole tell =
-    let l = law k (origin_of (giver_of r) trace) (oracle_of r.oracle) (beside old) (beside new) core e c o is (unbroken e whole) tell.0 tell.1 in
+    let l = law k (with_contents r.inputs trace) (oracle_of r.oracle) (without_files old) (without_files new) core e c o is (unbroken e whole) tell.0 tell.1 in
     let same : k.play (told_streams.closed c) (told_streams.closed o) ≡ run_of r scene (told_streams.closed c) (told_streams.closed o) = course.plays (told_streams.closed c) (told_streams.closed o) in
     let steps : core.written ≡ step_count (run_of r scene (told_streams.closed c) (told_streams.closed o)).pieces =
     (let a = l.2 in let b = course.unwritten in omega arith) ∙ ap (λ (p : Play). step_count p.pieces) same in (
       e,
       sym (ap (λ (p : Play). p.stop) same) ∙ l.0,
-      ap (λ n. status.Ran (record { end = e; at = number_behind e n })) steps,
+      ap (λ n. status.Ran (record { end = e; at = end_number e n })) steps,
       refl,
       subst (λ (p : Play). Appends old.trace.written new.trace.written (text_to destination.Trace p.pieces)) same l.1,
-      subst (λ (p : Play). AreSent (origin_of (giver_of r) trace) (oracle_of r.oracle) p.pieces 0 0 old.programs new.programs) same l.3,
+      subst (λ (p : Play). AreSent (with_contents r.inputs trace) (oracle_of r.oracle) p.pieces 0 0 old.inputs.programs new.inputs.programs) same l.3,
     )
 
-played_whole : UndisturbedSessionsAreWhole State → (r : Request) (trace : List ℕ) (c o : List ℕ) (scene : Scene) (k : Course) (core : Standing State) (how : Played) (old new : Outside) → IsCourseOf r scene k →
-    IsPlayed k (origin_of (giver_of r) trace) (oracle_of r.oracle) (beside old) (beside new) core how → IsUncut (status_of how core.written) → SidesTell r (record { scenario = []; replay = trace }) old.programs c o →
+played_whole : UndisturbedSessionsAreWhole State → (r : Request) (trace : List ℕ) (c o : List ℕ) (scene : Scene) (k : Continuation) (core : CoreState State) (how : SessionEnd) (old new : Outside Sources) → IsContinuationOf r scene k →
+    IsPlayed k (with_contents r.inputs trace) (oracle_of r.oracle) (without_files old) (without_files new) core how → IsUncut (status_of how core.written) → SidesTell r (record { scenario = []; replay = trace }) old.inputs.programs c o →
     IsWhole r trace c o (plays scene) scene.exceptions old new (status_of how core.written)
-played_whole law r trace c o scene k core (played.Driven (driven.Ended e)) old new course is u tell = ended_whole law r trace c o scene k core e old new course is u tell
-played_whole law r trace c o scene k core (played.Driven driven.Starved) old new course is u tell = absurd u
-played_whole law r trace c o scene k core (played.Driven (driven.Untraced step)) old new course is u tell = absurd u
-played_whole law r trace c o scene k core (played.Unstarted w) old new course is u tell = absurd u
-played_whole law r trace c o scene k core played.Memory old new course is u tell = absurd u
+played_whole law r trace c o scene k core (session_end.Driven (drive_end.Ended e)) old new course is u tell = ended_whole law r trace c o scene k core e old new course is u tell
+played_whole law r trace c o scene k core (session_end.Driven drive_end.OutOfMemory) old new course is u tell = absurd u
+played_whole law r trace c o scene k core (session_end.Driven (drive_end.TraceWriteFailed step)) old new course is u tell = absurd u
+played_whole law r trace c o scene k core (session_end.StartFailed w) old new course is u tell = absurd u
+played_whole law r trace c o scene k core session_end.Memory old new course is u tell = absurd u
 
 -- a large run that ended in another way than by its limit is told by its status
-told_otherwise : (ps : List Piece) (e : End) → e ≢ end.Limit → told_status ps e ≡ status.Ran (record { end = e; at = number_behind e (step_count ps) })
+told_otherwise : (ps : List Piece) (e : End) → e ≢ end.Limit → told_status ps e ≡ status.Ran (record { end = e; at = end_number e (step_count ps) })
 told_otherwise ps end.Limit other = absurd (other refl)
 told_otherwise ps e other = refl
 
@@ -110,8 +114,8 @@ told_nothing : (n : ℕ) (ps : List Piece) (e : End) (old new : Option (List ℕ
 told_nothing n ps end.Limit old new other h = absurd (other refl)
 told_nothing n ps e old new other h = kept_appends old new h
 
-done_whole : UndisturbedSessionsAreWhole State → (r : Request) (trace : List ℕ) (c o : List ℕ) (work : Work) (names : List (List ℕ)) (old new : Outside) (s : Status) → IsDone r trace (beside old) (beside new) work names s → IsUncut s →
-    SidesTell r (record { scenario = []; replay = trace }) old.programs c o → IsWhole r trace c o work names old new s
+done_whole : UndisturbedSessionsAreWhole State → (r : Request) (trace : List ℕ) (c o : List ℕ) (work : Work) (names : List (List ℕ)) (old new : Outside Sources) (s : Status) → IsDone r trace (without_files old) (without_files new) work names s → IsUncut s →
+    SidesTell r (record { scenario = []; replay = trace }) old.inputs.programs c o → IsWhole r trace c o work names old new s
 done_whole law r trace c o work names old new s (given.refused reason puts) u tell = (refl, refl, puts)
 done_whole law r trace c o work names old new s (given.written text same all) u tell = (refl, refl, all)
 done_whole law r trace c o work names old new s (given.cut text same part) u tell = absurd u
@@ -121,8 +125,8 @@ done_whole law r trace c o work names old new s (given.told_in_part n scene ps r
 done_whole law r trace c o work names old new s (given.untold n scene ps e run other unbroken puts) u tell =
     (ps, e, run, sym (told_otherwise ps e other), refl, told_nothing n ps e old.trace.written new.trace.written other puts.trace, puts.programs)
 
-gives_whole : UndisturbedSessionsAreWhole State → (r : Request) (contents : Contents) (c o : List ℕ) (answer : Answer) (asked names : List (List ℕ)) (old new : Outside) (s : Status) → Gives r contents answer asked old new names s → IsUncut s →
-    SidesTell r contents old.programs c o → IsWhole r contents.replay c o answer.work names old new s
+gives_whole : UndisturbedSessionsAreWhole State → (r : Request) (contents : Contents) (c o : List ℕ) (answer : Answer) (asked names : List (List ℕ)) (old new : Outside Sources) (s : Status) → Gives r contents answer asked old new names s → IsUncut s →
+    SidesTell r contents old.inputs.programs c o → IsWhole r contents.replay c o answer.work names old new s
 gives_whole law r contents c o answer asked names old new s (given.done ns t f is) u tell = done_whole law r contents.replay c o answer.work ns old new t is u tell
 gives_whole law r contents c o answer asked names old new s (given.by_file k some f puts) u tell = absurd u
 gives_whole law r contents c o answer asked names old new s (given.by_memory k f puts) u tell = absurd u
@@ -144,20 +148,20 @@ appends_all (Some xs) None before now text e f h = absurd h
 appends_all (Some xs) (Some ys) before now text e f h = let a : xs ≡ before = cc in let b : ys ≡ now = cc in sym b ∙ h ∙ ap (λ t. t ++ text) a
 
 -- the bytes of work that was done whole
-abbrev bytes_of : (r : Request) (trace c o : List ℕ) (work : Work) (names : List (List ℕ)) (old new : Outside) (s : Status) → IsWhole r trace c o work names old new s → List ℕ
+abbrev bytes_of : (r : Request) (trace c o : List ℕ) (work : Work) (names : List (List ℕ)) (old new : Outside Sources) (s : Status) → IsWhole r trace c o work names old new s → List ℕ
 bytes_of r trace c o (refuses reason) names old new s h = []
 bytes_of r trace c o (writes text) names old new s h = text
 bytes_of r trace c o (plays scene) names old new s h = text_to destination.Trace (run_of r scene (told_streams.closed c) (told_streams.closed o)).pieces
 bytes_of r trace c o (stresses n scene) names old new s h = told_text n h.0 h.1
 
-whole_bytes : (r : Request) (trace c o : List ℕ) (work : Work) (names : List (List ℕ)) (old new : Outside) (s : Status) (before now : List ℕ) → old.trace.written ≡ Some before → new.trace.written ≡ Some now → (h : IsWhole r trace c o work names old new s) → now ≡ before ++ bytes_of r trace c o work names old new s h
+whole_bytes : (r : Request) (trace c o : List ℕ) (work : Work) (names : List (List ℕ)) (old new : Outside Sources) (s : Status) (before now : List ℕ) → old.trace.written ≡ Some before → new.trace.written ≡ Some now → (h : IsWhole r trace c o work names old new s) → now ≡ before ++ bytes_of r trace c o work names old new s h
 whole_bytes r trace c o (refuses reason) names old new s before now e f h = keeps_all old.trace.written new.trace.written before now e f h.2.trace
 whole_bytes r trace c o (writes text) names old new s before now e f h = appends_all old.trace.written new.trace.written before now text e f h.2
 whole_bytes r trace c o (plays scene) names old new s before now e f h = appends_all old.trace.written new.trace.written before now _ e f h.4
 whole_bytes r trace c o (stresses n scene) names old new s before now e f h = appends_all old.trace.written new.trace.written before now _ e f h.5
 
 -- work that leaves no choice has the same bytes each time
-same_bytes : (r : Request) (trace c o : List ℕ) (work : Work) (names names' : List (List ℕ)) (old new old' new' : Outside) (s s' : Status) → IsDetermined work → (h : IsWhole r trace c o work names old new s) (k : IsWhole r trace c o work names' old' new' s') →
+same_bytes : (r : Request) (trace c o : List ℕ) (work : Work) (names names' : List (List ℕ)) (old new old' new' : Outside Sources) (s s' : Status) → IsDetermined work → (h : IsWhole r trace c o work names old new s) (k : IsWhole r trace c o work names' old' new' s') →
     bytes_of r trace c o work names' old' new' s' k ≡ bytes_of r trace c o work names old new s h
 same_bytes r trace c o (refuses reason) names names' old new old' new' s s' one h k = refl
 same_bytes r trace c o (writes text) names names' old new old' new' s s' one h k = refl
@@ -168,13 +172,13 @@ same_bytes r trace c o (stresses n scene) names names' old new old' new' s s' on
 same_end : (s : Stop) (e f : End) → s ≡ ends e → s ≡ ends f → e ≡ f
 same_end s e f h k = let both : ends e ≡ ends f = sym h ∙ k in cc
 
-same_status : (r : Request) (trace c o : List ℕ) (work : Work) (names names' : List (List ℕ)) (old new old' new' : Outside) (s s' : Status) → IsDetermined work → IsWhole r trace c o work names old new s → IsWhole r trace c o work names' old' new' s' → (s ≡ s') × (names ≡ names')
+same_status : (r : Request) (trace c o : List ℕ) (work : Work) (names names' : List (List ℕ)) (old new old' new' : Outside Sources) (s s' : Status) → IsDetermined work → IsWhole r trace c o work names old new s → IsWhole r trace c o work names' old' new' s' → (s ≡ s') × (names ≡ names')
 same_status r trace c o (refuses reason) names names' old new old' new' s s' one h k = (h.0 ∙ sym k.0, h.1 ∙ sym k.1)
 same_status r trace c o (writes text) names names' old new old' new' s s' one h k = (h.0 ∙ sym k.0, h.1 ∙ sym k.1)
 same_status r trace c o (plays scene) names names' old new old' new' s s' one h k =
     let steps = step_count (run_of r scene (told_streams.closed c) (told_streams.closed o)).pieces in
     let e : h.0 ≡ k.0 = same_end (run_of r scene (told_streams.closed c) (told_streams.closed o)).stop h.0 k.0 h.1 k.1 in
-    (h.2 ∙ ap (λ x. status.Ran (record { end = x; at = number_behind x steps })) e ∙ sym k.2, h.3 ∙ sym k.3)
+    (h.2 ∙ ap (λ x. status.Ran (record { end = x; at = end_number x steps })) e ∙ sym k.2, h.3 ∙ sym k.3)
 same_status r trace c o (stresses n scene) names names' old new old' new' s s' one h k =
     let same = one h.0 k.0 h.1 k.1 h.2 k.2 in (h.3 ∙ ap (λ ps. told_status ps h.1) same.0 ∙ ap (told_status k.0) same.1 ∙ sym k.3, h.4 ∙ sym k.4)
 
@@ -197,7 +201,7 @@ same_call_same_bytes due law r contents told told' names names' asked asked' old
 
 -- Refusals.
 
-refusal_done : (r : Request) (trace : List ℕ) (work : Work) (reason : Refusal) (names : List (List ℕ)) (old new : Beside) (s : Status) → work ≡ refuses reason → IsDone r trace old new work names s → PutsNothing old new × (s ≡ status.Refused reason)
+refusal_done : (r : Request) (trace : List ℕ) (work : Work) (reason : Refusal) (names : List (List ℕ)) (old new : Outside Programs) (s : Status) → work ≡ refuses reason → IsDone r trace old new work names s → PutsNothing old new × (s ≡ status.Refused reason)
 refusal_done r trace work reason names old new s e (given.refused other puts) = (puts, let same : other ≡ reason = cc in ap (λ x. status.Refused x) same)
 refusal_done r trace work reason names old new s e (given.written text same all) = absurd (cc)
 refusal_done r trace work reason names old new s e (given.cut text same part) = absurd (cc)
@@ -206,9 +210,9 @@ refusal_done r trace work reason names old new s e (given.told n scene ps run sa
 refusal_done r trace work reason names old new s e (given.told_in_part n scene ps run same part) = absurd (cc)
 refusal_done r trace work reason names old new s e (given.untold n scene ps x run other unbroken puts) = absurd (cc)
 
-refused_so : (r : Request) (c : Contents) (reason : Refusal) (files asked names : List (List ℕ)) (old new : Outside) (s : Status) → Gives r c (record { work = refuses reason; files = files }) asked old new names s →
-    PutsNothing (beside old) (beside new) × ((s ≡ status.Refused reason) ⊎ IsCutEarly s)
-refused_so r c reason files asked names old new s (given.done ns t f is) = let h = refusal_done r c.replay (refuses reason) reason ns (beside old) (beside new) t refl is in (h.0, inl h.1)
+refused_so : (r : Request) (c : Contents) (reason : Refusal) (files asked names : List (List ℕ)) (old new : Outside Sources) (s : Status) → Gives r c (record { work = refuses reason; files = files }) asked old new names s →
+    PutsNothing (without_files old) (without_files new) × ((s ≡ status.Refused reason) ⊎ IsCutEarly s)
+refused_so r c reason files asked names old new s (given.done ns t f is) = let h = refusal_done r c.replay (refuses reason) reason ns (without_files old) (without_files new) t refl is in (h.0, inl h.1)
 refused_so r c reason files asked names old new s (given.by_file k some f puts) = (puts, inr tt)
 refused_so r c reason files asked names old new s (given.by_memory k f puts) = (puts, inr tt)
 
@@ -226,8 +230,8 @@ no_side : (w : Who) (at before now : ℕ) → (Rose before now → ⊥) → IsCo
 no_side who.Controller at before now none counts = none counts
 no_side who.Oracle at before now none counts = none counts
 
-calm_end : (e : End) (at : ℕ) (old new : Outside) → ((what : Device) → IsCounted what (blames (status.Ran (record { end = e; at = at })) what) (faults_of what old) (faults_of what new)) → ((what : Device) → Rose (faults_of what old) (faults_of what new) → ⊥) → IsUnbroken e
-calm_end (end.Device w) at old new counts none = no_side w at old.programs.faults new.programs.faults (none (device.Program w)) (counts (device.Program w))
+calm_end : (e : End) (at : ℕ) (old new : Outside Sources) → ((what : Device) → IsCounted what (blames (status.Ran (record { end = e; at = at })) what) (faults_of what old) (faults_of what new)) → ((what : Device) → Rose (faults_of what old) (faults_of what new) → ⊥) → IsUnbroken e
+calm_end (end.Device w) at old new counts none = no_side w at old.inputs.programs.faults new.inputs.programs.faults (none (device.Program w)) (counts (device.Program w))
 calm_end end.Normal at old new counts none = tt
 calm_end end.Limit at old new counts none = tt
 calm_end end.Oracle at old new counts none = tt
@@ -245,6 +249,6 @@ undisturbed_calls_are_uncut (status.Ran ending) old new counts none lasts = calm
 undisturbed_calls_are_uncut (status.Usage kind) old new counts none lasts = tt
 undisturbed_calls_are_uncut (status.Refused reason) old new counts none lasts = tt
 undisturbed_calls_are_uncut (status.Device device.File at) old new counts none lasts = none device.File (counts device.File)
-undisturbed_calls_are_uncut (status.Device (device.Program w) at) old new counts none lasts = no_program w old.programs.faults new.programs.faults (none (device.Program w)) (counts (device.Program w))
+undisturbed_calls_are_uncut (status.Device (device.Program w) at) old new counts none lasts = no_program w old.inputs.programs.faults new.inputs.programs.faults (none (device.Program w)) (counts (device.Program w))
 undisturbed_calls_are_uncut (status.Device device.Trace at) old new counts none lasts = none device.Trace (counts device.Trace)
 undisturbed_calls_are_uncut status.Memory old new counts none lasts = lasts refl

@@ -2,15 +2,16 @@
 use Rattle.std.specs.Prelude.{◌≡◌, ℕ, ◌<◌, ◌≤◌, Bool, true, false, List, [], ◌∷◌, length, Ok, Err}
 use Rattle.lt_loop.specs.Stands.{is_served}
 use Rattle.lt_play.specs.Rules.{known_scene}
-use Rattle.lt_prepare.specs.Prepared.{IsScenarioAnswer, IsPrintedAnswer}
-use Rattle.lt_prepare.specs.declared.refusal.Refusal.{Refusal as Reason}
+use Rattle.lt_frontend.specs.Prepared.{IsScenarioAnswer, IsPrintedAnswer}
+use Rattle.lt_frontend.specs.declared.refusal.Refusal.{Refusal as Reason}
 use Rattle.lt_stress.specs.Run.{IsRefusedFor, IsSceneOf}
 use Rattle.lt_term.specs.Scene.{Scene}
-use Rattle.lt_words.specs.Settings.{longest_text, longest_replay}
-use Rattle.lt_words.specs.Words.{Request}
-use Rattle.lt_words.specs.declared.words.Mode.{Mode}
-use Rattle.lt_words.specs.declared.words.Mode.TheVariants as mode
-use Rattle.lt_call.specs.Course.{Giver, by_file, files_of, giver_of, talk_to}
+use Rattle.lt_args.specs.Settings.{longest_text, longest_replay}
+use Rattle.lt_args.specs.Words.{Request}
+use Rattle.lt_args.specs.declared.words.Mode.{Mode}
+use Rattle.lt_args.specs.declared.words.Mode.TheVariants as mode
+use Rattle.lt_loop.specs.InputSource.{InputSource, from_trace, talk_of}
+use Rattle.lt_call.specs.Run.{files_of}
 use Rattle.lt_call.specs.declared.status.Refusal.{Refusal}
 use Rattle.lt_call.specs.declared.status.Refusal.TheVariants as refusal
 
@@ -53,7 +54,7 @@ by_scenario request work = record { work = work; files = request.file ∷ [] }
 
 -- an answer that takes the earlier trace too, where one is asked for
 abbrev pub by_all : Request → Work → Answer
-by_all request work = record { work = work; files = request.file ∷ files_of (giver_of request) }
+by_all request work = record { work = work; files = request.file ∷ files_of request.inputs }
 
 -- the scenario's file is no longer than allowed
 abbrev pub IsShort : Contents → Type 0
@@ -65,11 +66,11 @@ HasScene request contents scene = IsScenarioAnswer request.decimals request.node
 
 -- its inputs are given values, or it has none
 abbrev pub IsServed : Request → Scene → Type 0
-IsServed request scene = is_served (talk_to (giver_of request)) (known_scene scene) ≡ true
+IsServed request scene = is_served (talk_of request.inputs) (known_scene scene) ≡ true
 
 -- the earlier trace, where one is asked for, is no longer than allowed
-abbrev pub HasShortTrace : Giver → Contents → Type 0
-HasShortTrace (by_file name) contents = length contents.replay ≤ longest_replay
+abbrev pub HasShortTrace : InputSource → Contents → Type 0
+HasShortTrace (from_trace name) contents = length contents.replay ≤ longest_replay
 HasShortTrace _ contents = Unit {0}
 
 -- The answer that is due to a request where the files have these contents: a row a cause, in the order in which the
@@ -80,11 +81,11 @@ pub data IsDue (request : Request) (contents : Contents) : Answer → Type 0 whe
   -- in the mode `run`: it has no scenario, for this reason
   no_scenario : (reason : Reason) → request.mode ≡ mode.Run → IsShort contents → IsScenarioAnswer request.decimals request.node contents.scenario (Err reason) → IsDue request contents (by_scenario request (refuses (refusal.Scenario reason)))
   -- the scenario has inputs, which nobody gives values
-  unserved : (scene : Scene) → request.mode ≡ mode.Run → IsShort contents → HasScene request contents scene → is_served (talk_to (giver_of request)) (known_scene scene) ≡ false → IsDue request contents (by_scenario request (refuses refusal.NeedsController))
+  unserved : (scene : Scene) → request.mode ≡ mode.Run → IsShort contents → HasScene request contents scene → is_served (talk_of request.inputs) (known_scene scene) ≡ false → IsDue request contents (by_scenario request (refuses refusal.NeedsController))
   -- an earlier trace gives them values, and is too long
-  long_trace : (scene : Scene) (name : List ℕ) → request.mode ≡ mode.Run → IsShort contents → HasScene request contents scene → IsServed request scene → giver_of request ≡ by_file name → longest_replay < length contents.replay → IsDue request contents (by_all request (refuses refusal.TooLong))
+  long_trace : (scene : Scene) (name : List ℕ) → request.mode ≡ mode.Run → IsShort contents → HasScene request contents scene → IsServed request scene → request.inputs ≡ from_trace name → longest_replay < length contents.replay → IsDue request contents (by_all request (refuses refusal.TooLong))
   -- it isn't, and the scenario is run
-  runs : (scene : Scene) → request.mode ≡ mode.Run → IsShort contents → HasScene request contents scene → IsServed request scene → HasShortTrace (giver_of request) contents → IsDue request contents (by_all request (plays scene))
+  runs : (scene : Scene) → request.mode ≡ mode.Run → IsShort contents → HasScene request contents scene → IsServed request scene → HasShortTrace request.inputs contents → IsDue request contents (by_all request (plays scene))
   -- in the mode `print`: it has no printed form, for this reason
   unprinted : (reason : Reason) → request.mode ≡ mode.Print → IsShort contents → IsPrintedAnswer contents.scenario (Err reason) → IsDue request contents (by_scenario request (refuses (refusal.Scenario reason)))
   -- its printed form is put out

@@ -1,26 +1,29 @@
 -- What follows for whole calls.
 use Rattle.std.specs.Prelude.{◌≡◌, ◌≢◌, ℕ, ◌⊎◌, Bool, true, false, List, [], ◌++◌, Some}
+use Rattle.lt_rif.specs.Trace.{end_number}
 use Rattle.std.specs.Io.KnownBytes.{Appends}
 use Rattle.std.specs.declared.option.Option.{Option}
-use Rattle.lt_drive.specs.Outside.{text_to}
+use Rattle.lt_drive.specs.Interaction.{text_to}
+use Rattle.lt_io.specs.Programs.{Programs, Same}
+use Rattle.lt_io.specs.Outside.{Outside, Sources, without_files}
+use Rattle.lt_call.specs.Call.{faults_of}
 use Rattle.lt_drive.specs.Told.{closed}
 use Rattle.lt_io.specs.Causes.{Rose}
 use Rattle.lt_loop.specs.Play.{Piece, ends, step_count}
 use Rattle.lt_loop.specs.declared.event.Destination.TheVariants as destination
 use Rattle.lt_rif.specs.declared.end.End.{End}
 use Rattle.lt_rif.specs.declared.end.End.TheVariants as end
-use Rattle.lt_session.specs.Programs.{Programs, Same}
 use Rattle.lt_session.specs.Sent.{AreSent}
 use Rattle.lt_session.specs.Told.{Gives as Tells, GivesBeside as TellsBeside}
 use Rattle.lt_stress.specs.Report.{stress_line}
 use Rattle.lt_stress.specs.Run.{IsRunOf, sum_told}
-use Rattle.lt_words.specs.Words.{Request}
+use Rattle.lt_args.specs.Words.{Request}
 use Rattle.lt_call.specs.Call.{GivesDue, IsCounted, blames}
-use Rattle.lt_call.specs.Course.{Giver, by_file, giver_of, oracle_of, origin_of, run_of}
+use Rattle.lt_loop.specs.InputSource.{InputSource, from_trace, with_contents}
+use Rattle.lt_call.specs.Run.{oracle_of, run_of}
 use Rattle.lt_call.specs.Due.{Answer, Contents, IsDue, Work, refuses, writes, plays, stresses, has_file}
-use Rattle.lt_call.specs.Given.{PutsNothing, number_behind}
+use Rattle.lt_call.specs.Given.{PutsNothing}
 use Rattle.lt_call.specs.Lines.{status_lines}
-use Rattle.lt_call.specs.Outside.{Outside, beside, faults_of}
 use Rattle.lt_call.specs.declared.status.Status.{Status}
 use Rattle.lt_call.specs.declared.status.Status.TheVariants as status
 use Rattle.lt_call.specs.declared.status.Refusal.{Refusal}
@@ -34,9 +37,9 @@ ContentsHaveOneDueAnswer =
     ((answer : Answer) × IsDue request contents answer)
     × ((answer other : Answer) → IsDue request contents answer → IsDue request contents other → answer ≡ other)
 
--- the file of the trace that a giver takes tells these contents
-abbrev pub TellsTrace : Giver → (List ℕ → Option (List ℕ)) → List ℕ → Type 0
-TellsTrace (by_file name) told trace = told name ≡ Some trace
+-- the file of the trace that a source takes tells these contents
+abbrev pub TellsTrace : InputSource → (List ℕ → Option (List ℕ)) → List ℕ → Type 0
+TellsTrace (from_trace name) told trace = told name ≡ Some trace
 TellsTrace _ told trace = trace ≡ []
 
 -- the scenario's file tells this text; it is empty in a mode that has no such file
@@ -46,13 +49,13 @@ TellsText false told text = text ≡ []
 
 -- the files that a request asks for tell these contents; where it asks for no earlier trace, that is empty
 abbrev pub Tell : Request → (List ℕ → Option (List ℕ)) → Contents → Type 0
-Tell request told contents = TellsText (has_file request.mode) (told request.file) contents.scenario × TellsTrace (giver_of request) told contents.replay
+Tell request told contents = TellsText (has_file request.mode) (told request.file) contents.scenario × TellsTrace request.inputs told contents.replay
 
 -- what comes of both sides of a run is told to be these bytes
 abbrev pub SidesTell : Request → Contents → Programs → List ℕ → List ℕ → Type 0
 SidesTell request contents programs c o =
-    Tells (origin_of (giver_of request) contents.replay) programs c
-    × TellsBeside (origin_of (giver_of request) contents.replay) (oracle_of request.oracle) programs o
+    Tells (with_contents request.inputs contents.replay) programs c
+    × TellsBeside (with_contents request.inputs contents.replay) (oracle_of request.oracle) programs o
 
 -- no run ended by the fault of a side
 abbrev pub IsUnbroken : End → Type 0
@@ -74,29 +77,29 @@ told_text n ps e = []
 -- its status
 abbrev pub told_status : List Piece → End → Status
 told_status ps end.Limit = status.Done
-told_status ps e = status.Ran (record { end = e; at = number_behind e (step_count ps) })
+told_status ps e = status.Ran (record { end = e; at = end_number e (step_count ps) })
 
 -- Work is done whole, where this is the earlier trace, and these bytes come of the two sides: its status, the names of its
 -- exceptions, the text by which the trace grows, and what both sides were sent.
-abbrev pub IsWhole : Request → List ℕ → List ℕ → List ℕ → Work → List (List ℕ) → Outside → Outside → Status → Type 0
-IsWhole request trace c o (refuses reason) names old new s = (s ≡ status.Refused reason) × (names ≡ []) × PutsNothing (beside old) (beside new)
+abbrev pub IsWhole : Request → List ℕ → List ℕ → List ℕ → Work → List (List ℕ) → Outside Sources → Outside Sources → Status → Type 0
+IsWhole request trace c o (refuses reason) names old new s = (s ≡ status.Refused reason) × (names ≡ []) × PutsNothing (without_files old) (without_files new)
 IsWhole request trace c o (writes text) names old new s = (s ≡ status.Done) × (names ≡ []) × Appends old.trace.written new.trace.written text
 IsWhole request trace c o (plays scene) names old new s =
     (e : End) × ((run_of request scene (closed c) (closed o)).stop ≡ ends e)
-    × (s ≡ status.Ran (record { end = e; at = number_behind e (step_count (run_of request scene (closed c) (closed o)).pieces) }))
+    × (s ≡ status.Ran (record { end = e; at = end_number e (step_count (run_of request scene (closed c) (closed o)).pieces) }))
     × (names ≡ scene.exceptions)
     × Appends old.trace.written new.trace.written (text_to destination.Trace (run_of request scene (closed c) (closed o)).pieces)
-    × AreSent (origin_of (giver_of request) trace) (oracle_of request.oracle) (run_of request scene (closed c) (closed o)).pieces 0 0 old.programs new.programs
+    × AreSent (with_contents request.inputs trace) (oracle_of request.oracle) (run_of request scene (closed c) (closed o)).pieces 0 0 old.inputs.programs new.inputs.programs
 IsWhole request trace c o (stresses n scene) names old new s =
     (ps : List Piece) × (e : End) × IsRunOf n scene ps e × (s ≡ told_status ps e) × (names ≡ [])
-    × Appends old.trace.written new.trace.written (told_text n ps e) × Same old.programs new.programs
+    × Appends old.trace.written new.trace.written (told_text n ps e) × Same old.inputs.programs new.inputs.programs
 
 -- What isn't cut is whole: where files and sides tell what they have, a call that neither a device nor want of memory cuts
 -- short does its work whole.
 abbrev pub UncutCallsAreWhole : Type 0
 UncutCallsAreWhole =
-    (request : Request) (contents : Contents) (told : List ℕ → Option (List ℕ)) (names asked : List (List ℕ)) (old new : Outside) (s : Status) (c o : List ℕ) (answer : Answer) →
-    Tell request told contents → GivesDue request told asked old new names s → IsUncut s → SidesTell request contents old.programs c o → IsDue request contents answer →
+    (request : Request) (contents : Contents) (told : List ℕ → Option (List ℕ)) (names asked : List (List ℕ)) (old new : Outside Sources) (s : Status) (c o : List ℕ) (answer : Answer) →
+    Tell request told contents → GivesDue request told asked old new names s → IsUncut s → SidesTell request contents old.inputs.programs c o → IsDue request contents answer →
     IsWhole request contents.replay c o answer.work names old new s
 
 -- The work leaves no choice: where it is a large run, there is one such run at most. All other work is such.
@@ -109,9 +112,9 @@ IsDetermined _ = Unit {0}
 -- these held before.
 abbrev pub SameCallSameBytes : Type 0
 SameCallSameBytes =
-    (request : Request) (contents : Contents) (told told' : List ℕ → Option (List ℕ)) (names names' asked asked' : List (List ℕ)) (old new old' new' : Outside) (before now before' now' : List ℕ) (s s' : Status) (c o : List ℕ) →
-    Tell request told contents → GivesDue request told asked old new names s → IsUncut s → SidesTell request contents old.programs c o →
-    Tell request told' contents → GivesDue request told' asked' old' new' names' s' → IsUncut s' → SidesTell request contents old'.programs c o →
+    (request : Request) (contents : Contents) (told told' : List ℕ → Option (List ℕ)) (names names' asked asked' : List (List ℕ)) (old new old' new' : Outside Sources) (before now before' now' : List ℕ) (s s' : Status) (c o : List ℕ) →
+    Tell request told contents → GivesDue request told asked old new names s → IsUncut s → SidesTell request contents old.inputs.programs c o →
+    Tell request told' contents → GivesDue request told' asked' old' new' names' s' → IsUncut s' → SidesTell request contents old'.inputs.programs c o →
     ((answer : Answer) → IsDue request contents answer → IsDetermined answer.work) →
     old.trace.written ≡ Some before → new.trace.written ≡ Some now → old'.trace.written ≡ Some before' → new'.trace.written ≡ Some now' →
     (s ≡ s') × (status_lines names s ≡ status_lines names' s') × ((bytes : List ℕ) × (now ≡ before ++ bytes) × (now' ≡ before' ++ bytes))
@@ -126,12 +129,12 @@ IsCutEarly _ = ⊥
 -- ran out.
 abbrev pub RefusalsAreExact : Type 0
 RefusalsAreExact =
-    (request : Request) (contents : Contents) (told : List ℕ → Option (List ℕ)) (names asked files : List (List ℕ)) (old new : Outside) (s : Status) (reason : Refusal) →
+    (request : Request) (contents : Contents) (told : List ℕ → Option (List ℕ)) (names asked files : List (List ℕ)) (old new : Outside Sources) (s : Status) (reason : Refusal) →
     Tell request told contents → GivesDue request told asked old new names s → IsDue request contents (record { work = refuses reason; files = files }) →
-    PutsNothing (beside old) (beside new) × ((s ≡ status.Refused reason) ⊎ IsCutEarly s)
+    PutsNothing (without_files old) (without_files new) × ((s ≡ status.Refused reason) ⊎ IsCutEarly s)
 
 -- Where no device's count of faults rose, and memory didn't run out, a call isn't cut.
 abbrev pub UndisturbedCallsAreUncut : Type 0
 UndisturbedCallsAreUncut =
-    (s : Status) (old new : Outside) → ((what : Device) → IsCounted what (blames s what) (faults_of what old) (faults_of what new)) →
+    (s : Status) (old new : Outside Sources) → ((what : Device) → IsCounted what (blames s what) (faults_of what old) (faults_of what new)) →
     ((what : Device) → Rose (faults_of what old) (faults_of what new) → ⊥) → s ≢ status.Memory → IsUncut s

@@ -1,14 +1,12 @@
--- A reader of the headline goes from Call to Due, Course and Given, and from there to the specs of the crates below.
+-- A reader of the headline goes from Call to Due, Run and Given, and from there to the specs of the crates below.
 -- what one call does
 pub mod Call
 -- what is due to a request
 pub mod Due
 -- the run of a scenario
-pub mod Course
+pub mod Run
 -- how an answer is given, whole or cut short
 pub mod Given
--- what is outside a call
-pub mod Outside
 -- what is said on standard error, and the exit status
 pub mod Lines
 -- what follows for whole calls

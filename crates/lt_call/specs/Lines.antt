@@ -1,11 +1,11 @@
 -- What a call says on standard error.
 use Rattle.std.specs.Prelude.{ℕ, List, [], ◌∷◌, ◌++◌, None, Some, codes, decimal}
 use Rattle.std.specs.declared.option.Option.{Option}
-use Rattle.lt_prepare.specs.Codes.{refusal_code, refusal_place}
+use Rattle.lt_frontend.specs.Codes.{refusal_code, refusal_place}
 use Rattle.lt_rif.specs.Trace.{line, spaced, end_words, who_text}
 use Rattle.lt_rif.specs.declared.end.End.{End}
 use Rattle.lt_rif.specs.declared.end.End.TheVariants as end
-use Rattle.lt_words.specs.Usage.{usage_word, usage_text}
+use Rattle.lt_args.specs.Usage.{usage_word, usage_text}
 use Rattle.lt_call.specs.declared.status.Status.{Status}
 use Rattle.lt_call.specs.declared.status.Status.TheVariants as status
 use Rattle.lt_call.specs.declared.status.Refusal.{Refusal}

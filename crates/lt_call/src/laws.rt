@@ -2,8 +2,8 @@
 
 ghost use Rattle.lt_call.specs.Laws.{ContentsHaveOneDueAnswer, RefusalsAreExact, SameCallSameBytes, UncutCallsAreWhole, UndisturbedCallsAreUncut};
 
+use lt_frontend::{texts_have_one_printed_answer, texts_have_one_scenario_answer};
 use lt_play::Player;
-use lt_prepare::{texts_have_one_printed_answer, texts_have_one_scenario_answer};
 use lt_session::undisturbed_sessions_are_whole;
 
 /// One answer is due to a request and the contents of its files.

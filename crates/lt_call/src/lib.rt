@@ -6,12 +6,12 @@
 //! the number that a program ends with, and [`start`] hands it the system.
 #![tactic(auto)]
 
+mod call_result;
 mod laws;
 mod print;
 mod put;
 mod run;
 mod say;
-mod served;
 mod status;
 mod stress;
 mod system;

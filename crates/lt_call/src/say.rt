@@ -1,24 +1,23 @@
 //! What a call says on standard error, by `docs/COMMAND.md`.
 
-ghost use Rattle.std.specs.Prelude.{◌≡◌, [], OnErr, OnOk, map, string_bytes};
-ghost use Rattle.std.specs.Io.KnownBytes.{Appends};
-ghost use Rattle.lt_io.specs.Causes.{HasCause};
-ghost use Rattle.lt_io.specs.Sending.{AppendsPart};
-ghost use Rattle.lt_call.specs.Lines.{status_lines, end_lines, code_of, place_of, device_word};
+ghost use Rattle.std.specs.Prelude.{◌≡◌, ◌≢◌, [], ◌∷◌, ◌++◌, codes, map, string_bytes};
+ghost use Rattle.lt_io.specs.Sending.{IsPut};
+ghost use Rattle.lt_rif.specs.Trace.{line, spaced};
+ghost use Rattle.lt_rif.specs.View.{words_of};
+ghost use Rattle.lt_call.specs.Lines.{code_of, device_word, end_lines, end_place, place_of, status_lines};
 
 use crate::put::put_all;
 use crate::status::{Device, Ending, Refusal, Status};
 use itoa::Buffer;
+use lt_args::{usage_text, usage_word};
 use lt_io::{Failed, Sink};
-use lt_rif::{End, exception_name, fault_word, refusal_word, who_word};
-use lt_words::{usage_text, usage_word};
+use lt_rif::{End, EndWords, who_word};
 
-/// Says the line of a status, if any. Where that fails, a front of it was said, but not all. Exceptions have these
+/// Says the line of a status, if any. Where that fails, a prefix of it was said, but not all. Exceptions have these
 /// names.
 pub fn say<M: Sink>(says: &mut M, status: Status, names: &[String]) -> Result<(), Failed>
-    ensures all { OnOk result (Appends (M.written says.old) (M.written says.new) (status_lines (map string_bytes names.now) status)) }
-    ensures front { OnErr result (AppendsPart (M.written says.old) (M.written says.new) (status_lines (map string_bytes names.now) status)) }
-    ensures cause { HasCause (M.faults says.old) (M.faults says.new) result }
+    ensures { IsPut (status_lines (map string_bytes names.now) status)
+        (M.state says.old) (M.state says.new) result }
 {
     let mut digits = Buffer::new();
     match status {
@@ -51,58 +50,76 @@ pub fn say<M: Sink>(says: &mut M, status: Status, names: &[String]) -> Result<()
 
 // Says the line of an ending, if any.
 fn say_ending<M: Sink>(says: &mut M, ending: Ending, names: &[String]) -> Result<(), Failed>
-    ensures all { OnOk result (Appends (M.written says.old) (M.written says.new) (end_lines ending.end (map string_bytes names.now) ending.at)) }
-    ensures front { OnErr result (AppendsPart (M.written says.old) (M.written says.new) (end_lines ending.end (map string_bytes names.now) ending.at)) }
-    ensures cause { HasCause (M.faults says.old) (M.faults says.new) result }
+    ensures { IsPut (end_lines ending.end (map string_bytes names.now) ending.at)
+        (M.state says.old) (M.state says.new) result }
 {
-    let mut digits = Buffer::new();
-    let at = digits.format(ending.at).as_bytes();
-    let mut more_digits = Buffer::new();
     match ending.end {
         End::Normal | End::Limit => Ok(()),
-        End::Oracle => put_all(says, &[b"lurette: oracle ", at, b"\n"]),
-        End::Deadlock => put_all(says, &[b"lurette: deadlock ", at, b"\n"]),
-        End::Raise { exception } => {
-            let name = exception_name(names, exception);
-            put_all(says, &[b"lurette: raise ", name, b" ", at, b"\n"])
+        end => say_end(says, end, ending.at, names),
+    }
+}
+
+// Says the line of an end with its number. It isn't one that goes unsaid.
+fn say_end<M: Sink>(says: &mut M, end: End, number: u64, names: &[String]) -> Result<(), Failed>
+    requires normal { end ≢ End.Normal }
+    requires limit { end ≢ End.Limit }
+    ensures { IsPut (end_lines end (map string_bytes names.now) number)
+        (M.state says.old) (M.state says.new) result }
+{
+    let mut digits = Buffer::new();
+    let mut need = Buffer::new();
+    let mut place_digits = Buffer::new();
+    let words = end.words(names, &mut need);
+    let at = digits.format(number).as_bytes();
+    match end_place(end) {
+        None => say_words(says, words, at, b"", b""),
+        Some(place) => {
+            let place = place_digits.format(place).as_bytes();
+            say_words(says, words, at, b" at ", place)
         }
-        End::Fault(fault) => {
-            let fault = fault_word(fault);
-            put_all(says, &[b"lurette: fault ", fault, b" ", at, b"\n"])
+    }
+}
+
+// The place of a reply that is refused.
+fn end_place(end: End) -> Option<usize>
+    ensures { result ≡ end_place end }
+{
+    match end {
+        End::Malformed { place, .. } => Some(place),
+        _ => None,
+    }
+}
+
+// Says the line of these words and this number, with a place after this mark.
+fn say_words<M: Sink>(
+    says: &mut M,
+    words: EndWords<'_>,
+    at: &[u8],
+    mark: &[u8],
+    place: &[u8],
+) -> Result<(), Failed>
+    ensures { IsPut
+        (line (codes "lurette: " ++ spaced (words_of words.entry ++ at.now ∷ [])
+        ++ (mark.now ++ place.now)))
+        (M.state says.old) (M.state says.new) result }
+{
+    let lurette = b"lurette: ";
+    match words {
+        EndWords::One(a) => put_all(says, &[lurette, a, b" ", at, mark, place, b"\n"]),
+        EndWords::Two(a, b) => {
+            put_all(says, &[lurette, a, b" ", b, b" ", at, mark, place, b"\n"])
         }
-        End::TooLarge => put_all(says, &[b"lurette: toolarge ", at, b"\n"]),
-        End::Malformed { who, fault, place } => put_all(
+        EndWords::Three(a, b, c) => put_all(
             says,
-            &[
-                b"lurette: malformed ",
-                who_word(who),
-                b" ",
-                refusal_word(fault),
-                b" ",
-                at,
-                b" at ",
-                more_digits.format(place).as_bytes(),
-                b"\n",
-            ],
+            &[lurette, a, b" ", b, b" ", c, b" ", at, mark, place, b"\n"],
         ),
-        End::Ended { who, .. } => {
-            put_all(says, &[b"lurette: ended ", who_word(who), b" ", at, b"\n"])
-        }
-        End::Device(who) => {
-            put_all(says, &[b"lurette: device ", who_word(who), b" ", at, b"\n"])
-        }
-        End::Budget { need } => {
-            let need = more_digits.format(need).as_bytes();
-            put_all(says, &[b"lurette: budget ", need, b" ", at, b"\n"])
-        }
     }
 }
 
 // Says why a file is refused, and where, if that is a place in its text.
 fn say_refusal<M: Sink>(says: &mut M, reason: Refusal) -> Result<(), Failed>
-    ensures all { OnOk result (Appends (M.written says.old) (M.written says.new) (status_lines [] (Status.Refused reason))) }
-    ensures front { OnErr result (AppendsPart (M.written says.old) (M.written says.new) (status_lines [] (Status.Refused reason))) }
-    ensures cause { HasCause (M.faults says.old) (M.faults says.new) result }
+    ensures { IsPut (status_lines [] (Status.Refused reason))
+        (M.state says.old) (M.state says.new) result }
 {
     let code = code_of(reason);
     match place_of(reason) {

@@ -3,10 +3,10 @@
 ghost use Rattle.std.specs.Prelude.{◌≡◌};
 ghost use Rattle.lt_call.specs.Lines.{end_code, status_code};
 
+use lt_args::UsageKind;
+use lt_frontend::Unprepared;
 use lt_io::FileRefusal;
-use lt_prepare::Unprepared;
 use lt_rif::{End, Who};
-use lt_words::UsageKind;
 
 /// How a call of the program ended, with all that its line on standard error says.
 #[derive(Clone, Copy)]
@@ -52,12 +52,12 @@ pub struct Ending {
 /// Why what was asked for is refused.
 #[derive(Clone, Copy)]
 pub enum Refusal {
-    /// A file is longer than [`LONGEST_TEXT`](lt_words::LONGEST_TEXT), or an earlier trace than
-    /// [`LONGEST_REPLAY`](lt_words::LONGEST_REPLAY).
+    /// A file is longer than [`LONGEST_TEXT`](lt_args::LONGEST_TEXT), or an earlier trace than
+    /// [`LONGEST_REPLAY`](lt_args::LONGEST_REPLAY).
     TooLong,
 
     /// The scenario's file has no scenario.
-    Scenario(lt_prepare::Refusal),
+    Scenario(lt_frontend::Refusal),
 
     /// Its scenario has inputs, and nobody gives them values.
     NeedsController,

@@ -1,7 +1,7 @@
 //! The call over the system.
 
 ghost use Rattle.std.specs.Prelude.{◌≡◌, map, string_bytes};
-ghost use Rattle.lt_drive.specs.Outside.{sink};
+ghost use Rattle.lt_io.specs.Outside.{around};
 ghost use Rattle.lt_call.specs.Call.{IsCall};
 ghost use Rattle.lt_call.specs.Lines.{status_code};
 ghost use Rattle.lt_call.specs.declared.status.Status.{Status};
@@ -25,18 +25,11 @@ pub fn program<F: Files, P: Spawner, S: Sink, M: Sink>(
     trace: &mut S,
     says: &mut M,
 ) -> u8
-    ensures { (status : Status) × (result ≡ status_code status) × IsCall (map string_bytes words.now)
-        (record {
-          files = record { contents = F.contents files.old; asked = F.asked files.old; faults = F.faults files.old };
-          programs = record { coming = P.coming spawner.old; closed = P.closed spawner.old; asked = P.asked spawner.old; faults = P.faults spawner.old };
-          trace = sink (S.written trace.old) (S.faults trace.old);
-        })
-        (record {
-          files = record { contents = F.contents files.new; asked = F.asked files.new; faults = F.faults files.new };
-          programs = record { coming = P.coming spawner.new; closed = P.closed spawner.new; asked = P.asked spawner.new; faults = P.faults spawner.new };
-          trace = sink (S.written trace.new) (S.faults trace.new);
-        })
-        (sink (M.written says.old) (M.faults says.old)) (sink (M.written says.new) (M.faults says.new))
+    ensures { (status : Status) × (result ≡ status_code status) ×
+        IsCall (map string_bytes words.now)
+        (around (F.state files.old) (P.state spawner.old) (S.state trace.old))
+        (around (F.state files.new) (P.state spawner.new) (S.state trace.new))
+        (M.state says.old) (M.state says.new)
         status }
 {
     lurette(alloc, words, files, spawner, trace, says).code()

@@ -3,7 +3,7 @@
 use crate::keeping::{Finished, KeepingSpawner};
 use crate::plant_link::PlantSpawner;
 use crate::reading::{
-    numbers_of, push_behind, push_unescaped, push_unquoted, told_of_program, value_of,
+    numbers_of, push_after, push_unescaped, push_unquoted, told_of_program, value_of,
 };
 use lt_call::lurette;
 use lt_io::{Calls, MemFiles, MemSink, MemSpawner, ScriptLink, Spawner};
@@ -11,7 +11,7 @@ use std::alloc::{AllocError, Global};
 use std::str;
 use std::test::Fail;
 
-// What comes of the call of a row, as text: what `called` tells, what each program was sent, with a line `.` behind it,
+// What comes of the call of a row, as text: what `called` tells, what each program was sent, with a line `.` after it,
 // and the commands that were asked for, a line each.
 pub fn found_of(alloc: Global, row: &str, room: usize) -> Result<String, Fail> {
     if value_of(row, "beside plants", "").is_some() {
@@ -119,7 +119,7 @@ fn push_scenario(
     row: &str,
 ) -> Result<(), Fail> {
     let mut text = String::new(alloc);
-    push_behind(&mut text, row, "f is ")?;
+    push_after(&mut text, row, "f is ")?;
     let _line_feed = text.pop();
     push_file(alloc, entries, "f", text)
 }
@@ -132,7 +132,7 @@ fn push_earlier(
 ) -> Result<(), Fail> {
     let mut trace = String::new(alloc);
     if contents == "its trace" {
-        push_behind(&mut trace, row, "> ")?;
+        push_after(&mut trace, row, "> ")?;
     } else {
         push_unquoted(&mut trace, contents)?;
     }

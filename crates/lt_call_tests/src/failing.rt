@@ -25,7 +25,7 @@ $ print f
 reads fail 0
 
 ## a write that fails ends the run
--- The header ends behind 34 bytes, each of two steps behind 16 more, and the end line behind 80.
+-- The header ends after 34 bytes, each of two steps after 16 more, and the end line after 80.
 $ run f
 f is node n() returns (b: bool) = b fby not b
 > #seed 0\n#inputs "b":bool\n#outputs\n#step 1\nt #outs\n#step 2\nf #outs\n#end normal 2
@@ -48,7 +48,7 @@ trace holds 80
 $ run f
 f is node n() returns (b: bool) = b fby not b
 
--- The texts before it are there, and nothing of it or of those behind it.
+-- The texts before it are there, and nothing of it or of those after it.
 writes fail 0
 = 9 lurette: device trace 0
 

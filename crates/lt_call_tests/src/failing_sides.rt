@@ -75,11 +75,11 @@ o fails 3
 = 9 lurette: device oracle 2
 o got "1\n1\n"
 
-## a front of a line may be sent
+## a prefix of a line may be sent
 f is node n(y: int [5;9]) returns (x: int [0;9]) = loop x = y
 > #seed 0\n#inputs "x":int\n#outputs "y":int
 
--- Room for three bytes is room for a line and a front of the next one.
+-- Room for three bytes is room for a line and a prefix of the next one.
 $ run f --sut c
 c says "7 8 "
 c holds 3

@@ -2,8 +2,8 @@
 
 ghost use Rattle.std.specs.Prelude.{Some};
 ghost use Rattle.lt_call_tests.specs.Keeping.{closed_by};
-ghost use Rattle.lt_io.specs.Files.{names_of};
-ghost use Rattle.lt_io.specs.MemSpawner.{lefts_of};
+ghost use Rattle.lt_io.specs.MemSpawner.{programs_of};
+ghost use Rattle.lt_io.specs.ScriptState.{link_of};
 
 use lt_io::{Failed, Link, MemSpawner, ScriptLink, Spawner, StartRefusal};
 use std::alloc::{AllocError, Global};
@@ -14,14 +14,14 @@ use std::{mem, str};
 pub enum Finished {
     Nobody,
 
-    // This one, behind others.
-    Behind(Box<Finished>, ScriptLink),
+    // This one, after others.
+    After(Box<Finished>, ScriptLink),
 }
 
 impl Finished {
-    // Writes what each link was sent, in the order in which they were finished, with a line `.` behind it.
+    // Writes what each link was sent, in the order in which they were finished, with a line `.` after it.
     pub fn write_sent(&self, text: &mut String) -> Result<(), AllocError> {
-        if let Finished::Behind(others, last) = self {
+        if let Finished::After(others, last) = self {
             others.write_sent(text)?;
             text.push_str(str::from_utf8(last.sent()).unwrap_or("what is not text"))?;
             text.push_str(".\n")?;
@@ -38,11 +38,7 @@ pub struct KeptLink {
 }
 
 impl Link for KeptLink {
-    ghost sent = { λ l. Some l.link.sent };
-
-    ghost left = { λ l. Some l.link.left };
-
-    ghost faults = { λ l. l.link.calls.faults };
+    ghost state = { λ l. link_of l.link };
 
     fn send(&mut self, bytes: &[u8]) -> Result<(), Failed> {
         self.link.send(bytes)
@@ -65,13 +61,10 @@ pub struct KeepingSpawner {
 impl Spawner for KeepingSpawner {
     type L = KeptLink;
 
-    ghost coming = { λ s command. Some (lefts_of s.programs.links.items command) };
-
-    ghost closed = { λ s. Some (closed_by s.finished) };
-
-    ghost asked = { λ s. names_of s.programs.asked.items };
-
-    ghost faults = { λ s. s.faults };
+    ghost state = { λ s. record (programs_of s.programs) {
+      closed = Some (closed_by s.finished);
+      faults = s.faults;
+    } };
 
     // The memory for a link is taken here, so that `finish` needs none.
     fn start(&mut self, alloc: Global, command: &str) -> Result<KeptLink, StartRefusal> {
@@ -92,6 +85,6 @@ impl Spawner for KeepingSpawner {
         let KeptLink { link, mut place } = link;
         self.faults = self.faults.saturating_add(link.faults());
         *place = mem::replace(&mut self.finished, Finished::Nobody);
-        self.finished = Finished::Behind(place, link);
+        self.finished = Finished::After(place, link);
     }
 }

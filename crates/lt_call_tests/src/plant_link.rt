@@ -2,6 +2,7 @@
 
 ghost use Rattle.std.specs.Prelude.{◌≡◌, None};
 ghost use Rattle.lt_io.specs.Files.{names_of};
+ghost use Rattle.lt_io.specs.Link.{anything};
 
 use lt_io::{Failed, Link, Spawner, StartRefusal};
 use lt_plants::{Playing, plant_of, reply};
@@ -30,11 +31,7 @@ impl PlantLink {
 }
 
 impl Link for PlantLink {
-    ghost sent = { λ _. None };
-
-    ghost left = { λ _. None };
-
-    ghost faults = { λ l. l.faults };
+    ghost state = { λ l. record { sent = None; left = None; faults = l.faults; fits = anything } };
 
     // What is sent at once is a line. One without a reply is a fault.
     fn send(&mut self, bytes: &[u8]) -> Result<(), Failed> {
@@ -66,13 +63,12 @@ pub struct PlantSpawner {
 impl Spawner for PlantSpawner {
     type L = PlantLink;
 
-    ghost coming = { λ _ _. None };
-
-    ghost closed = { λ _. None };
-
-    ghost asked = { λ s. names_of s.asked.items };
-
-    ghost faults = { λ s. s.faults };
+    ghost state = { λ s. record {
+      coming = λ _. None;
+      closed = None;
+      asked = names_of s.asked.items;
+      faults = s.faults;
+    } };
 
     // A word that names no plant is a fault.
     fn start(&mut self, alloc: Global, command: &str) -> Result<PlantLink, StartRefusal> {

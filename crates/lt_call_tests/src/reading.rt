@@ -5,7 +5,7 @@ use std::num::ParseIntError;
 use std::str::FromStr;
 use std::test::Fail;
 
-// What stands behind these two texts in the last line that begins with them.
+// What stands after these two texts in the last line that begins with them.
 pub fn value_of<'a>(row: &'a str, first: &str, second: &str) -> Option<&'a str> {
     let mut value = None;
     for line in row.lines() {
@@ -18,7 +18,7 @@ pub fn value_of<'a>(row: &'a str, first: &str, second: &str) -> Option<&'a str> 
     value
 }
 
-// The program of a line that has this word behind its name, and what stands behind that.
+// The program of a line that has this word after its name, and what stands after that.
 pub fn told_of_program<'a>(line: &'a str, word: &str) -> Option<(&'a str, &'a str)> {
     let (program, rest) = line.split_once(' ')?;
     Some((program, rest.strip_prefix(word)?))
@@ -36,8 +36,8 @@ pub fn numbers_of<N: FromStr<Err = ParseIntError> + Drop>(
     Ok(numbers)
 }
 
-// Puts what stands in the lines with this sign behind a text, each with a line feed.
-pub fn push_behind(text: &mut String, row: &str, sign: &str) -> Result<(), Fail> {
+// Puts what stands in the lines with this sign after a text, each with a line feed.
+pub fn push_after(text: &mut String, row: &str, sign: &str) -> Result<(), Fail> {
     for line in row.lines() {
         if let Some(rest) = line.strip_prefix(sign) {
             push_repeating(text, rest)?;
@@ -47,13 +47,13 @@ pub fn push_behind(text: &mut String, row: &str, sign: &str) -> Result<(), Fail>
     Ok(())
 }
 
-// Puts what stands between quotes behind a text.
+// Puts what stands between quotes after a text.
 pub fn push_unquoted(text: &mut String, quoted: &str) -> Result<(), Fail> {
-    let rest = quoted.strip_prefix('"').ok_or("no quote in front")?;
-    push_repeating(text, rest.strip_suffix('"').ok_or("no quote behind")?)
+    let rest = quoted.strip_prefix('"').ok_or("no quote in prefix")?;
+    push_repeating(text, rest.strip_suffix('"').ok_or("no quote after")?)
 }
 
-// Puts what is written behind a text, with each part as often as it says.
+// Puts what is written after a text, with each part as often as it says.
 fn push_repeating(text: &mut String, written: &str) -> Result<(), Fail> {
     for part in written.split("<<") {
         let rest = match part.split_once(">>") {
@@ -76,26 +76,26 @@ fn push_repeated(text: &mut String, repeated: &str) -> Result<(), Fail> {
     Ok(())
 }
 
-// Puts a text behind another one, with what each escape stands for.
+// Puts a text after another one, with what each escape stands for.
 pub fn push_unescaped(text: &mut String, escaped: &str) -> Result<(), Fail> {
-    let mut is_behind_backslash = false;
+    let mut is_after_backslash = false;
     for letter in escaped.chars() {
-        if is_behind_backslash {
+        if is_after_backslash {
             text.push(meaning_of(letter).ok_or("no such escape")?)?;
-            is_behind_backslash = false;
+            is_after_backslash = false;
         } else if letter == '\\' {
-            is_behind_backslash = true;
+            is_after_backslash = true;
         } else {
             text.push(letter)?;
         }
     }
-    if is_behind_backslash {
+    if is_after_backslash {
         return Err(Fail::new("a backslash at the end"));
     }
     Ok(())
 }
 
-// What a letter stands for behind a backslash.
+// What a letter stands for after a backslash.
 fn meaning_of(letter: char) -> Option<char> {
     match letter {
         'n' => Some('\n'),

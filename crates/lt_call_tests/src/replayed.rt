@@ -11,7 +11,7 @@ fn earlier_traces_are_played_again(rt: HostRuntime) -> Result<(), Fail> {
         19,
         r##"
 ## the trace of a run is played again
--- Behind the row of a run stands that of its trace, which is played again without the controller.
+-- After the row of a run stands that of its trace, which is played again without the controller.
 c says "7 8 "
 o says "t f "
 
@@ -73,7 +73,7 @@ f is node n(y: int [5;9]) returns (x: int [0;9]) = x = y fby x > 9
 t is its trace
 files 2
 
--- What is behind `#locs` is passed over.
+-- What is after `#locs` is passed over.
 $ run f --sut c --locals -l 2
 f is node n(y: int [5;9]) returns (x: int [0;9]) = loop { exist v: int [0;9] in x = y and v = x }
 > #seed 0\n#inputs "x":int\n#outputs "y":int\n#locals "v.1":int

@@ -87,7 +87,7 @@ c says "4 5\n6"
 c got "1\n1\n"
 
 ## long replies are refused
--- Of 65,536 bytes none may be missing behind a value.
+-- Of 65,536 bytes none may be missing after a value.
 $ run f --sut c -l 1
 f is node n(y: int) returns (x: int [0;3]) = loop x = 1
 > #seed 0\n#inputs "x":int\n#outputs "y":int

@@ -1,12 +1,12 @@
 //! Tables of text: each row is a call, and what comes of it. They are text, since that is proved in a tenth of the time
 //! of tables of values.
 //!
-//! A block of lines ends with an empty line. One that begins with `## ` says in its first line what the rows behind it
+//! A block of lines ends with an empty line. One that begins with `## ` says in its first line what the rows after it
 //! show, and its other lines are lines of each of them. Any other block is a row. Each of its lines says one thing:
 //!
 //! ```text
 //! -- A line that begins so is passed over.
-//! $ run f --sut c -l 2      words of the call. Those of several such lines stand behind each other
+//! $ run f --sut c -l 2      words of the call. Those of several such lines stand after each other
 //! f is node n() ..          the text of the file `f`. Several such lines are lines of that text
 //! t is "5 #outs 7\n"        the file `t`, which an earlier trace stands in. There is none without such a line
 //! t is its trace            the file `t` has the trace that comes of the call
@@ -33,18 +33,18 @@
 //! line that can't be read fails the test.
 
 use crate::calling::found_of;
-use crate::reading::{push_behind, push_unescaped, push_unquoted, told_of_program, value_of};
+use crate::reading::{push_after, push_unescaped, push_unquoted, told_of_program, value_of};
 use std::alloc::{AllocError, Global};
 use std::process::Abort;
 use std::test::Fail;
 
-// What a line may begin with, and what may stand behind the name of a program.
+// What a line may begin with, and what may stand after the name of a program.
 const BEGINNINGS: &str =
     "## ;$;f is ;t is ;reads fail ;starts fail ;writes fail ;trace holds ;beside plants;> ;= ;asks ;files ;is printed";
 
 const OF_PROGRAMS: &str = "says ;cuts ;holds ;fails ;got ";
 
-// Each row of tables that have so many comes to what it says. All of them share these lines, which stand in front.
+// Each row of tables that have so many comes to what it says. All of them share these lines, which stand in prefix.
 pub fn check_rows(
     rt: &(impl Abort + AllocGlobal),
     shared: &str,
@@ -75,7 +75,7 @@ fn check_row(
     check_rooms(rt, &row)
 }
 
-// The lines of a row behind those that it shares with others, without what is passed over.
+// The lines of a row after those that it shares with others, without what is passed over.
 fn row_of(alloc: Global, shared: &str, head: &str, lines: &str) -> Result<String, AllocError> {
     let mut row = String::new(alloc);
     push_lines(&mut row, shared)?;
@@ -158,7 +158,7 @@ fn push_due(due: &mut String, row: &str, room: usize) -> Result<(), Fail> {
         due.push_str("0 files 1\n")?;
         return Ok(());
     }
-    push_behind(due, row, "> ")?;
+    push_after(due, row, "> ")?;
     if due.is_char_boundary(room) {
         due.truncate(room);
     }
@@ -172,14 +172,14 @@ fn push_due_ending(due: &mut String, row: &str) -> Result<(), Fail> {
     if value_of(row, "= ", "").is_none() {
         due.push_str("0 ")?;
     }
-    push_behind(due, row, "= ")?;
+    push_after(due, row, "= ")?;
     due.push_str("files ")?;
     due.push_str(value_of(row, "files ", "").unwrap_or("1"))?;
     due.push_str("\n")?;
     Ok(())
 }
 
-// What the programs of a row are to be sent, with a line `.` behind each.
+// What the programs of a row are to be sent, with a line `.` after each.
 fn push_due_sent(due: &mut String, row: &str) -> Result<(), Fail> {
     for line in row.lines() {
         if let Some((_, quoted)) = told_of_program(line, "got ") {

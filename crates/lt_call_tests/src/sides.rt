@@ -103,7 +103,7 @@ c got "\n\n"
 f is node n(y: int [5;9]) returns (x: int [0;9]) = loop x = y
 > #seed 0\n#inputs "x":int\n#outputs "y":int
 
--- Behind `=` a command may begin with a dash.
+-- After `=` a command may begin with a dash.
 $ run f --oracle ./an\soracle --sut=--sut -l 1
 ./an\soracle says "t "
 --sut says "7 "

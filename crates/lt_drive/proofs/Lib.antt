@@ -1,4 +1,4 @@
-pub mod Happenings
+pub mod Interactions
 pub mod LinkReads
 pub mod Ways
 pub mod Sides

@@ -4,13 +4,14 @@ use Rattle.std.proofs.KnownBytes.{Appends-nil}
 use Rattle.std.specs.Io.KnownBytes.{Appends, Consumes, IsAtEnd, Keeps}
 use Rattle.std.specs.declared.option.Option.{Option}
 use Rattle.lt_io.specs.Causes.{Rose}
-use Rattle.lt_io.specs.Fitting.{FitsReceived}
+use Rattle.lt_io.specs.Link.{FitsReceived, Link}
+use Rattle.lt_drive.specs.Interaction.{GoesOnFitting, Interaction, IsReceived, has_failed, is_fault_of, received_then}
+use Rattle.lt_io.specs.Outside.{Links, Outside, linked}
 use Rattle.lt_rif.specs.declared.end.Who.{Who}
 use Rattle.lt_rif.specs.declared.end.Who.TheVariants as who
 use Rattle.lt_loop.specs.Side.{Rest, ending, silent}
 use Rattle.lt_loop.specs.declared.event.Destination.TheVariants as destination
-use Rattle.lt_drive.specs.Outside.{GoesOnFitting, Happens, IsReceived, Link, Outside, has_failed, is_fault_of, received_then}
-use Rattle.lt_drive.proofs.Happenings.{fits_same, nothing_received}
+use Rattle.lt_drive.proofs.Interactions.{fits_same, nothing_received}
 
 -- a side, where it failed
 abbrev pub failing : Bool → Who → Option Who
@@ -57,27 +58,27 @@ pub fits_read : (a b : Link) (bytes : List ℕ) (is_end : Bool) → FitsReceived
 fits_read a b bytes is_end fits s r fit = fits_received a b bytes is_end fits s r.bytes r.is_closed fit
 
 -- the controller's link was read
-pub controller_read : (old : Outside) (l : Link) (r : Rest) (b : Bool) → IsReceived old.controller.left l.left r → (b ≡ false → GoesOnFitting old.controller l [] r) → Keeps old.controller.sent l.sent →
-    MatchBool b (Rose old.controller.faults l.faults) (l.faults ≡ old.controller.faults) → Happens old (record old { controller = l }) (record { controller = r; oracle = silent }) [] (failing b who.Controller) false
+pub controller_read : (old : Outside Links) (l : Link) (r : Rest) (b : Bool) → IsReceived old.inputs.controller.left l.left r → (b ≡ false → GoesOnFitting old.inputs.controller l [] r) → Keeps old.inputs.controller.sent l.sent →
+    MatchBool b (Rose old.inputs.controller.faults l.faults) (l.faults ≡ old.inputs.controller.faults) → Interaction old (linked l old.inputs.oracle old.trace) (record { controller = r; oracle = silent }) [] (failing b who.Controller) false
 controller_read old l r b received fits kept blames = record {
   controller = received;
-  oracle = nothing_received old.oracle.left;
+  oracle = nothing_received old.inputs.oracle.left;
   controller_fits = λ fine. fits (calm_controller b fine);
-  oracle_fits = λ fine. fits_same old.oracle;
-  gives = elim [ destination.Controller ↦ kept_sent old.controller.sent l.sent kept | destination.Oracle ↦ Appends-nil old.oracle.sent | destination.Trace ↦ Appends-nil old.trace.written ];
-  blames = elim [ destination.Controller ↦ blamed_controller b old.controller.faults l.faults blames | destination.Oracle ↦ spared_oracle b old.oracle.faults | destination.Trace ↦ refl ];
+  oracle_fits = λ fine. fits_same old.inputs.oracle;
+  gives = elim [ destination.Controller ↦ kept_sent old.inputs.controller.sent l.sent kept | destination.Oracle ↦ Appends-nil old.inputs.oracle.sent | destination.Trace ↦ Appends-nil old.trace.written ];
+  blames = elim [ destination.Controller ↦ blamed_controller b old.inputs.controller.faults l.faults blames | destination.Oracle ↦ spared_oracle b old.inputs.oracle.faults | destination.Trace ↦ refl ];
 }
 
 -- the oracle's link was read
-pub oracle_read : (old : Outside) (l : Link) (r : Rest) (b : Bool) → IsReceived old.oracle.left l.left r → (b ≡ false → GoesOnFitting old.oracle l [] r) → Keeps old.oracle.sent l.sent →
-    MatchBool b (Rose old.oracle.faults l.faults) (l.faults ≡ old.oracle.faults) → Happens old (record old { oracle = l }) (record { controller = silent; oracle = r }) [] (failing b who.Oracle) false
+pub oracle_read : (old : Outside Links) (l : Link) (r : Rest) (b : Bool) → IsReceived old.inputs.oracle.left l.left r → (b ≡ false → GoesOnFitting old.inputs.oracle l [] r) → Keeps old.inputs.oracle.sent l.sent →
+    MatchBool b (Rose old.inputs.oracle.faults l.faults) (l.faults ≡ old.inputs.oracle.faults) → Interaction old (linked old.inputs.controller l old.trace) (record { controller = silent; oracle = r }) [] (failing b who.Oracle) false
 oracle_read old l r b received fits kept blames = record {
-  controller = nothing_received old.controller.left;
+  controller = nothing_received old.inputs.controller.left;
   oracle = received;
-  controller_fits = λ fine. fits_same old.controller;
+  controller_fits = λ fine. fits_same old.inputs.controller;
   oracle_fits = λ fine. fits (calm_oracle b fine);
-  gives = elim [ destination.Controller ↦ Appends-nil old.controller.sent | destination.Oracle ↦ kept_sent old.oracle.sent l.sent kept | destination.Trace ↦ Appends-nil old.trace.written ];
-  blames = elim [ destination.Controller ↦ spared_controller b old.controller.faults | destination.Oracle ↦ blamed_oracle b old.oracle.faults l.faults blames | destination.Trace ↦ refl ];
+  gives = elim [ destination.Controller ↦ Appends-nil old.inputs.controller.sent | destination.Oracle ↦ kept_sent old.inputs.oracle.sent l.sent kept | destination.Trace ↦ Appends-nil old.trace.written ];
+  blames = elim [ destination.Controller ↦ spared_controller b old.inputs.controller.faults | destination.Oracle ↦ blamed_oracle b old.inputs.oracle.faults l.faults blames | destination.Trace ↦ refl ];
 }
 
 -- nothing was received

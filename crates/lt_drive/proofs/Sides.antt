@@ -1,17 +1,18 @@
--- Pieces go to sides that the run has, and behind each of them the run goes on.
+-- Pieces go to sides that the run has, and after each of them the run goes on.
 use Rattle.std.proofs.Common.{◌≡◌, ◌≢◌, ℕ, ◌+◌, zero, suc, ◌-◌, Bool, true, false, List, [], ◌∷◌, Some, if◌then◌else◌, drop, take, refl, ap, sym, subst, ◌∙◌}
 use Rattle.lt_num.specs.declared.value.Value.{Value}
 use Rattle.lt_rif.specs.Reply.{Stream, Reply, whole, needs, short, malformed}
+use Rattle.lt_rif.specs.Trace.{end_number}
 use Rattle.lt_rif.specs.declared.end.End.{End}
 use Rattle.lt_rif.specs.declared.end.End.TheVariants as end
 use Rattle.lt_rif.specs.declared.end.Who.{Who}
 use Rattle.lt_rif.specs.declared.end.Who.TheVariants as who
 use Rattle.lt_loop.specs.Event.{Told, turn, bytes, ended_side, failed, goes_on, listens, play_due}
-use Rattle.lt_loop.specs.Machine.{Instant, Rules, end_of, number_of, over, values}
+use Rattle.lt_loop.specs.Machine.{Instant, Rules, end_of, over, values}
 use Rattle.lt_loop.specs.Plan.{Plan, closing_text, opening_text, outputs_line, step_line}
 use Rattle.lt_loop.specs.Play.{Made, Piece, Play, Stop, controller_asked, controller_read, controller_reply, destination_of, ended, ends, holds, instant_made, made_by, needs_byte, oracle_asked, oracle_read, piece_then, play_from, starves, stepped, stopped}
 use Rattle.lt_loop.specs.Side.{Rest, bytes_then, ending, side_answer, side_stream, silent}
-use Rattle.lt_loop.specs.Standing.{PutsOut, Standing, at_hand, behind_step, from_here, resume, resume_in}
+use Rattle.lt_loop.specs.CoreState.{PutsOut, CoreState, at_hand, after_step, from_here, resume, resume_in}
 use Rattle.lt_loop.specs.Stands.{has_controller}
 use Rattle.lt_loop.specs.declared.event.Destination.TheVariants as destination
 use Rattle.lt_loop.specs.declared.event.PieceKind.{PieceKind}
@@ -21,7 +22,7 @@ use Rattle.lt_loop.specs.declared.phase.Phase.TheVariants as phase
 use Rattle.lt_loop.specs.declared.setup.Talk.{Talk}
 use Rattle.lt_loop.specs.declared.setup.Talk.TheVariants as talk
 use Rattle.lt_drive.specs.Drive.{is_told}
-use Rattle.lt_drive.specs.Outside.{side}
+use Rattle.lt_drive.specs.Interaction.{side}
 
 -- whether a run has a side
 abbrev pub has : Plan → Who → Bool
@@ -46,7 +47,7 @@ asked_is_there plan who.Oracle asked = asked
 abbrev pub GoesOn : Play → Type 0
 GoesOn play = (e : End) → play ≡ stopped (ends e) → ⊥
 
--- A first piece that goes to a side goes to one that the run tells such things, and the play isn't over behind it.
+-- A first piece that goes to a side goes to one that the run tells such things, and the play isn't over after it.
 abbrev pub Asks : Plan → Play → Type 0
 Asks plan play = (kind : PieceKind) (text : List ℕ) (rest : Play) (w : Who) → play ≡ piece_then kind text rest → destination_of kind ≡ side w → (is_asked plan w ≡ true) × GoesOn rest
 
@@ -148,23 +149,23 @@ controller_asked_asks talk.Replay plan made go c o is = controller_read_asks pla
 module _ {State : Type 0} where
   instant_made_asks : (rules : Rules State) (plan : Plan) (k : ℕ) (i : Instant State) (go : State → List Value → Stream → Stream → Play) (c o : Stream) → Asks plan (instant_made rules plan k i go c o)
   instant_made_asks rules plan k (values m) go c o = controller_asked_asks plan.controller plan (made_by rules k m) (go m) c o refl
-  instant_made_asks rules plan k (over e) go c o = ended_asks plan (end_of e) (number_of e k)
+  instant_made_asks rules plan k (over e) go c o = ended_asks plan (end_of e) (end_number (end_of e) (k - 1))
 
   play_from_asks : (rules : Rules State) (plan : Plan) (left k : ℕ) (m : State) (y : List Value) (c o : Stream) → Asks plan (play_from rules plan left k m y c o)
   play_from_asks rules plan zero k m y c o = ended_asks plan end.Limit (k - 1)
   play_from_asks rules plan (suc left) k m y c o = instant_made_asks rules plan k (rules.instant m y) (play_from rules plan left (k + 1)) c o
 
-  resume_in_asks : (p : Phase) (s : Standing State) (c o : Rest) → Asks s.plan (resume_in p s c o)
+  resume_in_asks : (p : Phase) (s : CoreState State) (c o : Rest) → Asks s.plan (resume_in p s c o)
   resume_in_asks phase.Fresh s c o = of_traced s.plan piece_kind.Header (opening_text s.plan) (from_here s c o) refl
   resume_in_asks phase.Ready s c o = play_from_asks s.rules s.plan s.left (s.written + 1) s.machine s.inputs (side_stream s.controller c) (side_stream s.oracle o)
-  resume_in_asks phase.Made s c o = controller_asked_asks s.plan.controller s.plan (at_hand s) (behind_step s) (side_stream s.controller c) (side_stream s.oracle o) refl
-  resume_in_asks phase.Controller s c o = controller_read_asks s.plan (at_hand s) (behind_step s) (side_answer s.controller c) (side_stream s.oracle o)
-  resume_in_asks phase.Answered s c o = oracle_asked_asks s.plan (at_hand s) s.inputs (behind_step s s.inputs (side_stream s.controller c)) (side_stream s.oracle o)
-  resume_in_asks phase.Oracle s c o = oracle_read_asks s.plan (at_hand s) s.inputs (behind_step s s.inputs (side_stream s.controller c)) (side_answer s.oracle o)
+  resume_in_asks phase.Made s c o = controller_asked_asks s.plan.controller s.plan (at_hand s) (after_step s) (side_stream s.controller c) (side_stream s.oracle o) refl
+  resume_in_asks phase.Controller s c o = controller_read_asks s.plan (at_hand s) (after_step s) (side_answer s.controller c) (side_stream s.oracle o)
+  resume_in_asks phase.Answered s c o = oracle_asked_asks s.plan (at_hand s) s.inputs (after_step s s.inputs (side_stream s.controller c)) (side_stream s.oracle o)
+  resume_in_asks phase.Oracle s c o = oracle_read_asks s.plan (at_hand s) s.inputs (after_step s s.inputs (side_stream s.controller c)) (side_answer s.oracle o)
   resume_in_asks (phase.Over e) s c o = of_stopped s.plan (ends e)
-  resume_in_asks phase.Starved s c o = of_stopped s.plan starves
+  resume_in_asks phase.OutOfMemory s c o = of_stopped s.plan starves
 
-  play_due_asks : (e : Told) (n : ℕ) (s : Standing State) (c o : Rest) → Asks s.plan (play_due e n s c o)
+  play_due_asks : (e : Told) (n : ℕ) (s : CoreState State) (c o : Rest) → Asks s.plan (play_due e n s c o)
   play_due_asks turn n s c o = resume_in_asks s.phase s c o
   play_due_asks (bytes who.Controller piece) n s c o = resume_in_asks s.phase s (bytes_then (take n piece) c) o
   play_due_asks (bytes who.Oracle piece) n s c o = resume_in_asks s.phase s c (bytes_then (take n piece) o)
@@ -172,7 +173,7 @@ module _ {State : Type 0} where
   play_due_asks (ended_side who.Oracle) n s c o = resume_in_asks s.phase s c ending
   play_due_asks (failed w) n s c o = either_asks s.plan (listens s w) (ended s.plan (end.Device w) (s.written + 1)) (resume s c o) (λ _. ended_asks s.plan (end.Device w) (s.written + 1)) (resume_in_asks s.phase s c o)
 
-  goes_on_at : (p : Phase) (s : Standing State) → p ≢ phase.Starved → GoesOn (resume_in p s silent silent) → goes_on p ≡ true
+  goes_on_at : (p : Phase) (s : CoreState State) → p ≢ phase.OutOfMemory → GoesOn (resume_in p s silent silent) → goes_on p ≡ true
   goes_on_at phase.Fresh s fed goes = refl
   goes_on_at phase.Ready s fed goes = refl
   goes_on_at phase.Made s fed goes = refl
@@ -180,24 +181,24 @@ module _ {State : Type 0} where
   goes_on_at phase.Answered s fed goes = refl
   goes_on_at phase.Oracle s fed goes = refl
   goes_on_at (phase.Over e) s fed goes = absurd (goes e refl)
-  goes_on_at phase.Starved s fed goes = absurd (fed refl)
+  goes_on_at phase.OutOfMemory s fed goes = absurd (fed refl)
 
-  listens_where : (s : Standing State) (w : Who) → goes_on s.phase ≡ true → has s.plan w ≡ true → listens s w ≡ true
+  listens_where : (s : CoreState State) (w : Who) → goes_on s.phase ≡ true → has s.plan w ≡ true → listens s w ≡ true
   listens_where s who.Controller goes there = rw (goes, there) refl
   listens_where s who.Oracle goes there = rw (goes, there) refl
 
   -- where a piece for a side was put out, the run tells that side such things
-  pub asked_where_put : (s new : Standing State) (e : Told) (n : ℕ) (kind : PieceKind) (text : List ℕ) (w : Who) → new.phase ≢ phase.Starved →
+  pub asked_where_put : (s new : CoreState State) (e : Told) (n : ℕ) (kind : PieceKind) (text : List ℕ) (w : Who) → new.phase ≢ phase.OutOfMemory →
       PutsOut (play_due e n s) (Some kind) text new → destination_of kind ≡ side w → is_asked s.plan w ≡ true
   asked_where_put s new e n kind text w fed out goes = (play_due_asks e n s silent silent kind text (resume new silent silent) w (out fed silent silent) goes).0
 
   -- so it has that side
-  pub has_where_put : (s new : Standing State) (e : Told) (n : ℕ) (kind : PieceKind) (text : List ℕ) (w : Who) → new.phase ≢ phase.Starved →
+  pub has_where_put : (s new : CoreState State) (e : Told) (n : ℕ) (kind : PieceKind) (text : List ℕ) (w : Who) → new.phase ≢ phase.OutOfMemory →
       PutsOut (play_due e n s) (Some kind) text new → destination_of kind ≡ side w → has s.plan w ≡ true
   has_where_put s new e n kind text w fed out goes = asked_is_there s.plan w (asked_where_put s new e n kind text w fed out goes)
 
   -- and listens to it
-  pub listens_where_put : (s new : Standing State) (e : Told) (n : ℕ) (kind : PieceKind) (text : List ℕ) (w : Who) → new.phase ≢ phase.Starved →
+  pub listens_where_put : (s new : CoreState State) (e : Told) (n : ℕ) (kind : PieceKind) (text : List ℕ) (w : Who) → new.phase ≢ phase.OutOfMemory →
       PutsOut (play_due e n s) (Some kind) text new → new.plan ≡ s.plan → destination_of kind ≡ side w → listens new w ≡ true
   listens_where_put s new e n kind text w fed out plan goes =
       let asks = play_due_asks e n s silent silent kind text (resume new silent silent) w (out fed silent silent) goes in

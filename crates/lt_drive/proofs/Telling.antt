@@ -5,13 +5,12 @@ use Rattle.lt_rif.specs.declared.end.End.{End}
 use Rattle.lt_rif.specs.declared.end.End.TheVariants as end
 use Rattle.lt_rif.specs.declared.end.Who.{Who}
 use Rattle.lt_rif.specs.declared.end.Who.TheVariants as who
-use Rattle.lt_loop.specs.Event.{Told, listens, play_due, steps_in, taken_of, MayStarve, WantsTell}
+use Rattle.lt_loop.specs.Event.{Told, listens, play_due, steps_in, taken_of, MayStarve, WantsTell, failed as failed_side}
 use Rattle.lt_loop.specs.Plan.{Plan, closing_text}
 use Rattle.lt_loop.specs.Play.{Piece, Play, destination_of, steps_of}
-use Rattle.lt_loop.specs.Event.{failed as failed_side}
-use Rattle.lt_loop.specs.Run.{Answer, Answers, FaultsAreCuts, behind_all, piece_of}
+use Rattle.lt_loop.specs.Run.{Answer, Answers, FaultsAreCuts, pieces_then, piece_of}
 use Rattle.lt_loop.specs.Side.{Rest, silent}
-use Rattle.lt_loop.specs.Standing.{PutsOut, Standing, resume}
+use Rattle.lt_loop.specs.CoreState.{PutsOut, CoreState, resume}
 use Rattle.lt_loop.specs.declared.event.Destination.{Destination}
 use Rattle.lt_loop.specs.declared.event.Destination.TheVariants as destination
 use Rattle.lt_loop.specs.declared.event.PieceKind.{PieceKind}
@@ -20,16 +19,18 @@ use Rattle.lt_loop.specs.declared.event.Wants.{Wants}
 use Rattle.lt_loop.specs.declared.event.Wants.TheVariants as wants
 use Rattle.lt_loop.specs.declared.phase.Phase.{Phase}
 use Rattle.lt_loop.specs.declared.phase.Phase.TheVariants as phase
-use Rattle.lt_drive.specs.Drive.{Begins, Course, GivesOut, HasPutOut, IsDriven, IsUnended, calm, course_of, failed, fault_line, play_on, step_at_hand, unheard, unsent, untraced}
-use Rattle.lt_drive.specs.Outside.{Happens, Outside, Received, Sink, piece, received_then, side, silence}
-use Rattle.lt_drive.specs.inner.Steps.{Fails, GivesPart, Goes, StandsAs, course_due, fault_text, is_trace, side_at}
-use Rattle.lt_drive.specs.declared.driven.Driven.{Driven}
-use Rattle.lt_drive.specs.declared.driven.Driven.TheVariants as driven
+use Rattle.lt_drive.specs.Drive.{Begins, Continuation, GivesOut, HasPutOut, IsDriven, IsUnended, calm, continuation_of, failed, fault_line, play_on, failed_step, unheard, unsent, untraced}
+use Rattle.lt_drive.specs.Interaction.{Interaction, Received, piece, received_then, side, silence}
+use Rattle.lt_io.specs.Outside.{Links, Outside}
+use Rattle.lt_io.specs.Sink.{Sink}
+use Rattle.lt_drive.specs.inner.Steps.{Fails, GivesPart, Goes, StandsAs, continuation_due, fault_text, is_trace, side_at}
+use Rattle.lt_drive.specs.declared.drive_end.DriveEnd.{DriveEnd}
+use Rattle.lt_drive.specs.declared.drive_end.DriveEnd.TheVariants as drive_end
 use Rattle.lt_drive.proofs.Unended.{due_unended}
-use Rattle.lt_drive.proofs.Happenings.{line_unwritten, line_written, nothing_happens, step_count-append}
+use Rattle.lt_drive.proofs.Interactions.{line_unwritten, line_written, nothing_happens, step_count-append}
 
 -- whether memory ran out in a phase
-pub is_starved : (p : Phase) → (p ≡ phase.Starved) ⊎ (p ≢ phase.Starved)
+pub is_starved : (p : Phase) → (p ≡ phase.OutOfMemory) ⊎ (p ≢ phase.OutOfMemory)
 is_starved phase.Fresh = inr (λ e. absurd (cc e))
 is_starved phase.Ready = inr (λ e. absurd (cc e))
 is_starved phase.Made = inr (λ e. absurd (cc e))
@@ -37,7 +38,7 @@ is_starved phase.Controller = inr (λ e. absurd (cc e))
 is_starved phase.Answered = inr (λ e. absurd (cc e))
 is_starved phase.Oracle = inr (λ e. absurd (cc e))
 is_starved (phase.Over e) = inr (λ e. absurd (cc e))
-is_starved phase.Starved = inl refl
+is_starved phase.OutOfMemory = inl refl
 
 -- no piece is put out where memory runs out
 no_piece : (p : Phase) (left : ℕ) (kind : PieceKind) → MayStarve p left (Some kind) → ⊥
@@ -48,7 +49,7 @@ no_piece phase.Controller left kind may = may
 no_piece phase.Answered left kind may = may
 no_piece phase.Oracle left kind may = may
 no_piece (phase.Over e) left kind may = may
-no_piece phase.Starved left kind may = may
+no_piece phase.OutOfMemory left kind may = may
 
 -- no step goes to a side
 no_steps : (kind : PieceKind) (w : Who) → destination_of kind ≡ side w → steps_of kind ≡ 0
@@ -64,23 +65,23 @@ part_at_side : (w : Who) (d : Destination) (P : Option Who → Bool → Type 0) 
 part_at_side who.Controller d P goes p = subst (λ (x : Destination). P (side_at x) (is_trace x)) goes p
 part_at_side who.Oracle d P goes p = subst (λ (x : Destination). P (side_at x) (is_trace x)) goes p
 
-module _ {State : Type 0} (k : Course) (old mid : Outside) (trace : Sink) (r : Received) (given : List Piece) (w : Who) (s core : Standing State) where
+module _ {State : Type 0} (k : Continuation) (old mid : Outside Links) (trace : Sink) (r : Received) (given : List Piece) (w : Who) (s core : CoreState State) where
   counts_line : (text : List ℕ) → HasPutOut k given s → StandsAs s core → HasPutOut k (given ++ piece piece_kind.EndLine text ∷ []) core
   counts_line text counts same = (same.0 ∙ counts.0, omega (arith, same.1, counts.1, step_count-append given (piece piece_kind.EndLine text ∷ [])))
 
   -- the run was ended by the fault of a side
-  pub fault_driven : (d : Driven) → GivesOut k r (given ++ piece piece_kind.EndLine (fault_text s w) ∷ []) (Some w) → Happens old mid r given (Some w) false → HasPutOut k given s →
+  pub fault_driven : (d : DriveEnd) → GivesOut k r (given ++ piece piece_kind.EndLine (fault_text s w) ∷ []) (Some w) → Interaction old mid r given (Some w) false → HasPutOut k given s →
       Fails s w mid.trace trace core d → IsDriven k old (record mid { trace = trace }) core d
-  fault_driven (driven.Ended e) gives happens counts fails =
-      subst (λ (x : End). IsDriven k old (record mid { trace = trace }) core (driven.Ended x)) (sym fails.0)
-      (failed r (given ++ piece piece_kind.EndLine (fault_text s w) ∷ []) w gives (line_written old mid trace r given (Some w) (fault_text s w) happens fails.3 fails.4)
+  fault_driven (drive_end.Ended e) gives interaction counts fails =
+      subst (λ (x : End). IsDriven k old (record mid { trace = trace }) core (drive_end.Ended x)) (sym fails.0)
+      (failed r (given ++ piece piece_kind.EndLine (fault_text s w) ∷ []) w gives (line_written old mid trace r given (Some w) (fault_text s w) interaction fails.3 fails.4)
       (counts_line (fault_text s w) counts fails.2) (fails.1 ∙ ap phase.Over fails.0))
-  fault_driven (driven.Untraced n) gives happens counts fails =
+  fault_driven (drive_end.TraceWriteFailed n) gives interaction counts fails =
       let part = fails.2 in
-      subst (λ (x : ℕ). IsDriven k old (record mid { trace = trace }) core (driven.Untraced x)) (sym (fails.0 ∙ ap (λ (x : ℕ). x + 1) counts.1))
+      subst (λ (x : ℕ). IsDriven k old (record mid { trace = trace }) core (drive_end.TraceWriteFailed x)) (sym (fails.0 ∙ ap (λ (x : ℕ). x + 1) counts.1))
       (untraced r (Some w) given piece_kind.EndLine part.0 part.1 (subst (λ (t : List ℕ). GivesOut k r (given ++ piece piece_kind.EndLine t ∷ []) (Some w)) part.2 gives) refl part.3
-      (line_unwritten old mid trace r given (Some w) part.0 happens part.4 fails.3) (counts_line part.0 counts fails.1))
-  fault_driven driven.Starved gives happens counts fails = absurd fails
+      (line_unwritten old mid trace r given (Some w) part.0 interaction part.4 fails.3) (counts_line part.0 counts fails.1))
+  fault_driven drive_end.OutOfMemory gives interaction counts fails = absurd fails
 
 -- a piece that is this one has its text
 line_put : (p : Option PieceKind) (text line : List ℕ) → piece_of p text ≡ piece piece_kind.EndLine line ∷ [] → (steps_in p ≡ 0) × (text ≡ line)
@@ -90,7 +91,7 @@ line_put (Some kind) text line is =
     (ap (λ (p : Piece). steps_of p.kind) one, ap (λ (p : Piece). p.bytes) one)
 
 module _ {State : Type 0} where
-  wants_memory : (s : Standing State) (w : Wants) → WantsTell s w → s.phase ≡ phase.Starved → w ≡ wants.Memory
+  wants_memory : (s : CoreState State) (w : Wants) → WantsTell s w → s.phase ≡ phase.OutOfMemory → w ≡ wants.Memory
   wants_memory s wants.Turn told starved = absurd (told (rw starved tt))
   wants_memory s wants.Controller told starved = absurd (cc (told.0, starved))
   wants_memory s wants.Oracle told starved = absurd (cc (told.0, starved))
@@ -98,95 +99,95 @@ module _ {State : Type 0} where
   wants_memory s wants.Memory told starved = refl
 
   -- memory didn't run out where a piece was put out
-  pub fed_where_put : (s new : Standing State) (w : Wants) (kind : PieceKind) → WantsTell new w → (w ≡ wants.Memory → MayStarve s.phase s.left (Some kind)) → new.phase ≢ phase.Starved
+  pub fed_where_put : (s new : CoreState State) (w : Wants) (kind : PieceKind) → WantsTell new w → (w ≡ wants.Memory → MayStarve s.phase s.left (Some kind)) → new.phase ≢ phase.OutOfMemory
   fed_where_put s new w kind told starves starved = no_piece s.phase s.left kind (starves (wants_memory new w told starved))
 
-  module _ (s new : Standing State) (e : Told) (n : ℕ) (text : List ℕ) (taken : n ≡ taken_of s e) where
-    way_without : PutsOut (play_due e n s) None text new → (new.phase ≡ phase.Starved → MayStarve s.phase s.left None) → (c o : Rest) → (new.phase ≡ phase.Starved) ⊎ (new.phase ≢ phase.Starved) →
-        (rest : Play) × (play_on (course_due s e) silence c o ≡ behind_all [] rest) × (new.phase ≢ phase.Starved → rest ≡ resume new c o) × (new.phase ≡ phase.Starved → IsUnended rest)
-    way_without out may c o (inl starved) = (play_on (course_due s e) silence c o, refl, λ fed. absurd (fed starved), λ _. due_unended e (taken_of s e) s (may starved) (received_then silence.controller c) (received_then silence.oracle o))
+  module _ (s new : CoreState State) (e : Told) (n : ℕ) (text : List ℕ) (taken : n ≡ taken_of s e) where
+    way_without : PutsOut (play_due e n s) None text new → (new.phase ≡ phase.OutOfMemory → MayStarve s.phase s.left None) → (c o : Rest) → (new.phase ≡ phase.OutOfMemory) ⊎ (new.phase ≢ phase.OutOfMemory) →
+        (rest : Play) × (play_on (continuation_due s e) silence c o ≡ pieces_then [] rest) × (new.phase ≢ phase.OutOfMemory → rest ≡ resume new c o) × (new.phase ≡ phase.OutOfMemory → IsUnended rest)
+    way_without out may c o (inl starved) = (play_on (continuation_due s e) silence c o, refl, λ fed. absurd (fed starved), λ _. due_unended e (taken_of s e) s (may starved) (received_then silence.controller c) (received_then silence.oracle o))
     way_without out may c o (inr fed) = (resume new c o, ap (λ (m : ℕ). play_due e m s c o) (sym taken) ∙ out fed c o, λ _. refl, λ starved. absurd (fed starved))
 
     -- nothing was put out
-    pub goes_without : (old : Outside) (w : Wants) → PutsOut (play_due e n s) None text new → WantsTell new w → (w ≡ wants.Memory → MayStarve s.phase s.left None) → new.plan ≡ s.plan → new.written ≡ s.written + 0 →
-        Goes (course_due s e) old old new
+    pub goes_without : (old : Outside Links) (w : Wants) → PutsOut (play_due e n s) None text new → WantsTell new w → (w ≡ wants.Memory → MayStarve s.phase s.left None) → new.plan ≡ s.plan → new.written ≡ s.written + 0 →
+        Goes (continuation_due s e) old old new
     goes_without old w out told starves plan written = record {
       received = silence;
       pieces = [];
-      happens = nothing_happens old;
+      interaction = nothing_happens old;
       counts = (plan, written);
       way = λ c o. way_without out (λ starved. starves (wants_memory new w told starved)) c o (is_starved new.phase);
     }
 
-    module _ (kind : PieceKind) (fed : new.phase ≢ phase.Starved) (out : PutsOut (play_due e n s) (Some kind) text new)
+    module _ (kind : PieceKind) (fed : new.phase ≢ phase.OutOfMemory) (out : PutsOut (play_due e n s) (Some kind) text new)
         (plan : new.plan ≡ s.plan) (written : new.written ≡ s.written + steps_of kind) where
-      way_with : (c o : Rest) → play_on (course_due s e) silence c o ≡ behind_all (piece kind text ∷ []) (resume new c o)
+      way_with : (c o : Rest) → play_on (continuation_due s e) silence c o ≡ pieces_then (piece kind text ∷ []) (resume new c o)
       way_with c o = ap (λ (m : ℕ). play_due e m s c o) (sym taken) ∙ out fed c o
 
       -- the piece that was put out was given to where it goes
-      pub goes_with : (old mid : Outside) → Happens old mid silence (piece kind text ∷ []) None false → Goes (course_due s e) old mid new
-      goes_with old mid happens = record {
+      pub goes_with : (old mid : Outside Links) → Interaction old mid silence (piece kind text ∷ []) None false → Goes (continuation_due s e) old mid new
+      goes_with old mid interaction = record {
         received = silence;
         pieces = piece kind text ∷ [];
-        happens = happens;
+        interaction = interaction;
         counts = (plan, omega (arith, written));
         way = λ c o. (resume new c o, way_with c o, λ _. refl, λ starved. absurd (fed starved));
       }
 
       -- the play begins with that piece
-      begins_with : (front rest : List ℕ) → text ≡ front ++ rest → Begins (course_due s e) silence ([] ++ piece kind (front ++ rest) ∷ [])
-      begins_with front rest is c o = (resume new c o, way_with c o ∙ ap (λ (t : List ℕ). behind_all (piece kind t ∷ []) (resume new c o)) is)
+      begins_with : (prefix rest : List ℕ) → text ≡ prefix ++ rest → Begins (continuation_due s e) silence ([] ++ piece kind (prefix ++ rest) ∷ [])
+      begins_with prefix rest is c o = (resume new c o, way_with c o ∙ ap (λ (t : List ℕ). pieces_then (piece kind t ∷ []) (resume new c o)) is)
 
       -- it could not be written to the trace
-      pub untraced_with : (old mid : Outside) (d : Driven) → destination_of kind ≡ destination.Trace → GivesPart kind text old mid →
-          d ≡ driven.Untraced (step_at_hand kind (s.written + 0)) → IsDriven (course_due s e) old mid new d
+      pub untraced_with : (old mid : Outside Links) (d : DriveEnd) → destination_of kind ≡ destination.Trace → GivesPart kind text old mid →
+          d ≡ drive_end.TraceWriteFailed (failed_step kind (s.written + 0)) → IsDriven (continuation_due s e) old mid new d
       untraced_with old mid d goes part is =
-          subst (IsDriven (course_due s e) old mid new) (sym is)
-          (untraced silence None [] kind part.0 part.1 (calm (begins_with part.0 part.1 part.2)) goes (part.3 goes) (subst (λ (x : Destination). Happens old mid silence (piece kind part.0 ∷ []) (side_at x) (is_trace x)) goes part.4) (plan, omega (arith, written)))
+          subst (IsDriven (continuation_due s e) old mid new) (sym is)
+          (untraced silence None [] kind part.0 part.1 (calm (begins_with part.0 part.1 part.2)) goes (part.3 goes) (subst (λ (x : Destination). Interaction old mid silence (piece kind part.0 ∷ []) (side_at x) (is_trace x)) goes part.4) (plan, omega (arith, written)))
 
       -- it could not be sent to its side
-      pub unsent_with : (old mid : Outside) (trace : Sink) (core : Standing State) (w : Who) (d : Driven) → destination_of kind ≡ side w → GivesPart kind text old mid →
-          Fails new w mid.trace trace core d → IsDriven (course_due s e) old (record mid { trace = trace }) core d
+      pub unsent_with : (old mid : Outside Links) (trace : Sink) (core : CoreState State) (w : Who) (d : DriveEnd) → destination_of kind ≡ side w → GivesPart kind text old mid →
+          Fails new w mid.trace trace core d → IsDriven (continuation_due s e) old (record mid { trace = trace }) core d
       unsent_with old mid trace core w d goes part fails =
           let none : steps_of kind ≡ 0 = no_steps kind w goes in
-          let line : piece piece_kind.EndLine (fault_text new w) ≡ fault_line (course_due s e) [] w =
+          let line : piece piece_kind.EndLine (fault_text new w) ≡ fault_line (continuation_due s e) [] w =
           ap (λ (p : Plan). piece piece_kind.EndLine (closing_text p (end.Device w) (new.written + 1))) plan
           ∙ ap (λ (m : ℕ). piece piece_kind.EndLine (closing_text s.plan (end.Device w) (m + 1))) (written ∙ ap (λ (m : ℕ). s.written + m) none) in
-          fault_driven (course_due s e) old mid trace silence (piece kind part.0 ∷ []) w new core d
+          fault_driven (continuation_due s e) old mid trace silence (piece kind part.0 ∷ []) w new core d
           (unsent w [] kind part.0 part.1 goes (begins_with part.0 part.1 part.2) (ap (λ (p : Piece). piece kind part.0 ∷ p ∷ []) line))
-          (part_at_side w (destination_of kind) (λ (fault : Option Who) (b : Bool). Happens old mid silence (piece kind part.0 ∷ []) fault b) goes part.4)
+          (part_at_side w (destination_of kind) (λ (fault : Option Who) (b : Bool). Interaction old mid silence (piece kind part.0 ∷ []) fault b) goes part.4)
           (plan, omega (arith, written)) fails
 
       -- it could not be given to where it goes
-      broken_off_at : (there : Destination) → destination_of kind ≡ there → (old mid : Outside) (trace : Sink) (core : Standing State) (d : Driven) → GivesPart kind text old mid →
+      broken_off_at : (there : Destination) → destination_of kind ≡ there → (old mid : Outside Links) (trace : Sink) (core : CoreState State) (d : DriveEnd) → GivesPart kind text old mid →
           ((w : Who) → destination_of kind ≡ side w → Fails new w mid.trace trace core d) →
-          ((steps : ℕ) → destination_of kind ≡ destination.Trace → new.written ≡ steps + steps_of kind → d ≡ driven.Untraced (step_at_hand kind steps)) →
+          ((steps : ℕ) → destination_of kind ≡ destination.Trace → new.written ≡ steps + steps_of kind → d ≡ drive_end.TraceWriteFailed (failed_step kind steps)) →
           (destination_of kind ≡ destination.Trace → core ≡ new) → (destination_of kind ≡ destination.Trace → trace ≡ mid.trace) →
-          IsDriven (course_due s e) old (record mid { trace = trace }) core d
+          IsDriven (continuation_due s e) old (record mid { trace = trace }) core d
       broken_off_at destination.Controller goes old mid trace core d part fails traced same_core same_trace = unsent_with old mid trace core who.Controller d goes part (fails who.Controller goes)
       broken_off_at destination.Oracle goes old mid trace core d part fails traced same_core same_trace = unsent_with old mid trace core who.Oracle d goes part (fails who.Oracle goes)
       broken_off_at destination.Trace goes old mid trace core d part fails traced same_core same_trace =
-          subst (λ (t : Sink). IsDriven (course_due s e) old (record mid { trace = t }) core d) (sym (same_trace goes))
-          (subst (λ (x : Standing State). IsDriven (course_due s e) old mid x d) (sym (same_core goes)) (untraced_with old mid d goes part (traced (s.written + 0) goes (omega (arith, written)))))
+          subst (λ (t : Sink). IsDriven (continuation_due s e) old (record mid { trace = t }) core d) (sym (same_trace goes))
+          (subst (λ (x : CoreState State). IsDriven (continuation_due s e) old mid x d) (sym (same_core goes)) (untraced_with old mid d goes part (traced (s.written + 0) goes (omega (arith, written)))))
 
-      pub broken_off : (old mid : Outside) (trace : Sink) (core : Standing State) (d : Driven) → GivesPart kind text old mid →
+      pub broken_off : (old mid : Outside Links) (trace : Sink) (core : CoreState State) (d : DriveEnd) → GivesPart kind text old mid →
           ((w : Who) → destination_of kind ≡ side w → Fails new w mid.trace trace core d) →
-          ((steps : ℕ) → destination_of kind ≡ destination.Trace → new.written ≡ steps + steps_of kind → d ≡ driven.Untraced (step_at_hand kind steps)) →
+          ((steps : ℕ) → destination_of kind ≡ destination.Trace → new.written ≡ steps + steps_of kind → d ≡ drive_end.TraceWriteFailed (failed_step kind steps)) →
           (destination_of kind ≡ destination.Trace → core ≡ new) → (destination_of kind ≡ destination.Trace → trace ≡ mid.trace) →
-          IsDriven (course_due s e) old (record mid { trace = trace }) core d
+          IsDriven (continuation_due s e) old (record mid { trace = trace }) core d
       broken_off = broken_off_at (destination_of kind) refl
 
   -- nothing could be received of a side
-  pub unheard_driven : (s core : Standing State) (old mid : Outside) (trace : Sink) (w : Who) (d : Driven) → ((c o : Rest) → IsUnended (resume s c o)) → Happens old mid silence [] (Some w) false →
-      Fails s w mid.trace trace core d → IsDriven (course_of s) old (record mid { trace = trace }) core d
-  unheard_driven s core old mid trace w d more happens fails =
+  pub unheard_driven : (s core : CoreState State) (old mid : Outside Links) (trace : Sink) (w : Who) (d : DriveEnd) → ((c o : Rest) → IsUnended (resume s c o)) → Interaction old mid silence [] (Some w) false →
+      Fails s w mid.trace trace core d → IsDriven (continuation_of s) old (record mid { trace = trace }) core d
+  unheard_driven s core old mid trace w d more interaction fails =
       let none : s.written + 1 ≡ s.written + 0 + 1 = omega arith in
-      let line : piece piece_kind.EndLine (fault_text s w) ≡ fault_line (course_of s) [] w = ap (λ (m : ℕ). piece piece_kind.EndLine (closing_text s.plan (end.Device w) m)) none in
-      fault_driven (course_of s) old mid trace silence [] w s core d
-      (unheard w [] (λ c o. (play_on (course_of s) silence c o, refl, more c o)) (ap (λ (p : Piece). p ∷ []) line)) happens (refl, omega arith) fails
+      let line : piece piece_kind.EndLine (fault_text s w) ≡ fault_line (continuation_of s) [] w = ap (λ (m : ℕ). piece piece_kind.EndLine (closing_text s.plan (end.Device w) m)) none in
+      fault_driven (continuation_of s) old mid trace silence [] w s core d
+      (unheard w [] (λ c o. (play_on (continuation_of s) silence c o, refl, more c o)) (ap (λ (p : Piece). p ∷ []) line)) interaction (refl, omega arith) fails
 
   -- a core was told of the fault of a side
-  pub fault_told : FaultsAreCuts State → (s new : Standing State) (w : Who) (a : Answer) → listens s w ≡ true → Answers s (failed_side w) a new →
+  pub fault_told : FaultsAreCuts State → (s new : CoreState State) (w : Who) (a : Answer) → listens s w ≡ true → Answers s (failed_side w) a new →
       (a.text ≡ fault_text s w) × (new.phase ≡ phase.Over (end.Device w)) × ((new.plan ≡ s.plan) × (new.written ≡ s.written))
   fault_told law s new w a hears answers =
       let cut = law s s new [] [] w a refl tt hears answers in

@@ -11,7 +11,7 @@ use Rattle.lt_loop.specs.Machine.{Instant, Rules, over, values}
 use Rattle.lt_loop.specs.Plan.{Plan}
 use Rattle.lt_loop.specs.Play.{Made, Piece, Play, Stop, controller_asked, controller_read, controller_reply, ended, ends, instant_made, made_by, needs_byte, oracle_asked, oracle_read, play_from, starves, stepped, holds}
 use Rattle.lt_loop.specs.Side.{Rest, side_answer, side_stream}
-use Rattle.lt_loop.specs.Standing.{Standing, at_hand, behind_step, resume, resume_in}
+use Rattle.lt_loop.specs.CoreState.{CoreState, at_hand, after_step, resume, resume_in}
 use Rattle.lt_loop.specs.declared.phase.Phase.{Phase}
 use Rattle.lt_loop.specs.declared.phase.Phase.TheVariants as phase
 use Rattle.lt_loop.specs.declared.setup.Talk.{Talk}
@@ -63,7 +63,7 @@ module _ {State : Type 0} where
   from_ready rules plan zero k m y c o some = absurd (omega arith)
   from_ready rules plan (suc left) k m y c o some = made_instant rules plan k (rules.instant m y) (play_from rules plan left (k + 1)) c o
 
-  resumed : (p : Phase) (s : Standing State) → MayStarve p s.left None → (c o : Rest) → IsUnended (resume_in p s c o)
+  resumed : (p : Phase) (s : CoreState State) → MayStarve p s.left None → (c o : Rest) → IsUnended (resume_in p s c o)
   resumed phase.Fresh s may c o = absurd may
   resumed phase.Ready s may c o = from_ready s.rules s.plan s.left (s.written + 1) s.machine s.inputs (side_stream s.controller c) (side_stream s.oracle o) may
   resumed phase.Made s may c o = absurd may
@@ -71,14 +71,14 @@ module _ {State : Type 0} where
   resumed phase.Answered s may c o = absurd may
   resumed phase.Oracle s may c o = absurd may
   resumed (phase.Over e) s may c o = absurd may
-  resumed phase.Starved s may c o = other_stop _ starves refl (λ e h. cc h)
+  resumed phase.OutOfMemory s may c o = other_stop _ starves refl (λ e h. cc h)
 
-  failed_unended : (s : Standing State) (w : Who) (b : Bool) (c o : Rest) → MayStarve s.phase s.left None → IsUnended (if b then ended s.plan (end.Device w) (s.written + 1) else resume s c o)
+  failed_unended : (s : CoreState State) (w : Who) (b : Bool) (c o : Rest) → MayStarve s.phase s.left None → IsUnended (if b then ended s.plan (end.Device w) (s.written + 1) else resume s c o)
   failed_unended s w true c o may = some_piece _ _ _ refl
   failed_unended s w false c o may = resumed s.phase s may c o
 
-  -- from an event on, behind which memory ran out
-  pub due_unended : (e : Told) (n : ℕ) (s : Standing State) → MayStarve s.phase s.left None → (c o : Rest) → IsUnended (play_due e n s c o)
+  -- from an event on, after which memory ran out
+  pub due_unended : (e : Told) (n : ℕ) (s : CoreState State) → MayStarve s.phase s.left None → (c o : Rest) → IsUnended (play_due e n s c o)
   due_unended turn n s may c o = resumed s.phase s may c o
   due_unended (bytes who.Controller piece) n s may c o = resumed s.phase s may _ o
   due_unended (bytes who.Oracle piece) n s may c o = resumed s.phase s may c _
@@ -87,7 +87,7 @@ module _ {State : Type 0} where
   due_unended (failed w) n s may c o = failed_unended s w (listens s w) c o may
 
   -- once it has run out
-  pub starved_unended : (p : Phase) (s : Standing State) (c o : Rest) → p ≡ phase.Starved → IsUnended (resume_in p s c o)
+  pub starved_unended : (p : Phase) (s : CoreState State) (c o : Rest) → p ≡ phase.OutOfMemory → IsUnended (resume_in p s c o)
   starved_unended phase.Fresh s c o e = absurd (cc e)
   starved_unended phase.Ready s c o e = absurd (cc e)
   starved_unended phase.Made s c o e = absurd (cc e)
@@ -95,11 +95,11 @@ module _ {State : Type 0} where
   starved_unended phase.Answered s c o e = absurd (cc e)
   starved_unended phase.Oracle s c o e = absurd (cc e)
   starved_unended (phase.Over x) s c o e = absurd (cc e)
-  starved_unended phase.Starved s c o e = other_stop _ starves refl (λ x h. cc h)
+  starved_unended phase.OutOfMemory s c o e = other_stop _ starves refl (λ x h. cc h)
 
   -- where a side is waited for
-  pub awaited_unended : (s : Standing State) (w : Who) → IsAwaited s w → (c o : Rest) → IsUnended (resume s c o)
+  pub awaited_unended : (s : CoreState State) (w : Who) → IsAwaited s w → (c o : Rest) → IsUnended (resume s c o)
   awaited_unended s who.Controller waits c o =
-      subst (λ (p : Phase). IsUnended (resume_in p s c o)) (sym waits.0) (read_controller s.plan (at_hand s) (behind_step s) (side_answer s.controller c) (side_stream s.oracle o))
+      subst (λ (p : Phase). IsUnended (resume_in p s c o)) (sym waits.0) (read_controller s.plan (at_hand s) (after_step s) (side_answer s.controller c) (side_stream s.oracle o))
   awaited_unended s who.Oracle waits c o =
-      subst (λ (p : Phase). IsUnended (resume_in p s c o)) (sym waits.0) (read_oracle s.plan (at_hand s) s.inputs (behind_step s s.inputs (side_stream s.controller c)) (side_answer s.oracle o))
+      subst (λ (p : Phase). IsUnended (resume_in p s c o)) (sym waits.0) (read_oracle s.plan (at_hand s) s.inputs (after_step s s.inputs (side_stream s.controller c)) (side_answer s.oracle o))

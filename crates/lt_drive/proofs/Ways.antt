@@ -5,28 +5,29 @@ use Rattle.lt_rif.specs.declared.end.End.TheVariants as end
 use Rattle.lt_rif.specs.declared.end.Who.{Who}
 use Rattle.lt_loop.specs.Plan.{Plan, closing_text}
 use Rattle.lt_loop.specs.Play.{Piece, Play, step_count}
-use Rattle.lt_loop.specs.Run.{behind_all}
+use Rattle.lt_loop.specs.Run.{pieces_then}
 use Rattle.lt_loop.specs.Side.{Rest}
-use Rattle.lt_loop.specs.Standing.{Standing}
+use Rattle.lt_loop.specs.CoreState.{CoreState}
 use Rattle.lt_loop.specs.declared.event.PieceKind.TheVariants as piece_kind
-use Rattle.lt_drive.specs.Drive.{Begins, BeginsUnended, Course, GivesOut, HasPutOut, IsDriven, calm, ended, failed, fault_line, play_on, starved, step_at_hand, unheard, unsent, untraced}
-use Rattle.lt_drive.specs.Outside.{Happens, Outside, Received, piece, received_then}
-use Rattle.lt_drive.specs.declared.driven.Driven.{Driven}
-use Rattle.lt_drive.specs.declared.driven.Driven.TheVariants as driven
-use Rattle.lt_drive.proofs.Happenings.{both_received, happens_both, received_both, step_count-append}
+use Rattle.lt_drive.specs.Drive.{Begins, BeginsUnended, Continuation, GivesOut, HasPutOut, IsDriven, calm, ended, failed, fault_line, play_on, starved, failed_step, unheard, unsent, untraced}
+use Rattle.lt_drive.specs.Interaction.{Interaction, Received, piece, received_then}
+use Rattle.lt_io.specs.Outside.{Links, Outside}
+use Rattle.lt_drive.specs.declared.drive_end.DriveEnd.{DriveEnd}
+use Rattle.lt_drive.specs.declared.drive_end.DriveEnd.TheVariants as drive_end
+use Rattle.lt_drive.proofs.Interactions.{both_received, happens_both, received_both, step_count-append}
 
--- behind what was received, and these pieces, stands what is left
-pub record Leads (k : Course) (received : Received) (ps : List Piece) (rest : Course) : Type 0 where
-  pub way : (c o : Rest) → play_on k received c o ≡ behind_all ps (rest.play c o)
+-- after what was received, and these pieces, stands what is left
+pub record Leads (k : Continuation) (received : Received) (ps : List Piece) (rest : Continuation) : Type 0 where
+  pub way : (c o : Rest) → play_on k received c o ≡ pieces_then ps (rest.play c o)
   pub counts : (rest.plan ≡ k.plan) × (rest.written ≡ k.written + step_count ps)
 
 -- some pieces, further ones, and a play
-pub behind_both : (ps qs : List Piece) (play : Play) → behind_all ps (behind_all qs play) ≡ behind_all (ps ++ qs) play
+pub behind_both : (ps qs : List Piece) (play : Play) → pieces_then ps (pieces_then qs play) ≡ pieces_then (ps ++ qs) play
 behind_both ps qs play = λ i. record { pieces = sym (append_assoc ps qs play.pieces) i; stop = play.stop }
 
-module _ (k rest : Course) (r : Received) (ps : List Piece) (leads : Leads k r ps rest) where
+module _ (k rest : Continuation) (r : Received) (ps : List Piece) (leads : Leads k r ps rest) where
   -- the play on all that was received
-  pub way_both : (q : Received) (c o : Rest) → play_on k (both_received r q) c o ≡ behind_all ps (play_on rest q c o)
+  pub way_both : (q : Received) (c o : Rest) → play_on k (both_received r q) c o ≡ pieces_then ps (play_on rest q c o)
   way_both q c o =
       ap (λ (x : Rest). k.play x (received_then (received_then r.oracle q.oracle) o)) (received_both r.controller q.controller c)
       ∙ ap (k.play (received_then r.controller (received_then q.controller c))) (received_both r.oracle q.oracle o)
@@ -35,12 +36,12 @@ module _ (k rest : Course) (r : Received) (ps : List Piece) (leads : Leads k r p
   pub begins_both : (q : Received) (qs : List Piece) → Begins rest q qs → Begins k (both_received r q) (ps ++ qs)
   begins_both q qs begins c o =
       let more = begins c o in
-      (more.0, way_both q c o ∙ ap (behind_all ps) more.1 ∙ behind_both ps qs more.0)
+      (more.0, way_both q c o ∙ ap (pieces_then ps) more.1 ∙ behind_both ps qs more.0)
 
   begins_unended_both : (q : Received) (qs : List Piece) → BeginsUnended rest q qs → BeginsUnended k (both_received r q) (ps ++ qs)
   begins_unended_both q qs begins c o =
       let more = begins c o in
-      (more.0, way_both q c o ∙ ap (behind_all ps) more.1 ∙ behind_both ps qs more.0, more.2)
+      (more.0, way_both q c o ∙ ap (pieces_then ps) more.1 ∙ behind_both ps qs more.0, more.2)
 
   -- the steps of all pieces
   steps_both : (qs : List Piece) → rest.written + step_count qs ≡ k.written + step_count (ps ++ qs)
@@ -55,26 +56,26 @@ module _ (k rest : Course) (r : Received) (ps : List Piece) (leads : Leads k r p
   gives_both q given _ (calm begins) = calm (begins_both q given begins)
   gives_both q given _ (unheard w qs begins is) = unheard w (ps ++ qs) (begins_unended_both q qs begins)
       (ap (λ (t : List Piece). ps ++ t) is ∙ ap (λ (p : Piece). ps ++ (qs ++ p ∷ [])) (line_both qs w) ∙ sym (append_assoc ps qs (fault_line k (ps ++ qs) w ∷ [])))
-  gives_both q given _ (unsent w qs kind front back goes begins is) = unsent w (ps ++ qs) kind front back goes
-      (subst (Begins k (both_received r q)) (sym (append_assoc ps qs (piece kind (front ++ back) ∷ []))) (begins_both q (qs ++ piece kind (front ++ back) ∷ []) begins))
-      (ap (λ (t : List Piece). ps ++ t) is ∙ ap (λ (p : Piece). ps ++ (qs ++ piece kind front ∷ p ∷ [])) (line_both qs w) ∙ sym (append_assoc ps qs (piece kind front ∷ fault_line k (ps ++ qs) w ∷ [])))
+  gives_both q given _ (unsent w qs kind prefix back goes begins is) = unsent w (ps ++ qs) kind prefix back goes
+      (subst (Begins k (both_received r q)) (sym (append_assoc ps qs (piece kind (prefix ++ back) ∷ []))) (begins_both q (qs ++ piece kind (prefix ++ back) ∷ []) begins))
+      (ap (λ (t : List Piece). ps ++ t) is ∙ ap (λ (p : Piece). ps ++ (qs ++ piece kind prefix ∷ p ∷ [])) (line_both qs w) ∙ sym (append_assoc ps qs (piece kind prefix ∷ fault_line k (ps ++ qs) w ∷ [])))
 
   module _ {State : Type 0} where
-    pub counts_both : (qs : List Piece) (core : Standing State) → HasPutOut rest qs core → HasPutOut k (ps ++ qs) core
+    pub counts_both : (qs : List Piece) (core : CoreState State) → HasPutOut rest qs core → HasPutOut k (ps ++ qs) core
     counts_both qs core counts = (counts.0 ∙ leads.counts.0, counts.1 ∙ steps_both qs)
 
     -- it was driven up to what is left, and that was driven
-    pub driven_both : (old mid new : Outside) (core : Standing State) (d : Driven) → Happens old mid r ps None false → IsDriven rest mid new core d → IsDriven k old new core d
-    driven_both old mid new core _ first (ended q qs e whole happens counts over) =
-        ended (both_received r q) (ps ++ qs) e (λ c o. way_both q c o ∙ ap (behind_all ps) (whole c o)) (happens_both old mid new r q ps qs None false first happens) (counts_both qs core counts) over
-    driven_both old mid new core _ first (failed q given w gives happens counts over) =
-        failed (both_received r q) (ps ++ given) w (gives_both q given (Some w) gives) (happens_both old mid new r q ps given (Some w) false first happens) (counts_both given core counts) over
-    driven_both old mid new core _ first (starved q qs begins happens counts fault) =
-        starved (both_received r q) (ps ++ qs) (begins_unended_both q qs begins) (happens_both old mid new r q ps qs None false first happens) (counts_both qs core counts) fault
-    driven_both old mid new core _ first (untraced q fault given kind front back gives goes some happens counts) =
-        subst (λ (n : ℕ). IsDriven k old new core (driven.Untraced (step_at_hand kind n))) (sym (steps_both given))
-        (untraced (both_received r q) fault (ps ++ given) kind front back
-        (subst (λ (t : List Piece). GivesOut k (both_received r q) t fault) (sym (append_assoc ps given (piece kind (front ++ back) ∷ []))) (gives_both q (given ++ piece kind (front ++ back) ∷ []) fault gives))
+    pub driven_both : (old mid new : Outside Links) (core : CoreState State) (d : DriveEnd) → Interaction old mid r ps None false → IsDriven rest mid new core d → IsDriven k old new core d
+    driven_both old mid new core _ first (ended q qs e whole interaction counts over) =
+        ended (both_received r q) (ps ++ qs) e (λ c o. way_both q c o ∙ ap (pieces_then ps) (whole c o)) (happens_both old mid new r q ps qs None false first interaction) (counts_both qs core counts) over
+    driven_both old mid new core _ first (failed q given w gives interaction counts over) =
+        failed (both_received r q) (ps ++ given) w (gives_both q given (Some w) gives) (happens_both old mid new r q ps given (Some w) false first interaction) (counts_both given core counts) over
+    driven_both old mid new core _ first (starved q qs begins interaction counts fault) =
+        starved (both_received r q) (ps ++ qs) (begins_unended_both q qs begins) (happens_both old mid new r q ps qs None false first interaction) (counts_both qs core counts) fault
+    driven_both old mid new core _ first (untraced q fault given kind prefix back gives goes some interaction counts) =
+        subst (λ (n : ℕ). IsDriven k old new core (drive_end.TraceWriteFailed (failed_step kind n))) (sym (steps_both given))
+        (untraced (both_received r q) fault (ps ++ given) kind prefix back
+        (subst (λ (t : List Piece). GivesOut k (both_received r q) t fault) (sym (append_assoc ps given (piece kind (prefix ++ back) ∷ []))) (gives_both q (given ++ piece kind (prefix ++ back) ∷ []) fault gives))
         goes some
-        (subst (λ (t : List Piece). Happens old new (both_received r q) t fault true) (sym (append_assoc ps given (piece kind front ∷ []))) (happens_both old mid new r q ps (given ++ piece kind front ∷ []) fault true first happens))
-        (subst (λ (t : List Piece). HasPutOut k t core) (sym (append_assoc ps given (piece kind front ∷ []))) (counts_both (given ++ piece kind front ∷ []) core counts)))
+        (subst (λ (t : List Piece). Interaction old new (both_received r q) t fault true) (sym (append_assoc ps given (piece kind prefix ∷ []))) (happens_both old mid new r q ps (given ++ piece kind prefix ∷ []) fault true first interaction))
+        (subst (λ (t : List Piece). HasPutOut k t core) (sym (append_assoc ps given (piece kind prefix ∷ []))) (counts_both (given ++ piece kind prefix ∷ []) core counts)))

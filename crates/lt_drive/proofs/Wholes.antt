@@ -7,7 +7,7 @@ use Rattle.lt_rif.specs.declared.end.Who.TheVariants as who
 use Rattle.lt_loop.specs.Play.{Play, ends}
 use Rattle.lt_loop.specs.Side.{Rest, bytes_then, unless_closed}
 use Rattle.lt_drive.specs.Drive.{ended, failed}
-use Rattle.lt_drive.specs.Outside.{IsReceived, has_failed, received_then, side}
+use Rattle.lt_drive.specs.Interaction.{IsReceived, has_failed, received_then, side}
 use Rattle.lt_drive.specs.Told.{IsGivenWhole, UndisturbedRunsAreWhole, closed}
 
 -- what is left of a link
@@ -32,11 +32,11 @@ rose_at who.Oracle before now h = h
 
 module _ {State : Type 0} where
   pub undisturbed_runs_are_whole : UndisturbedRunsAreWhole State
-  undisturbed_runs_are_whole k old new core _ c o (ended r ps e whole happens counts over) tells_c tells_o calm =
-      let at_c : closed c ≡ received_then r.controller (closed (left_of new.controller.left)) = told_then old.controller.left new.controller.left c r.controller tells_c happens.controller in
-      let at_o : closed o ≡ received_then r.oracle (closed (left_of new.oracle.left)) = told_then old.oracle.left new.oracle.left o r.oracle tells_o happens.oracle in
+  undisturbed_runs_are_whole k old new core _ c o (ended r ps e whole interaction counts over) tells_c tells_o calm =
+      let at_c : closed c ≡ received_then r.controller (closed (left_of new.inputs.controller.left)) = told_then old.inputs.controller.left new.inputs.controller.left c r.controller tells_c interaction.controller in
+      let at_o : closed o ≡ received_then r.oracle (closed (left_of new.inputs.oracle.left)) = told_then old.inputs.oracle.left new.inputs.oracle.left o r.oracle tells_o interaction.oracle in
       let is : k.play (closed c) (closed o) ≡ record { pieces = ps; stop = ends e } =
-      ap (λ (x : Rest). k.play x (closed o)) at_c ∙ ap (λ (x : Rest). k.play (received_then r.controller (closed (left_of new.controller.left))) x) at_o
-      ∙ whole (closed (left_of new.controller.left)) (closed (left_of new.oracle.left)) in
-      subst (λ (play : Play). IsGivenWhole play old new k.written core.written e) (sym is) (record { stop = refl; gives = happens.gives; steps = counts.1 })
-  undisturbed_runs_are_whole k old new core _ c o (failed r given w gives happens counts over) tells_c tells_o calm = absurd (calm w (rose_at w _ _ (happens.blames (side w))))
+      ap (λ (x : Rest). k.play x (closed o)) at_c ∙ ap (λ (x : Rest). k.play (received_then r.controller (closed (left_of new.inputs.controller.left))) x) at_o
+      ∙ whole (closed (left_of new.inputs.controller.left)) (closed (left_of new.inputs.oracle.left)) in
+      subst (λ (play : Play). IsGivenWhole play old new k.written core.written e) (sym is) (record { stop = refl; gives = interaction.gives; steps = counts.1 })
+  undisturbed_runs_are_whole k old new core _ c o (failed r given w gives interaction counts over) tells_c tells_o calm = absurd (calm w (rose_at w _ _ (interaction.blames (side w))))

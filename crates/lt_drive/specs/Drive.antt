@@ -1,23 +1,25 @@
 -- How a run is driven between what is outside and its core, and how that ends.
 use Rattle.std.specs.Prelude.{◌≡◌, ◌≢◌, ℕ, ◌+◌, ◌<◌, Bool, true, false, List, [], ◌∷◌, ◌++◌, length, None, Some}
 use Rattle.std.specs.declared.option.Option.{Option}
+use Rattle.lt_rif.specs.Trace.{end_number, step_at_hand}
 use Rattle.lt_rif.specs.declared.end.End.{End}
 use Rattle.lt_rif.specs.declared.end.End.TheVariants as end
 use Rattle.lt_rif.specs.declared.end.Who.{Who}
 use Rattle.lt_loop.specs.Plan.{Plan, closing_text}
 use Rattle.lt_loop.specs.Play.{Piece, Play, destination_of, ends, step_count, stopped}
-use Rattle.lt_loop.specs.Run.{behind_all}
+use Rattle.lt_loop.specs.Run.{pieces_then}
 use Rattle.lt_loop.specs.Side.{Rest}
-use Rattle.lt_loop.specs.Standing.{Standing, resume}
+use Rattle.lt_loop.specs.CoreState.{CoreState, resume}
 use Rattle.lt_loop.specs.declared.event.Destination.TheVariants as destination
 use Rattle.lt_loop.specs.declared.event.PieceKind.{PieceKind}
 use Rattle.lt_loop.specs.declared.event.PieceKind.TheVariants as piece_kind
 use Rattle.lt_loop.specs.declared.phase.Phase.TheVariants as phase
 use Rattle.lt_loop.specs.declared.setup.Talk.{Talk}
 use Rattle.lt_loop.specs.declared.setup.Talk.TheVariants as talk
-use Rattle.lt_drive.specs.Outside.{Outside, Received, Happens, piece, received_then, side}
-use Rattle.lt_drive.specs.declared.driven.Driven.{Driven}
-use Rattle.lt_drive.specs.declared.driven.Driven.TheVariants as driven
+use Rattle.lt_io.specs.Outside.{Links, Outside}
+use Rattle.lt_drive.specs.Interaction.{Interaction, Received, piece, received_then, side}
+use Rattle.lt_drive.specs.declared.drive_end.DriveEnd.{DriveEnd}
+use Rattle.lt_drive.specs.declared.drive_end.DriveEnd.TheVariants as drive_end
 
 -- whether a controller is told the outputs of each instant: an earlier trace that stands for it is told nothing
 abbrev pub is_told : Talk → Bool
@@ -26,7 +28,7 @@ is_told talk.Live = true
 is_told talk.Replay = false
 
 -- what is left of a run
-pub record Course : Type 0 where
+pub record Continuation : Type 0 where
   pub plan : Plan
   -- how many steps were put out before
   pub written : ℕ
@@ -34,65 +36,65 @@ pub record Course : Type 0 where
   pub play : Rest → Rest → Play
 
 -- what is left of the run of a core
-abbrev pub course_of : {State : Type 0} → Standing State → Course
-course_of s = record { plan = s.plan; written = s.written; play = resume s }
+abbrev pub continuation_of : {State : Type 0} → CoreState State → Continuation
+continuation_of s = record { plan = s.plan; written = s.written; play = resume s }
 
 -- what is put out, where this was received of the streams and this is still to come
-abbrev pub play_on : Course → Received → Rest → Rest → Play
+abbrev pub play_on : Continuation → Received → Rest → Rest → Play
 play_on k received c o = k.play (received_then received.controller c) (received_then received.oracle o)
 
--- Whatever comes behind what was received, the play begins with these pieces.
-abbrev pub Begins : Course → Received → List Piece → Type 0
-Begins k received ps = (c o : Rest) → (rest : Play) × (play_on k received c o ≡ behind_all ps rest)
+-- Whatever comes after what was received, the play begins with these pieces.
+abbrev pub Begins : Continuation → Received → List Piece → Type 0
+Begins k received ps = (c o : Rest) → (rest : Play) × (play_on k received c o ≡ pieces_then ps rest)
 
 -- a play isn't over: a piece is still to be put out, or a byte to come
 abbrev pub IsUnended : Play → Type 0
 IsUnended play = (e : End) → play ≢ stopped (ends e)
 
--- Whatever comes behind what was received, the play begins with these pieces, and isn't over behind them.
-abbrev pub BeginsUnended : Course → Received → List Piece → Type 0
-BeginsUnended k received ps = (c o : Rest) → (rest : Play) × (play_on k received c o ≡ behind_all ps rest) × IsUnended rest
+-- Whatever comes after what was received, the play begins with these pieces, and isn't over after them.
+abbrev pub BeginsUnended : Continuation → Received → List Piece → Type 0
+BeginsUnended k received ps = (c o : Rest) → (rest : Play) × (play_on k received c o ≡ pieces_then ps rest) × IsUnended rest
 
--- Whatever comes behind what was received, the play has these pieces and this end.
-abbrev pub IsWhole : Course → Received → List Piece → End → Type 0
+-- Whatever comes after what was received, the play has these pieces and this end.
+abbrev pub IsWhole : Continuation → Received → List Piece → End → Type 0
 IsWhole k received ps e = (c o : Rest) → play_on k received c o ≡ record { pieces = ps; stop = ends e }
 
--- the end line of a side's fault behind these pieces: its number is one more than the steps that were put out
-abbrev pub fault_line : Course → List Piece → Who → Piece
-fault_line k ps w = piece piece_kind.EndLine (closing_text k.plan (end.Device w) (k.written + step_count ps + 1))
+-- the end line of a side's fault after these pieces: its number is one more than the steps that were put out
+abbrev pub fault_line : Continuation → List Piece → Who → Piece
+fault_line k ps w = piece piece_kind.EndLine (closing_text k.plan (end.Device w) (end_number (end.Device w) (k.written + step_count ps)))
 
 -- Pieces that a run gives out where this was received, up to the fault of a side, if one fails. A row a way.
-pub data GivesOut (k : Course) (received : Received) (given : List Piece) : Option Who → Type 0 where
+pub data GivesOut (k : Continuation) (received : Received) (given : List Piece) : Option Who → Type 0 where
   -- no side has failed: they are the first pieces of the play
   calm : Begins k received given → GivesOut k received given None
-  -- nothing could be received of a side: behind the first pieces of the play, which isn't over, comes the end line of its fault
+  -- nothing could be received of a side: after the first pieces of the play, which isn't over, comes the end line of its fault
   unheard : (w : Who) (ps : List Piece) → BeginsUnended k received ps → given ≡ ps ++ fault_line k ps w ∷ [] → GivesOut k received given (Some w)
-  -- a piece of the play could not be sent to its side, but for a front: behind that comes the end line of its fault
-  unsent : (w : Who) (ps : List Piece) (kind : PieceKind) (front rest : List ℕ) → destination_of kind ≡ side w →
-      Begins k received (ps ++ piece kind (front ++ rest) ∷ []) → given ≡ ps ++ piece kind front ∷ fault_line k ps w ∷ [] → GivesOut k received given (Some w)
+  -- a piece of the play could not be sent to its side, but for a prefix: after that comes the end line of its fault
+  unsent : (w : Who) (ps : List Piece) (kind : PieceKind) (prefix rest : List ℕ) → destination_of kind ≡ side w →
+      Begins k received (ps ++ piece kind (prefix ++ rest) ∷ []) → given ≡ ps ++ piece kind prefix ∷ fault_line k ps w ∷ [] → GivesOut k received given (Some w)
 
--- the number of the step at hand where a piece of the trace could not be written behind so many steps: 0 in the header
-abbrev pub step_at_hand : PieceKind → ℕ → ℕ
-step_at_hand piece_kind.Header steps = 0
-step_at_hand _ steps = steps + 1
+-- the number of the step at hand where a piece of the trace could not be written after so many steps: 0 in the header
+abbrev pub failed_step : PieceKind → ℕ → ℕ
+failed_step piece_kind.Header steps = 0
+failed_step _ steps = step_at_hand steps
 
 -- The core has put out these pieces, as it counts its steps, and its plan is the same.
-abbrev pub HasPutOut : {State : Type 0} → Course → List Piece → Standing State → Type 0
+abbrev pub HasPutOut : {State : Type 0} → Continuation → List Piece → CoreState State → Type 0
 HasPutOut k ps new = (new.plan ≡ k.plan) × (new.written ≡ k.written + step_count ps)
 
 -- What is left of a run was driven from one moment to another. The core stands there, and this is how it ended. A row a way.
-pub data IsDriven {State : Type 0} (k : Course) (old new : Outside) (core : Standing State) : Driven → Type 0 where
+pub data IsDriven {State : Type 0} (k : Continuation) (old new : Outside Links) (core : CoreState State) : DriveEnd → Type 0 where
   -- the run ended: all pieces of the play on what was received were given out, and it ended as the play does
   ended : (received : Received) (ps : List Piece) (e : End) → IsWhole k received ps e →
-      Happens old new received ps None false → HasPutOut k ps core → core.phase ≡ phase.Over e → IsDriven k old new core (driven.Ended e)
+      Interaction old new received ps None false → HasPutOut k ps core → core.phase ≡ phase.Over e → IsDriven k old new core (drive_end.Ended e)
   -- a side failed, and the run ended by its fault
   failed : (received : Received) (given : List Piece) (w : Who) → GivesOut k received given (Some w) →
-      Happens old new received given (Some w) false → HasPutOut k given core → core.phase ≡ phase.Over (end.Device w) → IsDriven k old new core (driven.Ended (end.Device w))
+      Interaction old new received given (Some w) false → HasPutOut k given core → core.phase ≡ phase.Over (end.Device w) → IsDriven k old new core (drive_end.Ended (end.Device w))
   -- memory ran out in an instant: the first pieces of the play were given out, which are not all of a run that ended
   starved : (received : Received) (ps : List Piece) → BeginsUnended k received ps →
-      Happens old new received ps None false → HasPutOut k ps core → core.phase ≡ phase.Starved → IsDriven k old new core driven.Starved
-  -- a piece could not be written to the trace, but for a front that is not all of it; that may be the end line of a side's fault
-  untraced : (received : Received) (fault : Option Who) (given : List Piece) (kind : PieceKind) (front rest : List ℕ) →
-      GivesOut k received (given ++ piece kind (front ++ rest) ∷ []) fault → destination_of kind ≡ destination.Trace → 0 < length rest →
-      Happens old new received (given ++ piece kind front ∷ []) fault true → HasPutOut k (given ++ piece kind front ∷ []) core →
-      IsDriven k old new core (driven.Untraced (step_at_hand kind (k.written + step_count given)))
+      Interaction old new received ps None false → HasPutOut k ps core → core.phase ≡ phase.OutOfMemory → IsDriven k old new core drive_end.OutOfMemory
+  -- a piece could not be written to the trace, but for a prefix that is not all of it; that may be the end line of a side's fault
+  untraced : (received : Received) (fault : Option Who) (given : List Piece) (kind : PieceKind) (prefix rest : List ℕ) →
+      GivesOut k received (given ++ piece kind (prefix ++ rest) ∷ []) fault → destination_of kind ≡ destination.Trace → 0 < length rest →
+      Interaction old new received (given ++ piece kind prefix ∷ []) fault true → HasPutOut k (given ++ piece kind prefix ∷ []) core →
+      IsDriven k old new core (drive_end.TraceWriteFailed (failed_step kind (k.written + step_count given)))

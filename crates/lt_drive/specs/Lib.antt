@@ -1,6 +1,6 @@
 -- A reader of what drives a run goes from here to Drive.
--- what is outside a run, and what happens there
-pub mod Outside
+-- what goes on outside a run
+pub mod Interaction
 -- how a run is driven, and how that ends
 pub mod Drive
 -- what follows for links that tell what they have left

@@ -2,14 +2,14 @@
 
 ghost use Rattle.std.specs.Prelude.{◌≡◌, false};
 ghost use Rattle.std.specs.Io.KnownBytes.{Keeps};
-ghost use Rattle.lt_loop.specs.CoreView.{standing};
+ghost use Rattle.lt_loop.specs.CoreView.{core_state};
 ghost use Rattle.lt_loop.specs.Event.{WantsTell};
 ghost use Rattle.lt_loop.specs.Stands.{has_controller};
-ghost use Rattle.lt_drive.specs.Drive.{IsDriven, course_of, is_told};
-ghost use Rattle.lt_drive.specs.Outside.{link, sink};
+ghost use Rattle.lt_drive.specs.Drive.{IsDriven, continuation_of, is_told};
+ghost use Rattle.lt_io.specs.Outside.{linked};
 ghost use Rattle.lt_drive.specs.inner.Steps.{Falls, Steps};
 
-use crate::driven::Driven;
+use crate::drive_end::DriveEnd;
 use crate::hearing::{hear_controller, hear_oracle, tell};
 use crate::progress::Progress;
 use lt_io::{Link, Sink};
@@ -26,23 +26,17 @@ pub fn drive<M: Machine, C: Link, O: Link, S: Sink>(
     controller: &mut C,
     oracle: &mut O,
     trace: &mut S,
-) -> Driven
-    requires { WantsTell (standing core.old) Wants.Turn }
-    ensures driven { IsDriven (course_of (standing core.old))
-        (record {
-          controller = link (C.sent controller.old) (C.left controller.old) (C.faults controller.old) (C.fits controller.old);
-          oracle = link (O.sent oracle.old) (O.left oracle.old) (O.faults oracle.old) (O.fits oracle.old);
-          trace = sink (S.written trace.old) (S.faults trace.old);
-        })
-        (record {
-          controller = link (C.sent controller.new) (C.left controller.new) (C.faults controller.new) (C.fits controller.new);
-          oracle = link (O.sent oracle.new) (O.left oracle.new) (O.faults oracle.new) (O.fits oracle.new);
-          trace = sink (S.written trace.new) (S.faults trace.new);
-        })
-        (standing core.new) result }
-    ensures no_controller { has_controller (standing core.old).plan.controller ≡ false → controller.new ≡ controller.old }
-    ensures untold { is_told (standing core.old).plan.controller ≡ false → Keeps (C.sent controller.old) (C.sent controller.new) }
-    ensures no_oracle { (standing core.old).plan.has_oracle ≡ false → oracle.new ≡ oracle.old }
+) -> DriveEnd
+    requires { WantsTell (core_state core.old) Wants.Turn }
+    ensures driven { IsDriven (continuation_of (core_state core.old))
+        (linked (C.state controller.old) (O.state oracle.old) (S.state trace.old))
+        (linked (C.state controller.new) (O.state oracle.new) (S.state trace.new))
+        (core_state core.new) result }
+    ensures no_controller { has_controller (core_state core.old).plan.controller ≡ false →
+        controller.new ≡ controller.old }
+    ensures untold { is_told (core_state core.old).plan.controller ≡ false →
+        Keeps (C.state controller.old).sent (C.state controller.new).sent }
+    ensures no_oracle { (core_state core.old).plan.has_oracle ≡ false → oracle.new ≡ oracle.old }
 {
     let mut wants = Wants::Turn;
     loop {
@@ -61,29 +55,23 @@ fn step<M: Machine, C: Link, O: Link, S: Sink>(
     oracle: &mut O,
     trace: &mut S,
 ) -> Progress
-    requires { WantsTell (standing core.old) wants }
-    ensures steps { Steps (standing core.old)
-        (record {
-          controller = link (C.sent controller.old) (C.left controller.old) (C.faults controller.old) (C.fits controller.old);
-          oracle = link (O.sent oracle.old) (O.left oracle.old) (O.faults oracle.old) (O.fits oracle.old);
-          trace = sink (S.written trace.old) (S.faults trace.old);
-        })
-        (record {
-          controller = link (C.sent controller.new) (C.left controller.new) (C.faults controller.new) (C.fits controller.new);
-          oracle = link (O.sent oracle.new) (O.left oracle.new) (O.faults oracle.new) (O.fits oracle.new);
-          trace = sink (S.written trace.new) (S.faults trace.new);
-        })
-        (standing core.new) result }
-    ensures falls { Falls (standing core.old) (standing core.new) result }
-    ensures no_controller { has_controller (standing core.old).plan.controller ≡ false → controller.new ≡ controller.old }
-    ensures untold { is_told (standing core.old).plan.controller ≡ false → Keeps (C.sent controller.old) (C.sent controller.new) }
-    ensures no_oracle { (standing core.old).plan.has_oracle ≡ false → oracle.new ≡ oracle.old }
+    requires { WantsTell (core_state core.old) wants }
+    ensures steps { Steps (core_state core.old)
+        (linked (C.state controller.old) (O.state oracle.old) (S.state trace.old))
+        (linked (C.state controller.new) (O.state oracle.new) (S.state trace.new))
+        (core_state core.new) result }
+    ensures falls { Falls (core_state core.old) (core_state core.new) result }
+    ensures no_controller { has_controller (core_state core.old).plan.controller ≡ false →
+        controller.new ≡ controller.old }
+    ensures untold { is_told (core_state core.old).plan.controller ≡ false →
+        Keeps (C.state controller.old).sent (C.state controller.new).sent }
+    ensures no_oracle { (core_state core.old).plan.has_oracle ≡ false → oracle.new ≡ oracle.old }
 {
     match wants {
         Wants::Turn => tell(Event::Turn, core, controller, oracle, trace),
         Wants::Controller => hear_controller(core, controller, oracle, trace),
         Wants::Oracle => hear_oracle(core, controller, oracle, trace),
-        Wants::Nothing(end) => Progress::Over(Driven::Ended(end)),
-        Wants::Memory => Progress::Over(Driven::Starved),
+        Wants::Nothing(end) => Progress::Over(DriveEnd::Ended(end)),
+        Wants::Memory => Progress::Over(DriveEnd::OutOfMemory),
     }
 }

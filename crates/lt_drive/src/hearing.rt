@@ -2,12 +2,12 @@
 
 ghost use Rattle.std.specs.Prelude.{◌≡◌, false};
 ghost use Rattle.std.specs.Io.KnownBytes.{Keeps};
-ghost use Rattle.lt_loop.specs.CoreView.{standing};
+ghost use Rattle.lt_loop.specs.CoreView.{core_state};
 ghost use Rattle.lt_loop.specs.Event.{told, IsWanted, WantsTell};
 ghost use Rattle.lt_loop.specs.Stands.{has_controller};
-ghost use Rattle.lt_drive.specs.Drive.{course_of, is_told};
-ghost use Rattle.lt_drive.specs.Outside.{link, sink};
-ghost use Rattle.lt_drive.specs.inner.Steps.{Falls, Proceeds, course_due};
+ghost use Rattle.lt_drive.specs.Drive.{continuation_of, is_told};
+ghost use Rattle.lt_io.specs.Outside.{linked};
+ghost use Rattle.lt_drive.specs.inner.Steps.{Falls, Proceeds, continuation_due};
 
 use crate::giving::{break_off, fail, give};
 use crate::progress::Progress;
@@ -25,22 +25,15 @@ pub(crate) fn hear_controller<M: Machine, C: Link, O: Link, S: Sink>(
     oracle: &mut O,
     trace: &mut S,
 ) -> Progress
-    requires { WantsTell (standing core.old) Wants.Controller }
-    ensures proceeds { Proceeds (course_of (standing core.old))
-        (record {
-          controller = link (C.sent controller.old) (C.left controller.old) (C.faults controller.old) (C.fits controller.old);
-          oracle = link (O.sent oracle.old) (O.left oracle.old) (O.faults oracle.old) (O.fits oracle.old);
-          trace = sink (S.written trace.old) (S.faults trace.old);
-        })
-        (record {
-          controller = link (C.sent controller.new) (C.left controller.new) (C.faults controller.new) (C.fits controller.new);
-          oracle = link (O.sent oracle.new) (O.left oracle.new) (O.faults oracle.new) (O.fits oracle.new);
-          trace = sink (S.written trace.new) (S.faults trace.new);
-        })
-        (standing core.new) result }
-    ensures falls { Falls (standing core.old) (standing core.new) result }
-    ensures untold { is_told (standing core.old).plan.controller ≡ false → Keeps (C.sent controller.old) (C.sent controller.new) }
-    ensures no_oracle { (standing core.old).plan.has_oracle ≡ false → oracle.new ≡ oracle.old }
+    requires { WantsTell (core_state core.old) Wants.Controller }
+    ensures proceeds { Proceeds (continuation_of (core_state core.old))
+        (linked (C.state controller.old) (O.state oracle.old) (S.state trace.old))
+        (linked (C.state controller.new) (O.state oracle.new) (S.state trace.new))
+        (core_state core.new) result }
+    ensures falls { Falls (core_state core.old) (core_state core.new) result }
+    ensures untold { is_told (core_state core.old).plan.controller ≡ false →
+        Keeps (C.state controller.old).sent (C.state controller.new).sent }
+    ensures no_oracle { (core_state core.old).plan.has_oracle ≡ false → oracle.new ≡ oracle.old }
 {
     let mut buffer = [0; PIECE];
     match controller.recv(&mut buffer) {
@@ -63,22 +56,16 @@ pub(crate) fn hear_oracle<M: Machine, C: Link, O: Link, S: Sink>(
     oracle: &mut O,
     trace: &mut S,
 ) -> Progress
-    requires { WantsTell (standing core.old) Wants.Oracle }
-    ensures proceeds { Proceeds (course_of (standing core.old))
-        (record {
-          controller = link (C.sent controller.old) (C.left controller.old) (C.faults controller.old) (C.fits controller.old);
-          oracle = link (O.sent oracle.old) (O.left oracle.old) (O.faults oracle.old) (O.fits oracle.old);
-          trace = sink (S.written trace.old) (S.faults trace.old);
-        })
-        (record {
-          controller = link (C.sent controller.new) (C.left controller.new) (C.faults controller.new) (C.fits controller.new);
-          oracle = link (O.sent oracle.new) (O.left oracle.new) (O.faults oracle.new) (O.fits oracle.new);
-          trace = sink (S.written trace.new) (S.faults trace.new);
-        })
-        (standing core.new) result }
-    ensures falls { Falls (standing core.old) (standing core.new) result }
-    ensures no_controller { has_controller (standing core.old).plan.controller ≡ false → controller.new ≡ controller.old }
-    ensures untold { is_told (standing core.old).plan.controller ≡ false → Keeps (C.sent controller.old) (C.sent controller.new) }
+    requires { WantsTell (core_state core.old) Wants.Oracle }
+    ensures proceeds { Proceeds (continuation_of (core_state core.old))
+        (linked (C.state controller.old) (O.state oracle.old) (S.state trace.old))
+        (linked (C.state controller.new) (O.state oracle.new) (S.state trace.new))
+        (core_state core.new) result }
+    ensures falls { Falls (core_state core.old) (core_state core.new) result }
+    ensures no_controller { has_controller (core_state core.old).plan.controller ≡ false →
+        controller.new ≡ controller.old }
+    ensures untold { is_told (core_state core.old).plan.controller ≡ false →
+        Keeps (C.state controller.old).sent (C.state controller.new).sent }
 {
     let mut buffer = [0; PIECE];
     match oracle.recv(&mut buffer) {
@@ -102,23 +89,17 @@ pub(crate) fn tell<M: Machine, C: Link, O: Link, S: Sink>(
     oracle: &mut O,
     trace: &mut S,
 ) -> Progress
-    requires { IsWanted (standing core.old) (told event) }
-    ensures proceeds { Proceeds (course_due (standing core.old) (told event.entry))
-        (record {
-          controller = link (C.sent controller.old) (C.left controller.old) (C.faults controller.old) (C.fits controller.old);
-          oracle = link (O.sent oracle.old) (O.left oracle.old) (O.faults oracle.old) (O.fits oracle.old);
-          trace = sink (S.written trace.old) (S.faults trace.old);
-        })
-        (record {
-          controller = link (C.sent controller.new) (C.left controller.new) (C.faults controller.new) (C.fits controller.new);
-          oracle = link (O.sent oracle.new) (O.left oracle.new) (O.faults oracle.new) (O.fits oracle.new);
-          trace = sink (S.written trace.new) (S.faults trace.new);
-        })
-        (standing core.new) result }
-    ensures falls { Falls (standing core.old) (standing core.new) result }
-    ensures no_controller { has_controller (standing core.old).plan.controller ≡ false → controller.new ≡ controller.old }
-    ensures untold { is_told (standing core.old).plan.controller ≡ false → Keeps (C.sent controller.old) (C.sent controller.new) }
-    ensures no_oracle { (standing core.old).plan.has_oracle ≡ false → oracle.new ≡ oracle.old }
+    requires { IsWanted (core_state core.old) (told event) }
+    ensures proceeds { Proceeds (continuation_due (core_state core.old) (told event.entry))
+        (linked (C.state controller.old) (O.state oracle.old) (S.state trace.old))
+        (linked (C.state controller.new) (O.state oracle.new) (S.state trace.new))
+        (core_state core.new) result }
+    ensures falls { Falls (core_state core.old) (core_state core.new) result }
+    ensures no_controller { has_controller (core_state core.old).plan.controller ≡ false →
+        controller.new ≡ controller.old }
+    ensures untold { is_told (core_state core.old).plan.controller ≡ false →
+        Keeps (C.state controller.old).sent (C.state controller.new).sent }
+    ensures no_oracle { (core_state core.old).plan.has_oracle ≡ false → oracle.new ≡ oracle.old }
 {
     let emits = core.event(event);
     let Some(kind) = emits.piece else {

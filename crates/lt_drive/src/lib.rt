@@ -5,13 +5,13 @@
 //! links and any sink: those that tell what they hold, and those of the system, which tell nothing and may fail.
 #![tactic(auto)]
 
-mod driven;
+mod drive_end;
 mod driving;
 mod giving;
 mod hearing;
 mod laws;
 mod progress;
 
-pub use driven::Driven;
+pub use drive_end::DriveEnd;
 pub use driving::drive;
 pub use laws::undisturbed_runs_are_whole;

@@ -6,7 +6,7 @@ use Rattle.std.specs.declared.string.String.{String}
 use Rattle.std.specs.declared.alloc.Global.{Global}
 use Rattle.lt_io.specs.ScriptState.{ScriptState}
 use Rattle.lt_io.specs.MemSpawner.{first_link, without_first, lefts_of}
-use Rattle.lt_io.specs.Spawning.{Starts}
+use Rattle.lt_io.specs.Programs.{Starts}
 
 some_left_at : (b : Bool) (l : String Global × ScriptState) (ls : List (String Global × ScriptState)) (command : List ℕ) (link : ScriptState) →
     b ≡ bytes_eq (string_bytes l.0) command → (first_link ls command ≡ Some link → lefts_of ls command ≡ link.left ∷ lefts_of (without_first ls command) command) → (if b then Some l.1 else first_link ls command) ≡ Some link →

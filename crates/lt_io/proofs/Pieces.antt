@@ -11,8 +11,8 @@ drop_one_more xs n = sym (drop-drop 1 n xs)
 pub piece_taken : (left into : List ℕ) (n : ℕ) → n ≤ length left → left ≡ take n (take n left ++ drop n into) ++ drop n left
 piece_taken left into n h =
     let whole : length (take n left) ≡ n = length-take-le n left h in
-    let front : take n (take n left ++ drop n into) ≡ take n left = take-append-le n (take n left) (drop n into) (omega (arith, whole)) ∙ take_all n (take n left) (omega (arith, whole)) in
-    sym (ap (λ t. t ++ drop n left) front ∙ take-append-drop n left)
+    let prefix : take n (take n left ++ drop n into) ≡ take n left = take-append-le n (take n left) (drop n into) (omega (arith, whole)) ∙ take_all n (take n left) (omega (arith, whole)) in
+    sym (ap (λ t. t ++ drop n left) prefix ∙ take-append-drop n left)
 
 -- an empty piece comes at the end alone
 pub none_left : (left : List ℕ) (most n : ℕ) → n ≡ min most (length left) → 0 < most → n ≡ 0 → drop n left ≡ []

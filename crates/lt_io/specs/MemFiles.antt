@@ -6,6 +6,7 @@ use Rattle.std.specs.declared.string.String.{String}
 use Rattle.std.specs.declared.vec.Vec.{Vec}
 use Rattle.std.specs.declared.alloc.Global.{Global}
 use Rattle.lt_io.specs.Calls.{IsNextToFail}
+use Rattle.lt_io.specs.Files.{Files, names_of}
 use Rattle.lt_io.specs.declared.mem_files.MemFiles.{MemFiles}
 
 -- the contents of the first entry of that name
@@ -16,6 +17,11 @@ first_named (e ∷ es) name = if bytes_eq (string_bytes e.0) name then Some e.1.
 -- the contents of the file of that name
 abbrev pub content_of : MemFiles → List ℕ → Option (List ℕ)
 content_of files name = first_named files.entries.items name
+
+-- what they tell: everything
+abbrev pub files_of : MemFiles → Files
+files_of files =
+    record { contents = content_of files; asked = names_of files.asked.items; faults = files.calls.faults }
 
 -- the next call fails at that name: it is to fail, or no file has the name
 abbrev pub FailsAt : MemFiles → List ℕ → Type 0

@@ -5,6 +5,8 @@ use Rattle.std.specs.declared.option.Option.{Option}
 use Rattle.std.specs.declared.string.String.{String}
 use Rattle.std.specs.declared.alloc.Global.{Global}
 use Rattle.lt_io.specs.Calls.{IsNextToFail}
+use Rattle.lt_io.specs.Files.{names_of}
+use Rattle.lt_io.specs.Programs.{Programs}
 use Rattle.lt_io.specs.ScriptState.{ScriptState}
 use Rattle.lt_io.specs.declared.mem_spawner.MemSpawner.{MemSpawner}
 
@@ -22,6 +24,15 @@ without_first (l ∷ ls) command = if bytes_eq (string_bytes l.0) command then l
 abbrev pub lefts_of : List (String Global × ScriptState) → List ℕ → List (List ℕ)
 lefts_of [] command = []
 lefts_of (l ∷ ls) command = if bytes_eq (string_bytes l.0) command then l.1.left ∷ lefts_of ls command else lefts_of ls command
+
+-- what it tells: everything but what finished links leave behind
+abbrev pub programs_of : MemSpawner → Programs
+programs_of spawner = record {
+  coming = λ command. Some (lefts_of spawner.links.items command);
+  closed = None;
+  asked = names_of spawner.asked.items;
+  faults = spawner.calls.faults;
+}
 
 -- the next call fails at that command: it is to fail, or no link is left of the command
 abbrev pub FailsToStart : MemSpawner → List ℕ → Type 0

@@ -1,6 +1,7 @@
 -- A link in memory.
-use Rattle.std.specs.Prelude.{ℕ, ◌<◌, ◌⊎◌, List, [], ◌∷◌, length, min, max}
+use Rattle.std.specs.Prelude.{ℕ, ◌<◌, ◌⊎◌, List, [], ◌∷◌, Some, length, min, max}
 use Rattle.lt_io.specs.Calls.{IsNextToFail}
+use Rattle.lt_io.specs.Link.{Link, anything}
 use Rattle.lt_io.specs.declared.calls.Calls.{Calls}
 
 -- what clauses see of a link in memory
@@ -15,6 +16,10 @@ pub record ScriptState : Type 0 where
   pub room : ℕ
   -- the calls of `send` and `recv`
   pub calls : Calls
+
+-- what it tells: everything
+abbrev pub link_of : ScriptState → Link
+link_of link = record { sent = Some link.sent; left = Some link.left; faults = link.calls.faults; fits = anything }
 
 -- the most bytes of the next piece, where there is room for so many: those of its cut, which is 1 at least
 abbrev pub most_of : List ℕ → ℕ → ℕ

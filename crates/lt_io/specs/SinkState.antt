@@ -1,6 +1,7 @@
 -- A sink in memory.
-use Rattle.std.specs.Prelude.{ℕ, ◌≡◌, ◌⊎◌, List}
+use Rattle.std.specs.Prelude.{ℕ, ◌≡◌, ◌⊎◌, List, Some}
 use Rattle.lt_io.specs.Calls.{IsNextToFail}
+use Rattle.lt_io.specs.Sink.{Sink}
 use Rattle.lt_io.specs.declared.calls.Calls.{Calls}
 
 -- what clauses see of a sink in memory
@@ -11,6 +12,10 @@ pub record SinkState : Type 0 where
   pub room : ℕ
   -- the calls of `write`
   pub calls : Calls
+
+-- what it tells: everything
+abbrev pub sink_of : SinkState → Sink
+sink_of sink = record { written = Some sink.written; faults = sink.calls.faults }
 
 -- the next call fails: it is to fail, or no room is left
 abbrev pub Fails : SinkState → Type 0

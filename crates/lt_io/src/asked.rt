@@ -8,7 +8,8 @@ use std::alloc::Global;
 
 // Records a name. Where memory runs out, the names stay as they were.
 pub(crate) fn record(alloc: Global, name: &str, asked: &mut Vec<String>) -> Result<(), Memory>
-    ensures asks { OnOk result (names_of asked.new.items ≡ names_of asked.old.items ++ name.now ∷ []) }
+    ensures asks { OnOk result (names_of asked.new.items ≡ names_of asked.old.items ++ name.now ∷
+        []) }
     ensures none_asked { OnErr result (names_of asked.new.items ≡ names_of asked.old.items) }
 {
     let name = make_room(alloc, name, asked)?;

@@ -2,7 +2,7 @@
 
 ghost use Rattle.std.specs.Prelude.{◌≡◌, ◌≤◌, ◌↔◌, IsTrue};
 ghost use Rattle.lt_io.specs.Calls.{none_made, IsNextToFail, with_success, with_fault};
-ghost use Rattle.lt_io.specs.Spawning.{with_more};
+ghost use Rattle.lt_io.specs.Programs.{with_more};
 
 /// The calls that an object in memory answered, and which of them it is told to fail.
 #[derive(Drop)]

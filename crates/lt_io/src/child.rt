@@ -2,6 +2,7 @@
 
 ghost use Rattle.std.specs.Prelude.{◌≡◌, [], None, IfOk};
 ghost use Rattle.lt_io.specs.Files.{names_of};
+ghost use Rattle.lt_io.specs.Link.{anything};
 
 use crate::asked::make_room;
 use crate::link::Link;
@@ -28,11 +29,7 @@ pub struct Child {
 }
 
 impl Link for Child {
-    ghost sent = { λ _. None };
-
-    ghost left = { λ _. None };
-
-    ghost faults = { λ c. c.faults };
+    ghost state = { λ c. record { sent = None; left = None; faults = c.faults; fits = anything } };
 
     fn send(&mut self, bytes: &[u8]) -> Result<(), Failed> {
         let sent = self.pipes.send(bytes);
@@ -142,13 +139,12 @@ fn started<R: Processes<Started = SystemProcess>>(
 impl<'a, R: Processes<Started = SystemProcess>> Spawner for ChildSpawner<'a, R> {
     type L = Child;
 
-    ghost coming = { λ _ _. None };
-
-    ghost closed = { λ _. None };
-
-    ghost asked = { λ s. names_of s.asked.items };
-
-    ghost faults = { λ s. s.faults };
+    ghost state = { λ s. record {
+      coming = λ _. None;
+      closed = None;
+      asked = names_of s.asked.items;
+      faults = s.faults;
+    } };
 
     /// A command without a program is a fault, and so is a program that is missing or can't be started.
     fn start(&mut self, alloc: Global, command: &str) -> Result<Child, StartRefusal> {

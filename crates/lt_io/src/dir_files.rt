@@ -62,11 +62,12 @@ fn load<R: rt::Files>(
 }
 
 impl<'a, R: rt::Files> Files for DirFiles<'a, R> {
-    ghost contents = { λ _ _. None };
-
-    ghost asked = { λ f. names_of f.asked.items };
-
-    ghost faults = { λ f. f.faults };
+    ghost state = { λ f. record {
+      contents = λ _.
+          None;
+      asked = names_of f.asked.items;
+      faults = f.faults;
+    } };
 
     /// Reads one byte more than `most` at the most, so that a longer file is refused early.
     ///

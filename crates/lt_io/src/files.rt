@@ -1,9 +1,8 @@
 //! Where files come from.
 
 ghost use Rattle.std.specs.Prelude.{◌≡◌, ◌≢◌, ℕ, ◌≤◌, ◌<◌, List, [], ◌∷◌, ◌++◌, length, IfOk};
-ghost use Rattle.std.specs.declared.option.Option.{Option};
 ghost use Rattle.lt_io.specs.Causes.{Rose, WhereTold};
-ghost use Rattle.lt_io.specs.Files.{names_of};
+ghost use Rattle.lt_io.specs.Files.{Files, names_of};
 
 use crate::asked::record;
 use std::alloc::Global;
@@ -25,34 +24,34 @@ pub enum FileRefusal {
 
 /// Files by name.
 pub trait Files {
-    // the contents by name, where they are told
-    ghost contents: { Self → List ℕ → Option (List ℕ) };
-
-    // the names that were asked for, the last one at the end
-    ghost asked: { Self → List (List ℕ) };
-
-    // how many calls failed, up to the greatest number of 64 bits
-    ghost faults: { Self → ℕ };
+    // what they tell of themselves
+    ghost state: { Self → Files };
 
     /// Reads the whole file `name`, of `most` bytes at most. A longer one is `TooLong`.
     ///
     /// The name is recorded among those that were asked for, but not where the answer is `Memory`.
     /// `Failed` comes only where the count of faults rose, and any other answer leaves it as it was.
     fn read(&mut self, alloc: Global, name: &str, most: usize) -> Result<Vec<u8>, FileRefusal>
-        ensures told { IfOk result (λ v. WhereTold (contents self.old name.now) (λ bytes. v.items ≡ bytes)) }
+        ensures told { IfOk result (λ v.
+            WhereTold ((state self.old).contents name.now) (λ bytes. v.items ≡ bytes)) }
         ensures within { IfOk result (λ v. length v.items ≤ most) }
         ensures too_long { result ≡ Err FileRefusal.TooLong →
-            WhereTold (contents self.old name.now) (λ bytes. most < length bytes) }
-        ensures kept { (other : List ℕ) → contents self.new other ≡ contents self.old other }
+            WhereTold ((state self.old).contents name.now) (λ bytes. most < length bytes) }
+        ensures kept { (other : List ℕ) →
+            (state self.new).contents other ≡ (state self.old).contents other }
 
         // The name is recorded, but not where memory ran out.
-        ensures asks { result ≢ Err FileRefusal.Memory → asked self.new ≡ asked self.old ++ name.now ∷ [] }
-        ensures none_asked { result ≡ Err FileRefusal.Memory → asked self.new ≡ asked self.old }
+        ensures asks { result ≢ Err FileRefusal.Memory →
+            (state self.new).asked ≡ (state self.old).asked ++ name.now ∷ [] }
+        ensures none_asked { result ≡ Err FileRefusal.Memory →
+            (state self.new).asked ≡ (state self.old).asked }
 
         // The count of faults never falls, a failure raises it, and nothing else changes it.
-        ensures later { faults self.old ≤ faults self.new }
-        ensures cause { result ≡ Err FileRefusal.Failed → Rose (faults self.old) (faults self.new) }
-        ensures calm { result ≢ Err FileRefusal.Failed → faults self.new ≡ faults self.old };
+        ensures later { (state self.old).faults ≤ (state self.new).faults }
+        ensures cause { result ≡ Err FileRefusal.Failed →
+            Rose (state self.old).faults (state self.new).faults }
+        ensures calm { result ≢ Err FileRefusal.Failed →
+            (state self.new).faults ≡ (state self.old).faults };
 }
 
 // Records the name that a call asked for, and hands on what it answers. Where memory runs out, the
@@ -67,7 +66,8 @@ pub(crate) fn recorded(
 
     ensures asks { result ≢ Err FileRefusal.Memory →
         names_of asked.new.items ≡ names_of asked.old.items ++ name.now ∷ [] }
-    ensures none_asked { result ≡ Err FileRefusal.Memory → names_of asked.new.items ≡ names_of asked.old.items }
+    ensures none_asked { result ≡ Err FileRefusal.Memory →
+        names_of asked.new.items ≡ names_of asked.old.items }
 {
     if let Err(FileRefusal::Memory) = answer {
         return Err(FileRefusal::Memory);

@@ -4,7 +4,7 @@ ghost use Rattle.std.specs.Prelude.{◌≡◌, ◌≢◌, ◌≤◌, ◌<◌, �
 ghost use Rattle.lt_io.specs.Calls.{with_success, with_fault};
 ghost use Rattle.lt_io.specs.Causes.{Rose, WhereTold};
 ghost use Rattle.lt_io.specs.Files.{names_of};
-ghost use Rattle.lt_io.specs.MemFiles.{first_named, content_of, FailsAt};
+ghost use Rattle.lt_io.specs.MemFiles.{first_named, content_of, files_of, FailsAt};
 
 use crate::calls::Calls;
 use crate::files::{FileRefusal, Files, recorded};
@@ -24,7 +24,8 @@ pub struct MemFiles {
 // The first file of that name.
 fn found<'a>(entries: &'a [(String, Vec<u8>)], name: &str) -> Option<&'a Vec<u8>>
     ensures none { IfNone result (first_named entries.now name.now ≡ None) }
-    ensures some { IfSome result (λ bytes. first_named entries.now name.now ≡ Some bytes.now.items) }
+    ensures some { IfSome result (λ bytes. first_named entries.now name.now ≡
+        Some bytes.now.items) }
 {
     for entry in entries {
         if entry.0.as_str() == name {
@@ -58,11 +59,7 @@ impl MemFiles {
 }
 
 impl Files for MemFiles {
-    ghost contents = { λ f name. content_of f name };
-
-    ghost asked = { λ f. names_of f.asked.items };
-
-    ghost faults = { λ f. f.calls.faults };
+    ghost state = { λ f. files_of f };
 
     /// Reads the first file of that name.
     ///
@@ -70,7 +67,8 @@ impl Files for MemFiles {
     /// where it does not fail and the file has more than `most` bytes. Any answer may yield to
     /// `Memory`, which leaves everything as it was.
     fn read(&mut self, alloc: Global, name: &str, most: usize) -> Result<Vec<u8>, FileRefusal>
-        ensures told { IfOk result (λ v. WhereTold (content_of self.old name.now) (λ bytes. v.items ≡ bytes)) }
+        ensures told { IfOk result (λ v.
+            WhereTold (content_of self.old name.now) (λ bytes. v.items ≡ bytes)) }
         ensures within { IfOk result (λ v. length v.items ≤ most) }
         ensures too_long { result ≡ Err FileRefusal.TooLong →
             WhereTold (content_of self.old name.now) (λ bytes. most < length bytes) }
@@ -80,8 +78,10 @@ impl Files for MemFiles {
         ensures none_asked { result ≡ Err FileRefusal.Memory →
             names_of self.new.asked.items ≡ names_of self.old.asked.items }
         ensures later { self.old.calls.faults ≤ self.new.calls.faults }
-        ensures cause { result ≡ Err FileRefusal.Failed → Rose self.old.calls.faults self.new.calls.faults }
-        ensures calm { result ≢ Err FileRefusal.Failed → self.new.calls.faults ≡ self.old.calls.faults }
+        ensures cause { result ≡ Err FileRefusal.Failed →
+            Rose self.old.calls.faults self.new.calls.faults }
+        ensures calm { result ≢ Err FileRefusal.Failed →
+            self.new.calls.faults ≡ self.old.calls.faults }
 
         // Beyond the trait: which calls fail, that the others find the file, and what each call leaves.
         ensures fails { result ≢ Err FileRefusal.Memory →
@@ -90,7 +90,8 @@ impl Files for MemFiles {
         ensures entries { self.new.entries ≡ self.old.entries }
         ensures success { result ≢ Err FileRefusal.Memory → result ≢ Err FileRefusal.Failed →
             self.new.calls ≡ with_success self.old.calls }
-        ensures fault { result ≡ Err FileRefusal.Failed → self.new.calls ≡ with_fault self.old.calls }
+        ensures fault { result ≡ Err FileRefusal.Failed →
+            self.new.calls ≡ with_fault self.old.calls }
         ensures none_called { result ≡ Err FileRefusal.Memory → self.new.calls ≡ self.old.calls }
     {
         let copied = self.copied(alloc, name, most);

@@ -4,7 +4,7 @@ ghost use Rattle.std.specs.Prelude.{◌≡◌, ◌+◌, ◌-◌, ◌<◌, ◌≤
 ghost use Rattle.std.specs.Io.KnownBytes.{WriteAppends};
 ghost use Rattle.lt_io.specs.Calls.{none_made, with_success, with_fault};
 ghost use Rattle.lt_io.specs.Causes.{HasCause};
-ghost use Rattle.lt_io.specs.SinkState.{SinkState, Fails};
+ghost use Rattle.lt_io.specs.SinkState.{SinkState, Fails, sink_of};
 
 use crate::calls::Calls;
 use crate::memory::Memory;
@@ -64,9 +64,7 @@ impl MemSink {
 }
 
 impl Sink for MemSink {
-    ghost written = { λ s. Some s.written };
-
-    ghost faults = { λ s. s.calls.faults };
+    ghost state = { λ s. sink_of s };
 
     /// Takes as much of the piece as there is room for, which falls by as much.
     ///
@@ -75,7 +73,8 @@ impl Sink for MemSink {
         requires { 0 < length bytes.now }
         ensures some { IfOk result (λ n. 0 < n) }
         ensures within { IfOk result (λ n. n ≤ length bytes.now) }
-        ensures appends { WriteAppends (Some self.old.written) (Some self.new.written) result bytes.now }
+        ensures appends { WriteAppends (Some self.old.written) (Some self.new.written) result
+            bytes.now }
         ensures cause { HasCause self.old.calls.faults self.new.calls.faults result }
 
         // Beyond the trait: which calls fail, how much the others take, and what each call leaves.
@@ -86,7 +85,8 @@ impl Sink for MemSink {
           room = self.old.room - n;
           calls = with_success self.old.calls;
         }) }
-        ensures refused { OnErr result (self.new ≡ record self.old { calls = with_fault self.old.calls }) }
+        ensures refused { OnErr result (self.new ≡
+            record self.old { calls = with_fault self.old.calls }) }
     {
         if self.room == 0 || self.calls.is_next_to_fail() {
             self.calls.count_fault();

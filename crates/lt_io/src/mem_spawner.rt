@@ -1,11 +1,10 @@
 //! Links in memory, by command.
 
-ghost use Rattle.std.specs.Prelude.{◌≡◌, ◌≢◌, ◌≤◌, ◌↔◌, ℕ, List, [], ◌∷◌, ◌++◌, None, Some, IfNone, IfSome, IfOk, OnErr};
+ghost use Rattle.std.specs.Prelude.{◌≡◌, ◌≢◌, ◌↔◌, [], None, Some, IfNone, IfSome, IfOk, OnErr};
 ghost use Rattle.lt_io.specs.Calls.{IsNextToFail, none_made, with_success, with_fault};
-ghost use Rattle.lt_io.specs.Causes.{Rose, WhereTold};
-ghost use Rattle.lt_io.specs.Files.{names_of};
-ghost use Rattle.lt_io.specs.MemSpawner.{first_link, without_first, lefts_of, FailsToStart};
-ghost use Rattle.lt_io.specs.Spawning.{Closes, Starts, with_more};
+ghost use Rattle.lt_io.specs.MemSpawner.{FailsToStart, first_link, programs_of, without_first};
+ghost use Rattle.lt_io.specs.Programs.{IsFinished, IsStarted, IsUnstarted, Same, with_more};
+ghost use Rattle.lt_io.specs.ScriptState.{link_of};
 
 use crate::asked::record;
 use crate::calls::Calls;
@@ -30,7 +29,8 @@ fn take_first(links: &mut Vec<(String, ScriptLink)>, command: &str) -> Option<Sc
     ensures none { IfNone result (first_link links.old.items command.now ≡ None) }
     ensures kept { IfNone result (links.new.items ≡ links.old.items) }
     ensures some { IfSome result (λ link. first_link links.old.items command.now ≡ Some link) }
-    ensures taken { IfSome result (λ _. links.new.items ≡ without_first links.old.items command.now) }
+    ensures taken { IfSome result (λ _. links.new.items ≡
+        without_first links.old.items command.now) }
 {
     for place in 0..links.len() {
         if links[place].0.as_str() == command {
@@ -45,8 +45,10 @@ impl MemSpawner {
     fn next_link(&mut self, command: &str) -> Option<ScriptLink>
         ensures none { IfNone result (FailsToStart self.old command.now) }
         ensures kept { IfNone result (self.new.links.items ≡ self.old.links.items) }
-        ensures some { IfSome result (λ link. first_link self.old.links.items command.now ≡ Some link) }
-        ensures taken { IfSome result (λ _. self.new.links.items ≡ without_first self.old.links.items command.now) }
+        ensures some { IfSome result (λ link. first_link self.old.links.items command.now ≡
+            Some link) }
+        ensures taken { IfSome result (λ _. self.new.links.items ≡
+            without_first self.old.links.items command.now) }
         ensures calm { IfSome result (λ _. ¬ (IsNextToFail self.old.calls)) }
         ensures calls { self.new.calls ≡ self.old.calls }
         ensures asked { self.new.asked ≡ self.old.asked }
@@ -61,44 +63,32 @@ impl MemSpawner {
 impl Spawner for MemSpawner {
     type L = ScriptLink;
 
-    ghost coming = { λ s command. Some (lefts_of s.links.items command) };
-
-    ghost closed = { λ _. None };
-
-    ghost asked = { λ s. names_of s.asked.items };
-
-    ghost faults = { λ s. s.calls.faults };
+    ghost state = { λ s. programs_of s };
 
     /// Gives out the first link of that command, which was sent nothing, and whose calls are counted anew.
     ///
     /// It fails exactly where the call is to fail or no link of the command is left. Any answer may yield to
     /// `Memory`, which leaves everything as it was.
     fn start(&mut self, alloc: Global, command: &str) -> Result<ScriptLink, StartRefusal>
-        ensures starts { IfOk result (λ link. Starts (Some (lefts_of self.old.links.items command.now))
-            (Some (lefts_of self.new.links.items command.now)) (Some link.left)) }
-        ensures others { (other : List ℕ) → other ≢ command.now →
-            Some (lefts_of self.new.links.items other) ≡ Some (lefts_of self.old.links.items other) }
-        ensures refused { OnErr result ((other : List ℕ) →
-            Some (lefts_of self.new.links.items other) ≡ Some (lefts_of self.old.links.items other)) }
-        ensures unsent { IfOk result (λ link. WhereTold (Some link.sent) (λ bytes. bytes ≡ [])) }
-        ensures faultless { IfOk result (λ link. link.calls.faults ≡ 0) }
-        ensures asks { result ≢ Err StartRefusal.Memory →
-            names_of self.new.asked.items ≡ names_of self.old.asked.items ++ command.now ∷ [] }
-        ensures none_asked { result ≡ Err StartRefusal.Memory →
-            names_of self.new.asked.items ≡ names_of self.old.asked.items }
-        ensures later { self.old.calls.faults ≤ self.new.calls.faults }
-        ensures cause { result ≡ Err StartRefusal.Failed → Rose self.old.calls.faults self.new.calls.faults }
-        ensures calm { result ≢ Err StartRefusal.Failed → self.new.calls.faults ≡ self.old.calls.faults }
+        ensures started { IfOk result (λ link.
+            IsStarted command.now (programs_of self.old) (programs_of self.new) (link_of link)) }
+        ensures failed { result ≡ Err StartRefusal.Failed →
+            IsUnstarted command.now (programs_of self.old) (programs_of self.new) }
+        ensures memory { result ≡ Err StartRefusal.Memory →
+            Same (programs_of self.old) (programs_of self.new) }
 
         // Beyond the trait: which calls fail, which link is given out, and what each call leaves.
         ensures fails { result ≢ Err StartRefusal.Memory →
             ((result ≡ Err StartRefusal.Failed) ↔ FailsToStart self.old command.now) }
-        ensures first { IfOk result (λ link. IfSome (first_link self.old.links.items command.now) (λ before.
+        ensures first { IfOk result (λ link.
+            IfSome (first_link self.old.links.items command.now) (λ before.
             link ≡ record before { sent = []; calls = none_made before.calls.failing })) }
-        ensures taken { IfOk result (λ _. self.new.links.items ≡ without_first self.old.links.items command.now) }
+        ensures taken { IfOk result (λ _. self.new.links.items ≡
+            without_first self.old.links.items command.now) }
         ensures kept { OnErr result (self.new.links.items ≡ self.old.links.items) }
         ensures success { IfOk result (λ _. self.new.calls ≡ with_success self.old.calls) }
-        ensures fault { result ≡ Err StartRefusal.Failed → self.new.calls ≡ with_fault self.old.calls }
+        ensures fault { result ≡ Err StartRefusal.Failed →
+            self.new.calls ≡ with_fault self.old.calls }
         ensures none_called { result ≡ Err StartRefusal.Memory → self.new.calls ≡ self.old.calls }
     {
         if record(alloc, command, &mut self.asked).is_err() {
@@ -115,12 +105,7 @@ impl Spawner for MemSpawner {
 
     /// Adds the link's faults to the count. The link is dropped.
     fn finish(&mut self, link: ScriptLink)
-        ensures closes { Closes None None (record { sent = Some link.sent; faults = link.calls.faults }) }
-        ensures adds { with_more self.old.calls.faults link.calls.faults ≤ self.new.calls.faults }
-        ensures later { self.old.calls.faults ≤ self.new.calls.faults }
-        ensures none_started { (command : List ℕ) →
-            Some (lefts_of self.new.links.items command) ≡ Some (lefts_of self.old.links.items command) }
-        ensures none_asked { names_of self.new.asked.items ≡ names_of self.old.asked.items }
+        ensures finished { IsFinished (programs_of self.old) (programs_of self.new) (link_of link) }
 
         // Beyond the trait: the count is all that changes, and nothing else is added to it.
         ensures counted { self.new ≡ record self.old {

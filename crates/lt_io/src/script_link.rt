@@ -5,8 +5,8 @@ ghost use Rattle.std.specs.Io.{ReadsAtMost};
 ghost use Rattle.std.specs.Io.KnownBytes.{Appends, Keeps, ReadConsumes};
 ghost use Rattle.lt_io.specs.Calls.{IsNextToFail, none_made, with_success, with_fault};
 ghost use Rattle.lt_io.specs.Causes.{HasCause};
-ghost use Rattle.lt_io.specs.Sending.{AppendsFront};
-ghost use Rattle.lt_io.specs.ScriptState.{ScriptState, FailsToSend, most_of, piece_length};
+ghost use Rattle.lt_io.specs.Sending.{AppendsPrefix};
+ghost use Rattle.lt_io.specs.ScriptState.{ScriptState, FailsToSend, link_of, most_of, piece_length};
 
 use crate::calls::Calls;
 use crate::link::Link;
@@ -41,13 +41,14 @@ impl Model for ScriptLink {
       calls = l.calls;
     } };
 
-    ghost invariant = { λ l. (l.given ≤ vec_len l.bytes) × (l.used ≤ vec_len l.cuts) × (vec_len l.sent + l.room ≤ vec_capacity l.sent) };
+    ghost invariant = { λ l. (l.given ≤ vec_len l.bytes) × (l.used ≤ vec_len l.cuts) ×
+        (vec_len l.sent + l.room ≤ vec_capacity l.sent) };
 }
 
 impl ScriptLink {
     /// A link that gives `left` and then ends. It takes `room` bytes, which it reserves.
     ///
-    /// `cuts` has the most bytes of each piece in turn, where a cut of 0 counts as 1; behind the last cut a piece
+    /// `cuts` has the most bytes of each piece in turn, where a cut of 0 counts as 1; after the last cut a piece
     /// is as long as there is room for. `failing` holds the numbers of the calls that are to fail, where `send`
     /// and `recv` are counted together and the first call is number 0.
     ///
@@ -116,11 +117,7 @@ impl ScriptLink {
 }
 
 impl Link for ScriptLink {
-    ghost sent = { λ l. Some l.sent };
-
-    ghost left = { λ l. Some l.left };
-
-    ghost faults = { λ l. l.calls.faults };
+    ghost state = { λ l. link_of l };
 
     /// Sends as much as there is room for, which falls by as much.
     ///
@@ -128,7 +125,8 @@ impl Link for ScriptLink {
     /// then what fits is sent.
     fn send(&mut self, bytes: &[u8]) -> Result<(), Failed>
         ensures all { OnOk result (Appends (Some self.old.sent) (Some self.new.sent) bytes.now) }
-        ensures front { OnErr result (AppendsFront (Some self.old.sent) (Some self.new.sent) bytes.now) }
+        ensures prefix { OnErr result
+            (AppendsPrefix (Some self.old.sent) (Some self.new.sent) bytes.now) }
         ensures stays { Keeps (Some self.old.left) (Some self.new.left) }
         ensures cause { HasCause self.old.calls.faults self.new.calls.faults result }
 
@@ -139,12 +137,14 @@ impl Link for ScriptLink {
           room = self.old.room - length bytes.now;
           calls = with_success self.old.calls;
         }) }
-        ensures refused { IsNextToFail self.old.calls → self.new ≡ record self.old { calls = with_fault self.old.calls } }
-        ensures full { ¬ (IsNextToFail self.old.calls) → self.old.room < length bytes.now → self.new ≡ record self.old {
-          sent = self.old.sent ++ take self.old.room bytes.now;
-          room = 0;
-          calls = with_fault self.old.calls;
-        } }
+        ensures refused { IsNextToFail self.old.calls →
+            self.new ≡ record self.old { calls = with_fault self.old.calls } }
+        ensures full { ¬ (IsNextToFail self.old.calls) → self.old.room < length bytes.now →
+            self.new ≡ record self.old {
+              sent = self.old.sent ++ take self.old.room bytes.now;
+              room = 0;
+              calls = with_fault self.old.calls;
+            } }
     {
         if self.calls.is_next_to_fail() {
             self.calls.count_fault();
@@ -163,7 +163,7 @@ impl Link for ScriptLink {
 
     /// Gives the next piece, as long as its cut, the room and what is left let it be.
     ///
-    /// It fails exactly where the call is to fail, and then neither bytes nor a cut are used. Behind the piece
+    /// It fails exactly where the call is to fail, and then neither bytes nor a cut are used. After the piece
     /// `into` stays as it was.
     fn recv(&mut self, into: &mut [u8]) -> Result<usize, Failed>
         requires { 0 < length into.old }
@@ -181,7 +181,8 @@ impl Link for ScriptLink {
           cuts = drop 1 self.old.cuts;
           calls = with_success self.old.calls;
         }) }
-        ensures refused { OnErr result (self.new ≡ record self.old { calls = with_fault self.old.calls }) }
+        ensures refused { OnErr result (self.new ≡
+            record self.old { calls = with_fault self.old.calls }) }
         ensures untouched { OnErr result (into.new ≡ into.old) }
     {
         if self.calls.is_next_to_fail() {

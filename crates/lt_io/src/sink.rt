@@ -1,9 +1,9 @@
 //! Where bytes go.
 
-ghost use Rattle.std.specs.Prelude.{ℕ, ◌<◌, ◌≤◌, List, length, IfOk};
-ghost use Rattle.std.specs.declared.option.Option.{Option};
+ghost use Rattle.std.specs.Prelude.{◌<◌, ◌≤◌, length, IfOk};
 ghost use Rattle.std.specs.Io.KnownBytes.{WriteAppends};
 ghost use Rattle.lt_io.specs.Causes.{HasCause};
+ghost use Rattle.lt_io.specs.Sink.{Sink};
 
 use thiserror::Error;
 
@@ -14,11 +14,8 @@ pub struct Failed;
 
 /// A place that takes bytes.
 pub trait Sink {
-    // the bytes taken so far, where they are told
-    ghost written: { Self → Option (List ℕ) };
-
-    // how many calls failed, up to the greatest number of 64 bits
-    ghost faults: { Self → ℕ };
+    // what it tells of itself
+    ghost state: { Self → Sink };
 
     /// Offers a piece that is not empty, and answers how many of its first bytes were taken: one at
     /// least, and perhaps fewer than all. The rest may be offered again.
@@ -29,6 +26,7 @@ pub trait Sink {
         requires { 0 < length bytes.now }
         ensures some { IfOk result (λ n. 0 < n) }
         ensures within { IfOk result (λ n. n ≤ length bytes.now) }
-        ensures appends { WriteAppends (written self.old) (written self.new) result bytes.now }
-        ensures cause { HasCause (faults self.old) (faults self.new) result };
+        ensures appends { WriteAppends (state self.old).written (state self.new).written result
+            bytes.now }
+        ensures cause { HasCause (state self.old).faults (state self.new).faults result };
 }

@@ -1,6 +1,7 @@
 //! A link over a reader and a writer of the system.
 
 ghost use Rattle.std.specs.Prelude.{◌≡◌};
+ghost use Rattle.lt_io.specs.Link.{anything};
 
 use crate::link::Link;
 use crate::putting::put;
@@ -39,11 +40,12 @@ impl<R: Read + Drop, W: Write + Drop> StdLink<R, W> {
 }
 
 impl<R: Read + Drop, W: Write + Drop> Link for StdLink<R, W> {
-    ghost sent = { λ l. W.contents l.sink.writer };
-
-    ghost left = { λ l. R.remaining l.reader };
-
-    ghost faults = { λ l. l.sink.faults };
+    ghost state = { λ l. record {
+      sent = W.contents l.sink.writer;
+      left = R.remaining l.reader;
+      faults = l.sink.faults;
+      fits = anything;
+    } };
 
     /// An error of the writer is a fault, and so is a write that takes nothing.
     fn send(&mut self, bytes: &[u8]) -> Result<(), Failed> {

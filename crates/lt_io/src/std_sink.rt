@@ -26,9 +26,7 @@ impl<W: Write + Drop> StdSink<W> {
 }
 
 impl<W: Write + Drop> Sink for StdSink<W> {
-    ghost written = { λ s. W.contents s.writer };
-
-    ghost faults = { λ s. s.faults };
+    ghost state = { λ s. record { written = W.contents s.writer; faults = s.faults } };
 
     /// An error of the writer is a fault, and so is a write that takes nothing.
     fn write(&mut self, bytes: &[u8]) -> Result<usize, Failed> {

@@ -43,9 +43,9 @@ go_closes (refused f place) left go closed on = tt
 words_close : (r : Begun) (ws : Words) → Closes (reply_in true r ws)
 words_close r (last text) =
     unless_long (nat_le longest (r.taken + length text)) fault.TooLong r.place _ (stop_closes (after_word r text true) (r.taken + length text) (record { place = r.place + r.taken + length text; bytes = []; is_closed = true }) refl)
-words_close r (word text blank behind ws) =
+words_close r (word text blank after ws) =
     unless_long (nat_lt longest (r.taken + length text + 1)) fault.TooLong r.place _
-    (go_closes (after_word r text (blank == 10)) (record { place = r.place + r.taken + length text + 1; bytes = behind; is_closed = true }) (λ next. reply_in true next ws) refl (λ next. words_close next ws))
+    (go_closes (after_word r text (blank == 10)) (record { place = r.place + r.taken + length text + 1; bytes = after; is_closed = true }) (λ next. reply_in true next ws) refl (λ next. words_close next ws))
 
 reply_closes : (decimals : ℕ) (slots : List Slot) (s : Stream) → s.is_closed ≡ true → Closes (reply_of decimals slots s)
 reply_closes decimals [] s closed = closed

@@ -123,7 +123,7 @@ word_fits r p false m at left values go follows on is = go_fits r p at left valu
 reply_fits : (closed : Bool) (r : Begun) (ws : Words) (values : List Value) (left : Stream) → reply_in closed r ws ≡ whole values left → FitsIn r values
 reply_fits closed r (last text) values left is =
     last_fits r (after_word r text true) _ closed _ r.place _ left values (after_follows r text true r.is_comment refl) is
-reply_fits closed r (word text blank behind ws) values left is =
+reply_fits closed r (word text blank after ws) values left is =
     word_fits r (after_word r text (blank == 10)) _ r.place _ left values (λ next. reply_in closed next ws) (after_follows r text (blank == 10) r.is_comment refl)
     (λ next found. reply_fits closed next ws values left found) is
 

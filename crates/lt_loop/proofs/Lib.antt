@@ -2,7 +2,7 @@ pub mod FirstValues
 pub mod Rooms
 pub mod Fittings
 pub mod TextLemmas
-pub mod StandingLemmas
+pub mod CoreStateLemmas
 pub mod GoingOnLemmas
 pub mod RunLemmas
 pub mod GrowingLemmas

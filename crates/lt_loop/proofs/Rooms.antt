@@ -22,7 +22,7 @@ written_are_sized : (writes_locals : Bool) (locals : List (Option Value)) → Ar
 written_are_sized true locals sized = sized
 written_are_sized false locals sized = tt
 
--- a step, with an end line behind it
+-- a step, with an end line after it
 pub last_step_fits : RoomIsEnough → (w : Writing) (number : ℕ) (outputs inputs : List Value) (locals : List (Option Value)) (e : End) (names : List (List ℕ))
     → w.decimals ≤ most_decimals → number < 2 ^ 64 → AreSized outputs → AreSized inputs → AreLocalsSized locals → IsEndSized e
     → length (step_in w number outputs inputs locals) + length (end_text e names number) ≤ room_for (length w.all) (sum_by (λ name. length name) names)

@@ -10,9 +10,9 @@ use Rattle.lt_rif.specs.declared.end.Who.TheVariants as who
 use Rattle.lt_loop.specs.Event.{Told, turn, bytes, cuts, ended_side, failed, fed, play_due, steps_in, taken_of, MayStarve, WantsTell}
 use Rattle.lt_loop.specs.Plan.{closing_text}
 use Rattle.lt_loop.specs.Play.{Play, Piece, Stop, piece_then, ended, stopped, needs_byte, ends, step_count}
-use Rattle.lt_loop.specs.Run.{Answer, Answers, Runs, taken_bytes, piece_of, pieces_of, behind_all, StopsWith, EndsAreFinal, EventsAreThePlay, FaultsAreCuts, RunsEnd, StepsAreCounted, TurnsGoOn, WantsAreTheStop}
+use Rattle.lt_loop.specs.Run.{Answer, Answers, Runs, taken_bytes, piece_of, pieces_of, pieces_then, StopsWith, EndsAreFinal, EventsAreThePlay, FaultsAreCuts, RunsEnd, StepsAreCounted, TurnsGoOn, WantsAreTheStop}
 use Rattle.lt_loop.specs.Side.{Rest, silent, unless_closed, side_answer, IsEmpty}
-use Rattle.lt_loop.specs.Standing.{Standing, resume, any_piece_then}
+use Rattle.lt_loop.specs.CoreState.{CoreState, resume, any_piece_then}
 use Rattle.lt_loop.specs.Work.{work_left}
 use Rattle.lt_loop.specs.declared.event.PieceKind.{PieceKind}
 use Rattle.lt_loop.specs.declared.event.PieceKind.TheVariants as piece_kind
@@ -24,7 +24,7 @@ use Rattle.lt_loop.proofs.GoingOnLemmas.{only_over}
 
 module _ {State : Type 0} where
   -- an event without a fault adds to the streams
-  fed_is : (e : Told) (n : ℕ) (s : Standing State) (c o : Rest) → cuts s e ≡ false → play_due e n s c o ≡ resume s (fed who.Controller e n c) (fed who.Oracle e n o)
+  fed_is : (e : Told) (n : ℕ) (s : CoreState State) (c o : Rest) → cuts s e ≡ false → play_due e n s c o ≡ resume s (fed who.Controller e n c) (fed who.Oracle e n o)
   fed_is turn n s c o calm = refl
   fed_is (bytes who.Controller piece) n s c o calm = refl
   fed_is (bytes who.Oracle piece) n s c o calm = refl
@@ -34,19 +34,19 @@ module _ {State : Type 0} where
   fed_is (failed who.Oracle) n s c o calm = rw calm refl
 
 -- a piece and then a play
-put_is : (kind : Option PieceKind) (text : List ℕ) (ps : List Piece) (play : Play) → any_piece_then kind text (behind_all ps play) ≡ behind_all (piece_of kind text ++ ps) play
+put_is : (kind : Option PieceKind) (text : List ℕ) (ps : List Piece) (play : Play) → any_piece_then kind text (pieces_then ps play) ≡ pieces_then (piece_of kind text ++ ps) play
 put_is None text ps play = refl
 put_is (Some kind) text ps play = refl
 
 -- no pieces
-no_pieces : (ps : List Piece) (play : Play) → ps ≡ [] → play ≡ behind_all ps play
+no_pieces : (ps : List Piece) (play : Play) → ps ≡ [] → play ≡ pieces_then ps play
 no_pieces ps play none = rw none refl
 
--- nothing behind some pieces
-all_of : (play rest : Play) (ps : List Piece) (s : Stop) → play ≡ behind_all ps rest → rest ≡ stopped s → play ≡ record { pieces = ps; stop = s }
-all_of play rest ps s e none = e ∙ ap (behind_all ps) none ∙ (λ i. record { pieces = append-nil ps i; stop = s })
+-- nothing after some pieces
+all_of : (play rest : Play) (ps : List Piece) (s : Stop) → play ≡ pieces_then ps rest → rest ≡ stopped s → play ≡ record { pieces = ps; stop = s }
+all_of play rest ps s e none = e ∙ ap (pieces_then ps) none ∙ (λ i. record { pieces = append-nil ps i; stop = s })
 
--- such a piece, and nothing behind it
+-- such a piece, and nothing after it
 cut_piece : (piece : Option PieceKind) (text line : List ℕ) (e : End) (rest : Play) → piece_then piece_kind.EndLine line (stopped (ends e)) ≡ any_piece_then piece text rest → (waits : piece ≡ None → ⊥)
     → (piece_of piece text ≡ record { kind = piece_kind.EndLine; bytes = line } ∷ []) × (rest ≡ stopped (ends e))
 cut_piece None text line e rest is waits = absurd (waits refl)
@@ -66,7 +66,7 @@ count_piece None text ps = omega arith
 count_piece (Some kind) text ps = refl
 
 -- whether memory ran out in a phase
-is_starved : (p : Phase) → (p ≡ phase.Starved) ⊎ (p ≢ phase.Starved)
+is_starved : (p : Phase) → (p ≡ phase.OutOfMemory) ⊎ (p ≢ phase.OutOfMemory)
 is_starved phase.Fresh = inr (λ e. absurd (cc e))
 is_starved phase.Ready = inr (λ e. absurd (cc e))
 is_starved phase.Made = inr (λ e. absurd (cc e))
@@ -74,14 +74,14 @@ is_starved phase.Controller = inr (λ e. absurd (cc e))
 is_starved phase.Answered = inr (λ e. absurd (cc e))
 is_starved phase.Oracle = inr (λ e. absurd (cc e))
 is_starved (phase.Over e) = inr (λ e. absurd (cc e))
-is_starved phase.Starved = inl refl
+is_starved phase.OutOfMemory = inl refl
 
 -- nothing is put out where memory runs out
 nothing_put : (p : Phase) (left : ℕ) (piece : Option PieceKind) → MayStarve p left piece → piece ≡ None
 nothing_put phase.Ready left None may = refl
-nothing_put phase.Starved left None may = refl
+nothing_put phase.OutOfMemory left None may = refl
 nothing_put phase.Ready left (Some kind) may = absurd may
-nothing_put phase.Starved left (Some kind) may = absurd may
+nothing_put phase.OutOfMemory left (Some kind) may = absurd may
 nothing_put phase.Fresh left piece may = absurd may
 nothing_put phase.Made left piece may = absurd may
 nothing_put phase.Controller left piece may = absurd may
@@ -91,41 +91,41 @@ nothing_put (phase.Over e) left piece may = absurd may
 
 module _ {State : Type 0} where
   -- what is wanted then
-  wants_memory : (s : Standing State) (w : Wants) → WantsTell s w → s.phase ≡ phase.Starved → w ≡ wants.Memory
+  wants_memory : (s : CoreState State) (w : Wants) → WantsTell s w → s.phase ≡ phase.OutOfMemory → w ≡ wants.Memory
   wants_memory s wants.Turn told starved = absurd (told (rw starved tt))
   wants_memory s wants.Controller told starved = absurd (cc (told.0, starved))
   wants_memory s wants.Oracle told starved = absurd (cc (told.0, starved))
   wants_memory s (wants.Nothing e) told starved = absurd (cc (told, starved))
   wants_memory s wants.Memory told starved = refl
 
-  -- nothing is put out behind that
-  quiet : (s new : Standing State) (es : List Told) (answers : List Answer) → s.phase ≡ phase.Starved → Runs s es answers new → (pieces_of answers ≡ []) × (new.phase ≡ phase.Starved)
-  quiet s new [] [] starved r = (refl, ap (λ (t : Standing State). t.phase) r ∙ starved)
+  -- nothing is put out after that
+  quiet : (s new : CoreState State) (es : List Told) (answers : List Answer) → s.phase ≡ phase.OutOfMemory → Runs s es answers new → (pieces_of answers ≡ []) × (new.phase ≡ phase.OutOfMemory)
+  quiet s new [] [] starved r = (refl, ap (λ (t : CoreState State). t.phase) r ∙ starved)
   quiet s new [] (a ∷ answers) starved r = absurd r
   quiet s new (e ∷ es) [] starved r = absurd r
   quiet s new (e ∷ es) (a ∷ answers) starved r =
       let memory = r.1.stays starved in
       let none = nothing_put s.phase s.left a.piece (r.1.starved memory) in
-      let still : r.0.phase ≡ phase.Starved = subst (WantsTell r.0) memory r.1.wanted in
+      let still : r.0.phase ≡ phase.OutOfMemory = subst (WantsTell r.0) memory r.1.wanted in
       let later = quiet r.0 new es answers still r.2 in
       (rw (none, later.0) refl, later.1)
 
   -- the same from an event on in which memory runs out
-  quiet_on : (s mid new : Standing State) (e : Told) (a : Answer) (es : List Told) (answers : List Answer) → Answers s e a mid → mid.phase ≡ phase.Starved → Runs mid es answers new
-      → (piece_of a.piece a.text ++ pieces_of answers ≡ []) × (new.phase ≡ phase.Starved)
+  quiet_on : (s mid new : CoreState State) (e : Told) (a : Answer) (es : List Told) (answers : List Answer) → Answers s e a mid → mid.phase ≡ phase.OutOfMemory → Runs mid es answers new
+      → (piece_of a.piece a.text ++ pieces_of answers ≡ []) × (new.phase ≡ phase.OutOfMemory)
   quiet_on s mid new e a es answers told starved r =
       let none = nothing_put s.phase s.left a.piece (told.starved (wants_memory mid a.wanted told.wanted starved)) in
       let later = quiet mid new es answers starved r in
       (rw (none, later.0) refl, later.1)
 
   -- what is put out for some events, and the rest
-  abbrev PutsAllOut : Standing State → Standing State → List Told → List Answer → Rest → Rest → Type 0
+  abbrev PutsAllOut : CoreState State → CoreState State → List Told → List Answer → Rest → Rest → Type 0
   PutsAllOut s new es answers c o =
-      (rest : Play) × (resume s (taken_bytes who.Controller es answers c) (taken_bytes who.Oracle es answers o) ≡ behind_all (pieces_of answers) rest)
-      × (new.phase ≢ phase.Starved → rest ≡ resume new c o)
+      (rest : Play) × (resume s (taken_bytes who.Controller es answers c) (taken_bytes who.Oracle es answers o) ≡ pieces_then (pieces_of answers) rest)
+      × (new.phase ≢ phase.OutOfMemory → rest ≡ resume new c o)
 
-  one_more : (s mid new : Standing State) (e : Told) (a : Answer) (es : List Told) (answers : List Answer) (c o : Rest) → cuts s e ≡ false → Answers s e a mid → Runs mid es answers new
-      → PutsAllOut mid new es answers c o → (mid.phase ≡ phase.Starved) ⊎ (mid.phase ≢ phase.Starved) → PutsAllOut s new (e ∷ es) (a ∷ answers) c o
+  one_more : (s mid new : CoreState State) (e : Told) (a : Answer) (es : List Told) (answers : List Answer) (c o : Rest) → cuts s e ≡ false → Answers s e a mid → Runs mid es answers new
+      → PutsAllOut mid new es answers c o → (mid.phase ≡ phase.OutOfMemory) ⊎ (mid.phase ≢ phase.OutOfMemory) → PutsAllOut s new (e ∷ es) (a ∷ answers) c o
   one_more s mid new e a es answers c o calm told r later (inl starved) =
       let none = quiet_on s mid new e a es answers told starved r in
       (_, no_pieces (pieces_of (a ∷ answers)) _ none.0, λ fed. absurd (fed none.1))
@@ -139,28 +139,28 @@ module _ {State : Type 0} where
   )
 
   pub events_are_the_play : EventsAreThePlay State
-  events_are_the_play s new [] [] e calm c o = (resume s c o, refl, λ fed. ap (λ (t : Standing State). resume t c o) (sym e))
+  events_are_the_play s new [] [] e calm c o = (resume s c o, refl, λ fed. ap (λ (t : CoreState State). resume t c o) (sym e))
   events_are_the_play s new [] (a ∷ answers) e calm c o = absurd e
   events_are_the_play s new (e ∷ es) [] r calm c o = absurd r
   events_are_the_play s new (e ∷ es) (a ∷ answers) r calm c o =
       one_more s r.0 new e a es answers c o calm.0 r.1 r.2 (events_are_the_play r.0 new es answers r.2 calm.1 c o) (is_starved r.0.phase)
 
   -- a core that needs a byte of the controller puts out nothing until one comes
-  controller_stops : (s : Standing State) (o : Rest) → s.phase ≡ phase.Controller → IsEmpty s.controller → resume s silent o ≡ stopped (needs_byte who.Controller)
+  controller_stops : (s : CoreState State) (o : Rest) → s.phase ≡ phase.Controller → IsEmpty s.controller → resume s silent o ≡ stopped (needs_byte who.Controller)
   controller_stops s o at empty =
       let none : side_answer s.controller silent ≡ needs =
       (λ i. answer s.controller.reading (empty.0 i ++ (unless_closed (empty.1 i) silent).bytes) (unless_closed (empty.1 i) silent).is_closed) ∙ empty.2 in
       rw (at, none) refl
 
   -- the same of the oracle
-  oracle_stops : (s : Standing State) (c : Rest) → s.phase ≡ phase.Oracle → IsEmpty s.oracle → resume s c silent ≡ stopped (needs_byte who.Oracle)
+  oracle_stops : (s : CoreState State) (c : Rest) → s.phase ≡ phase.Oracle → IsEmpty s.oracle → resume s c silent ≡ stopped (needs_byte who.Oracle)
   oracle_stops s c at empty =
       let none : side_answer s.oracle silent ≡ needs =
       (λ i. answer s.oracle.reading (empty.0 i ++ (unless_closed (empty.1 i) silent).bytes) (unless_closed (empty.1 i) silent).is_closed) ∙ empty.2 in
       rw (at, none) refl
 
   -- where a core doesn't want a turn, it puts out nothing more
-  stops_with : (s : Standing State) (w : Wants) (play rest : Play) (ps : List Piece) → WantsTell s w → play ≡ behind_all ps rest → (s.phase ≢ phase.Starved → rest ≡ resume s silent silent) → StopsWith w play ps
+  stops_with : (s : CoreState State) (w : Wants) (play rest : Play) (ps : List Piece) → WantsTell s w → play ≡ pieces_then ps rest → (s.phase ≢ phase.OutOfMemory → rest ≡ resume s silent silent) → StopsWith w play ps
   stops_with s wants.Turn play rest ps told e same = tt
   stops_with s wants.Controller play rest ps told e same =
       all_of play rest ps (needs_byte who.Controller) e (same (λ starved. absurd (cc (told.0, starved))) ∙ controller_stops s silent told.0 told.1)
@@ -176,15 +176,15 @@ module _ {State : Type 0} where
       stops_with new w _ all.0 (pieces_of answers) told all.1 all.2
 
   -- a fault that cuts puts out its end line
-  cut_is : (s new : Standing State) (w : Who) (a : Answer) (c o : Rest) → cuts s (failed w) ≡ true → Answers s (failed w) a new
+  cut_is : (s new : CoreState State) (w : Who) (a : Answer) (c o : Rest) → cuts s (failed w) ≡ true → Answers s (failed w) a new
       → ended s.plan (end.Device w) (s.written + 1) ≡ any_piece_then a.piece a.text (resume new c o)
   cut_is s new w a c o has told =
-      let fed : new.phase ≢ phase.Starved = λ starved. told.at_once has (wants_memory new a.wanted told.wanted starved) in
+      let fed : new.phase ≢ phase.OutOfMemory = λ starved. told.at_once has (wants_memory new a.wanted told.wanted starved) in
       let due : play_due (failed w) a.taken s c o ≡ ended s.plan (end.Device w) (s.written + 1) = rw has refl in
       sym due ∙ told.out fed c o
 
   -- a core that puts nothing out, and wants no turn, has no piece at hand
-  no_piece_at_hand : (new : Standing State) (wanted : Wants) (p : Piece) (ps : List Piece) (s : Stop) → WantsTell new wanted → wanted ≢ wants.Turn → wanted ≢ wants.Memory
+  no_piece_at_hand : (new : CoreState State) (wanted : Wants) (p : Piece) (ps : List Piece) (s : Stop) → WantsTell new wanted → wanted ≢ wants.Turn → wanted ≢ wants.Memory
       → ((c o : Rest) → record { pieces = p ∷ ps; stop = s } ≡ resume new c o) → ⊥
   no_piece_at_hand new wants.Turn p ps s told no_turn memory is = absurd (no_turn refl)
   no_piece_at_hand new wants.Memory p ps s told no_turn memory is = absurd (memory refl)
@@ -197,14 +197,14 @@ module _ {State : Type 0} where
       let none : p ∷ ps ≡ [] = ap (λ (q : Play). q.pieces) (is silent silent ∙ final) in absurd (cc none)
 
   -- so such a fault puts something out
-  something_put : (s new : Standing State) (w : Who) (a : Answer) → cuts s (failed w) ≡ true → Answers s (failed w) a new → a.piece ≡ None → ⊥
+  something_put : (s new : CoreState State) (w : Who) (a : Answer) → cuts s (failed w) ≡ true → Answers s (failed w) a new → a.piece ≡ None → ⊥
   something_put s new w a has told none =
       no_piece_at_hand new a.wanted _ [] _ told.wanted (told.goes none) (told.at_once has) (λ c o. cut_is s new w a c o has told ∙ rw none refl)
 
   -- ---- counting
 
   pub steps_are_counted : StepsAreCounted State
-  steps_are_counted s new [] [] r = (ap (λ (t : Standing State). t.written) r ∙ omega arith, ap (λ (t : Standing State). t.plan) r)
+  steps_are_counted s new [] [] r = (ap (λ (t : CoreState State). t.written) r ∙ omega arith, ap (λ (t : CoreState State). t.plan) r)
   steps_are_counted s new [] (a ∷ answers) r = absurd r
   steps_are_counted s new (e ∷ es) [] r = absurd r
   steps_are_counted s new (e ∷ es) (a ∷ answers) r =
@@ -214,7 +214,7 @@ module _ {State : Type 0} where
       (omega (arith, later.0, first, both), later.1 ∙ r.1.plan)
 
   pub runs_end : RunsEnd State
-  runs_end s new [] [] r wanted = let same : work_left new ≡ work_left s = ap (λ (t : Standing State). work_left t) r in omega (arith, same)
+  runs_end s new [] [] r wanted = let same : work_left new ≡ work_left s = ap (λ (t : CoreState State). work_left t) r in omega (arith, same)
   runs_end s new [] (a ∷ answers) r wanted = absurd r
   runs_end s new (e ∷ es) [] r wanted = absurd r
   runs_end s new (e ∷ es) (a ∷ answers) r wanted =
@@ -225,7 +225,7 @@ module _ {State : Type 0} where
   -- ---- ends
 
   -- and that end is wanted
-  wants_end : (s : Standing State) (w : Wants) (e : End) → WantsTell s w → s.phase ≡ phase.Over e → w ≡ wants.Nothing e
+  wants_end : (s : CoreState State) (w : Wants) (e : End) → WantsTell s w → s.phase ≡ phase.Over e → w ≡ wants.Nothing e
   wants_end s wants.Turn e told final = absurd (told (rw final tt))
   wants_end s wants.Controller e told final = absurd (cc (told.0, final))
   wants_end s wants.Oracle e told final = absurd (cc (told.0, final))
@@ -238,21 +238,21 @@ module _ {State : Type 0} where
       let line_is : closing_text mid.plan (end.Device w) (mid.written + 1) ≡ closing_text s.plan (end.Device w) (s.written + step_count (pieces_of answers) + 1) =
       λ i. closing_text (counted.1 i) (end.Device w) (counted.0 i + 1) in
       let piece = λ (c o : Rest). cut_piece a.piece a.text (closing_text mid.plan (end.Device w) (mid.written + 1)) (end.Device w) (resume new c o) (cut_is mid new w a c o has told) (something_put mid new w a has told) in
-      let fed : new.phase ≢ phase.Starved = λ starved. told.at_once has (wants_memory new a.wanted told.wanted starved) in
+      let fed : new.phase ≢ phase.OutOfMemory = λ starved. told.at_once has (wants_memory new a.wanted told.wanted starved) in
       let final : new.phase ≡ phase.Over (end.Device w) = only_over new.phase new silent silent (end.Device w) fed (piece silent silent).1 in (
         (λ c o.
             let all = events_are_the_play s mid es answers r calm c o in
             record {
               rest = all.0;
-              front = all.1;
+              prefix = all.1;
               cut = ap (λ (ps : List Piece). pieces_of answers ++ ps) ((piece c o).0 ∙ (λ i. record { kind = piece_kind.EndLine; bytes = line_is i } ∷ []));
             }),
         (λ c o. (piece c o).1),
         wants_end new a.wanted (end.Device w) told.wanted final,
       )
 
-  -- behind the end an event adds to streams that are not read
-  ended_due : (e : Told) (n : ℕ) (s : Standing State) (f : End) (c o : Rest) → s.phase ≡ phase.Over f → play_due e n s c o ≡ stopped (ends f)
+  -- after the end an event adds to streams that are not read
+  ended_due : (e : Told) (n : ℕ) (s : CoreState State) (f : End) (c o : Rest) → s.phase ≡ phase.Over f → play_due e n s c o ≡ stopped (ends f)
   ended_due turn n s f c o final = rw final refl
   ended_due (bytes who.Controller piece) n s f c o final = rw final refl
   ended_due (bytes who.Oracle piece) n s f c o final = rw final refl
@@ -261,7 +261,7 @@ module _ {State : Type 0} where
   ended_due (failed who.Controller) n s f c o final = rw final refl
   ended_due (failed who.Oracle) n s f c o final = rw final refl
 
-  ended_takes : (e : Told) (s : Standing State) (f : End) → s.phase ≡ phase.Over f → taken_of s e ≡ 0
+  ended_takes : (e : Told) (s : CoreState State) (f : End) → s.phase ≡ phase.Over f → taken_of s e ≡ 0
   ended_takes turn s f final = refl
   ended_takes (bytes who.Controller piece) s f final = rw final refl
   ended_takes (bytes who.Oracle piece) s f final = rw final refl
@@ -269,11 +269,11 @@ module _ {State : Type 0} where
   ended_takes (failed w) s f final = refl
 
   pub ends_are_final : EndsAreFinal State
-  ends_are_final s new [] [] e final r = (tt, ap (λ (t : Standing State). t.phase) r ∙ final)
+  ends_are_final s new [] [] e final r = (tt, ap (λ (t : CoreState State). t.phase) r ∙ final)
   ends_are_final s new [] (a ∷ answers) e final r = absurd r
   ends_are_final s new (f ∷ es) [] e final r = absurd r
   ends_are_final s new (f ∷ es) (a ∷ answers) e final r =
-      let fed : r.0.phase ≢ phase.Starved = λ starved. subst (λ (p : Phase). MayStarve p s.left a.piece) final (r.1.starved (wants_memory r.0 a.wanted r.1.wanted starved)) in
+      let fed : r.0.phase ≢ phase.OutOfMemory = λ starved. subst (λ (p : Phase). MayStarve p s.left a.piece) final (r.1.starved (wants_memory r.0 a.wanted r.1.wanted starved)) in
       let none = no_piece a.piece a.text e (resume r.0 silent silent) (sym (ended_due f a.taken s e silent silent final) ∙ r.1.out fed silent silent) in
       let still = only_over r.0.phase r.0 silent silent e fed none.1 in
       let later = ends_are_final r.0 new es answers e still r.2 in
@@ -281,7 +281,7 @@ module _ {State : Type 0} where
 
   -- ---- turns
 
-  turn_stops : (s new : Standing State) (a : Answer) → Answers s turn a new → a.piece ≡ None → (new.phase ≡ phase.Starved) ⊎ (new.phase ≢ phase.Starved) → StopsWith a.wanted (resume s silent silent) []
+  turn_stops : (s new : CoreState State) (a : Answer) → Answers s turn a new → a.piece ≡ None → (new.phase ≡ phase.OutOfMemory) ⊎ (new.phase ≢ phase.OutOfMemory) → StopsWith a.wanted (resume s silent silent) []
   turn_stops s new a told none (inl starved) = rw (wants_memory new a.wanted told.wanted starved) (resume s silent silent, refl)
   turn_stops s new a told none (inr fed) =
       stops_with new a.wanted (resume s silent silent) (resume new silent silent) [] told.wanted (told.out fed silent silent ∙ rw none refl) (λ fed. refl)

@@ -8,7 +8,7 @@ use Rattle.lt_rif.specs.declared.end.Who.{Who}
 use Rattle.lt_rif.specs.declared.end.Who.TheVariants as who
 use Rattle.lt_loop.specs.Event.{Told, MayStarve, Waits, IsAwaited, IsWanted, goes_on, listens}
 use Rattle.lt_loop.specs.Side.{SideState, IsEmpty, ReadMoves, ReadTells, side_answer, silent, unless_closed}
-use Rattle.lt_loop.specs.Standing.{Standing}
+use Rattle.lt_loop.specs.CoreState.{CoreState}
 use Rattle.lt_loop.specs.Stands.{has_controller}
 use Rattle.lt_loop.specs.Work.{bytes_left, bytes_read, work_in, work_left}
 use Rattle.lt_loop.specs.declared.event.PieceKind.{PieceKind}
@@ -82,7 +82,7 @@ phase_works phase.Controller left c o on = omega arith
 phase_works phase.Answered left c o on = omega arith
 phase_works phase.Oracle left c o on = omega arith
 phase_works (phase.Over e) left c o on = absurd (cc on)
-phase_works phase.Starved left c o on = absurd (cc on)
+phase_works phase.OutOfMemory left c o on = absurd (cc on)
 
 -- memory may run out where it might before an event was kept
 pub may_starve_still : (p p' : Phase) (left left' : ℕ) (piece : Option PieceKind) → p' ≡ p → left' ≡ left → MayStarve p' left' piece → MayStarve p left piece
@@ -93,34 +93,34 @@ both_left true b both = refl
 both_left false b both = both
 
 module _ {State : Type 0} where
-  pub listens_works : (s : Standing State) (w : Who) → listens s w ≡ true → 0 < work_left s
+  pub listens_works : (s : CoreState State) (w : Who) → listens s w ≡ true → 0 < work_left s
   listens_works s who.Controller on = phase_works s.phase s.left s.controller.reading s.oracle.reading (both_left (goes_on s.phase) (has_controller s.plan.controller) on)
   listens_works s who.Oracle on = phase_works s.phase s.left s.controller.reading s.oracle.reading (both_left (goes_on s.phase) s.plan.has_oracle on)
 
   -- what is waited for is listened to
-  pub awaited_listens : (s : Standing State) (w : Who) → IsAwaited s w → listens s w ≡ true
+  pub awaited_listens : (s : CoreState State) (w : Who) → IsAwaited s w → listens s w ≡ true
   awaited_listens s who.Controller awaited = awaited.2
   awaited_listens s who.Oracle awaited = awaited.2
 
   -- a core doesn't wait for a side of which bytes are kept, or that has ended
-  pub controller_is_there : (s : Standing State) → s.phase ≡ phase.Controller → (IsEmpty s.controller → ⊥) → Waits s.phase s → ⊥
+  pub controller_is_there : (s : CoreState State) → s.phase ≡ phase.Controller → (IsEmpty s.controller → ⊥) → Waits s.phase s → ⊥
   controller_is_there s at some waits = some (subst (λ (p : Phase). Waits p s) at waits)
 
-  pub oracle_is_there : (s : Standing State) → s.phase ≡ phase.Oracle → (IsEmpty s.oracle → ⊥) → Waits s.phase s → ⊥
+  pub oracle_is_there : (s : CoreState State) → s.phase ≡ phase.Oracle → (IsEmpty s.oracle → ⊥) → Waits s.phase s → ⊥
   oracle_is_there s at some waits = some (subst (λ (p : Phase). Waits p s) at waits)
 
   -- where an event brings a core on, its work falls
-  pub later_falls : (s mid new : Standing State) (e f : Told) → e ≡ f → work_left mid ≡ work_left s → (IsWanted s f → Waits mid.phase mid → ⊥)
+  pub later_falls : (s mid new : CoreState State) (e f : Told) → e ≡ f → work_left mid ≡ work_left s → (IsWanted s f → Waits mid.phase mid → ⊥)
       → ((Waits mid.phase mid → ⊥) → work_left new < work_left mid) → IsWanted s e → work_left new < work_left s
   later_falls s mid new e f is same has falls wanted =
       subst (λ (n : ℕ). work_left new < n) same (falls (has (subst (λ (d : Told). IsWanted s d) is wanted)))
 
-  pub later_rises_not : (s mid new : Standing State) → work_left mid ≡ work_left s → work_left new ≤ work_left mid → work_left new ≤ work_left s
+  pub later_rises_not : (s mid new : CoreState State) → work_left mid ≡ work_left s → work_left new ≤ work_left mid → work_left new ≤ work_left s
   later_rises_not s mid new same less = subst (λ (n : ℕ). work_left new ≤ n) same less
 
   -- an end brings a core on that waits for its side
-  pub controller_end_is_there : (s : Standing State) → IsAwaited s who.Controller → Waits s.phase (record s { controller = record s.controller { is_closed = true } }) → ⊥
+  pub controller_end_is_there : (s : CoreState State) → IsAwaited s who.Controller → Waits s.phase (record s { controller = record s.controller { is_closed = true } }) → ⊥
   controller_end_is_there s awaited = controller_is_there (record s { controller = record s.controller { is_closed = true } }) awaited.0 (λ empty. absurd (cc empty.1))
 
-  pub oracle_end_is_there : (s : Standing State) → IsAwaited s who.Oracle → Waits s.phase (record s { oracle = record s.oracle { is_closed = true } }) → ⊥
+  pub oracle_end_is_there : (s : CoreState State) → IsAwaited s who.Oracle → Waits s.phase (record s { oracle = record s.oracle { is_closed = true } }) → ⊥
   oracle_end_is_there s awaited = oracle_is_there (record s { oracle = record s.oracle { is_closed = true } }) awaited.0 (λ empty. absurd (cc empty.1))

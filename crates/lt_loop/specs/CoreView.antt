@@ -4,7 +4,7 @@ use Rattle.lt_rif.specs.Reply.{Stream}
 use Rattle.lt_loop.specs.Plan.{Plan}
 use Rattle.lt_loop.specs.Scene.{Scene}
 use Rattle.lt_loop.specs.Side.{Rest, side_state}
-use Rattle.lt_loop.specs.Standing.{Standing}
+use Rattle.lt_loop.specs.CoreState.{CoreState}
 use Rattle.lt_loop.specs.declared.loop_core.Core.{Core}
 use Rattle.lt_loop.specs.declared.setup.Setup.{Setup}
 
@@ -12,8 +12,8 @@ use Rattle.lt_loop.specs.declared.setup.Setup.{Setup}
 abbrev pub plan_of : Scene → Setup → Plan
 plan_of s setup = record { scene = s; seed = setup.seed; writes_locals = setup.locals; controller = setup.controller; has_oracle = setup.oracle }
 
-abbrev pub standing : {M : _} {b : _} → Core M b → Standing b.State
-standing {M} {b} core = record {
+abbrev pub core_state : {M : _} {b : _} → Core M b → CoreState b.State
+core_state {M} {b} core = record {
   rules = b.rules;
   plan = plan_of (b.scene core.machine) core.setup;
   left = core.left;

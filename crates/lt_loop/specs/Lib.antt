@@ -3,6 +3,8 @@ pub mod Scene
 pub mod SceneView
 -- what it must know of a machine
 pub mod Machine
+-- where the inputs of a scenario come from
+pub mod InputSource
 -- what a run is told, and the texts that it puts out
 pub mod Plan
 -- a run over two whole streams
@@ -10,7 +12,7 @@ pub mod Play
 -- one side of a run
 pub mod Side
 -- where a core stands, and what it will put out
-pub mod Standing
+pub mod CoreState
 pub mod CoreView
 -- what a core is told, and what it answers
 pub mod Event

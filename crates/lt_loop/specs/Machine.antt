@@ -1,5 +1,5 @@
 -- What a core must know of a machine: its states, and what each instant makes of them.
-use Rattle.std.specs.Prelude.{◌≡◌, ℕ, ◌-◌, ◌<◌, List, None, Some}
+use Rattle.std.specs.Prelude.{◌≡◌, ℕ, ◌<◌, List, None, Some}
 use Rattle.std.specs.declared.option.Option.{Option}
 use Rattle.lt_num.specs.declared.value.Value.{Value}
 use Rattle.lt_rif.specs.declared.end.End.{End}
@@ -44,12 +44,7 @@ end_of (scenario_end.Fault fault) = end.Fault fault
 end_of scenario_end.TooLarge = end.TooLarge
 end_of (scenario_end.Budget need) = end.Budget need
 
--- the number of its end line: that of the instant, or the steps before it where the scenario is over as it should be
-abbrev pub number_of : ScenarioEnd → ℕ → ℕ
-number_of scenario_end.Normal k = k - 1
-number_of _ k = k
-
--- What an outcome tells of an instant, and of the state behind it. Memory may run out in any instant.
+-- What an outcome tells of an instant, and of the state after it. Memory may run out in any instant.
 abbrev pub StepTells : {State : Type 0} → Instant State → Outcome → State → Type 0
 StepTells (values next) outcome.Values new = new ≡ next
 StepTells (over e) (outcome.Over f) new = e ≡ f

@@ -4,11 +4,12 @@ use Rattle.std.specs.declared.option.Option.{Option}
 use Rattle.lt_num.specs.declared.value.Value.{Value}
 use Rattle.lt_num.specs.declared.value.Value.TheVariants as value
 use Rattle.lt_rif.specs.Reply.{Stream, Reply, whole, needs, short, malformed, reply_of}
+use Rattle.lt_rif.specs.Trace.{end_number}
 use Rattle.lt_rif.specs.declared.end.End.{End}
 use Rattle.lt_rif.specs.declared.end.End.TheVariants as end
 use Rattle.lt_rif.specs.declared.end.Who.{Who}
 use Rattle.lt_rif.specs.declared.end.Who.TheVariants as who
-use Rattle.lt_loop.specs.Machine.{Instant, values, over, Rules, end_of, number_of}
+use Rattle.lt_loop.specs.Machine.{Instant, values, over, Rules, end_of}
 use Rattle.lt_loop.specs.Plan.{Plan, reply_slots, opening_text, outputs_line, step_line, traced_step, closing_text}
 use Rattle.lt_loop.specs.Scene.{verdict_slots, first_inputs}
 use Rattle.lt_loop.specs.declared.event.Destination.{Destination}
@@ -116,10 +117,10 @@ controller_asked talk.Nobody plan made go c o = oracle_asked plan made [] (go []
 controller_asked talk.Live plan made go c o = piece_then piece_kind.Outputs (outputs_line plan made.outputs) (controller_read plan made go (controller_reply plan c) o)
 controller_asked talk.Replay plan made go c o = controller_read plan made go (controller_reply plan c) o
 
--- instant k; then what follows behind its step
+-- instant k; then what follows after its step
 abbrev pub instant_made : {State : Type 0} → Rules State → Plan → ℕ → Instant State → (State → List Value → Stream → Stream → Play) → Stream → Stream → Play
 instant_made rules plan k (values m) go c o = controller_asked plan.controller plan (made_by rules k m) (go m) c o
-instant_made rules plan k (over e) go c o = ended plan (end_of e) (number_of e k)
+instant_made rules plan k (over e) go c o = ended plan (end_of e) (end_number (end_of e) (k - 1))
 
 -- A run from instant k on, of at most so many further steps: the state of its machine, the inputs of the step before, and
 -- what is left of the streams of the controller and of the oracle.

@@ -41,7 +41,7 @@ HasMade phase.Controller k rules m = rules.made m ≡ Some (k + 1)
 HasMade phase.Answered k rules m = rules.made m ≡ Some (k + 1)
 HasMade phase.Oracle k rules m = rules.made m ≡ Some (k + 1)
 HasMade (phase.Over e) k rules m = Unit {0}
-HasMade phase.Starved k rules m = Unit {0}
+HasMade phase.OutOfMemory k rules m = Unit {0}
 
 pub HasMade-prop : {State : Type 0} → (p : Phase) (k : ℕ) (rules : Rules State) (m : State) → IsProp (HasMade p k rules m)
 HasMade-prop phase.Fresh k rules m = Coded-set (coded_option coded_ℕ) _ _
@@ -51,7 +51,7 @@ HasMade-prop phase.Controller k rules m = Coded-set (coded_option coded_ℕ) _ _
 HasMade-prop phase.Answered k rules m = Coded-set (coded_option coded_ℕ) _ _
 HasMade-prop phase.Oracle k rules m = Coded-set (coded_option coded_ℕ) _ _
 HasMade-prop (phase.Over e) k rules m = Unit-prop
-HasMade-prop phase.Starved k rules m = Unit-prop
+HasMade-prop phase.OutOfMemory k rules m = Unit-prop
 
 -- the text at hand is the header as long as nothing was put out
 abbrev pub Opens : Phase → List ℕ → List ℕ → Type 0
@@ -66,7 +66,7 @@ Opens-prop phase.Controller header text = Unit-prop
 Opens-prop phase.Answered header text = Unit-prop
 Opens-prop phase.Oracle header text = Unit-prop
 Opens-prop (phase.Over e) header text = Unit-prop
-Opens-prop phase.Starved header text = Unit-prop
+Opens-prop phase.OutOfMemory header text = Unit-prop
 
 -- no byte of the reply at hand was read
 abbrev pub IsAtRest : Reading → Type 0
@@ -89,7 +89,7 @@ Stands phase.Controller k left c o = IsAtRest o × (AreShort k k c o × (k + 1 +
 Stands phase.Answered k left c o = AreAtRest c o × (AreShort (k + 1) k c o × (k + 1 + left ≤ most_steps))
 Stands phase.Oracle k left c o = IsAtRest c × (AreShort (k + 1) k c o × (k + 1 + left ≤ most_steps))
 Stands (phase.Over e) k left c o = Unit {0}
-Stands phase.Starved k left c o = Unit {0}
+Stands phase.OutOfMemory k left c o = Unit {0}
 
 -- no byte of a reply was read in one way at most
 rest-prop : (r : Reading) → IsProp (IsAtRest r)
@@ -103,4 +103,4 @@ Stands-prop phase.Controller k left c o = ×_prop (rest-prop o) (×_prop (×_pro
 Stands-prop phase.Answered k left c o = ×_prop (×_prop (rest-prop c) (rest-prop o)) (×_prop (×_prop le_prop le_prop) le_prop)
 Stands-prop phase.Oracle k left c o = ×_prop (rest-prop c) (×_prop (×_prop le_prop le_prop) le_prop)
 Stands-prop (phase.Over e) k left c o = Unit-prop
-Stands-prop phase.Starved k left c o = Unit-prop
+Stands-prop phase.OutOfMemory k left c o = Unit-prop

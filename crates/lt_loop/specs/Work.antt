@@ -2,7 +2,7 @@
 use Rattle.std.specs.Prelude.{ℕ, ◌+◌, ◌-◌, ◌*◌, length}
 use Rattle.lt_rif.specs.Reading.{Reading}
 use Rattle.lt_rif.specs.Reply.{longest}
-use Rattle.lt_loop.specs.Standing.{Standing}
+use Rattle.lt_loop.specs.CoreState.{CoreState}
 use Rattle.lt_loop.specs.declared.phase.Phase.{Phase}
 use Rattle.lt_loop.specs.declared.phase.Phase.TheVariants as phase
 
@@ -27,17 +27,17 @@ instant_left phase.Controller c o = 65_539 + bytes_left c
 instant_left phase.Answered c o = 65_539
 instant_left phase.Oracle c o = 2 + bytes_left o
 instant_left (phase.Over e) c o = 0
-instant_left phase.Starved c o = 0
+instant_left phase.OutOfMemory c o = 0
 
 -- what is left of the further steps that may begin
 abbrev pub steps_left : Phase → ℕ → ℕ
 steps_left (phase.Over e) left = 0
-steps_left phase.Starved left = 0
+steps_left phase.OutOfMemory left = 0
 steps_left p left = left * most_work
 
 -- what is left of the run
 abbrev pub work_in : Phase → ℕ → Reading → Reading → ℕ
 work_in p left c o = steps_left p left + instant_left p c o
 
-abbrev pub work_left : {State : Type 0} → Standing State → ℕ
+abbrev pub work_left : {State : Type 0} → CoreState State → ℕ
 work_left s = work_in s.phase s.left s.controller.reading s.oracle.reading

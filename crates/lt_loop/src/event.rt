@@ -30,7 +30,7 @@ pub enum PieceKind {
     /// The line of an instant's outputs and inputs, for the oracle.
     Question,
 
-    /// A step of the trace, with the end line behind it where the oracle's verdict on it is false.
+    /// A step of the trace, with the end line after it where the oracle's verdict on it is false.
     Step,
 
     /// The end line of the trace, alone.
@@ -97,7 +97,7 @@ pub enum Wants {
 /// What a core answers to an event.
 #[derive(Clone, Copy)]
 pub struct Emits {
-    /// How many bytes of the event's piece were taken, from its front.
+    /// How many bytes of the event's piece were taken, from its prefix.
     pub taken: usize,
 
     /// What was put out, if a piece was. The core lends its bytes.

@@ -19,7 +19,7 @@ pub fn wants_are_the_stop<M: Machine>()
     ensures { WantsAreTheStop M.State }
 {}
 
-/// A fault of a side cuts the play: its end line is put out behind what was put out before, at once.
+/// A fault of a side cuts the play: its end line is put out after what was put out before, at once.
 pub fn faults_are_cuts<M: Machine>()
     ensures { FaultsAreCuts M.State }
 {}

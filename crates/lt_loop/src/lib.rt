@@ -9,6 +9,7 @@
 #![tactic(auto)]
 
 mod event;
+mod input_source;
 mod laws;
 mod loop_core;
 mod machine;
@@ -21,6 +22,7 @@ mod var;
 mod writer;
 
 pub use event::{Destination, Emits, Event, PieceKind, Wants};
+pub use input_source::InputSource;
 pub use laws::{
     ends_are_final, events_are_the_play, faults_are_cuts, plays_end, plays_grow, replies_fit,
     runs_end, steps_are_counted, turns_go_on, wants_are_the_stop,

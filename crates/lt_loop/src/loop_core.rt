@@ -1,6 +1,7 @@
 //! The core.
 
 ghost use Rattle.std.specs.Prelude.{◌≡◌, ◌≢◌, ◌<◌, ◌≤◌, ◌+◌, ◌*◌, true, false, None, Some, ℕ, length, map, string_bytes, vec_capacity, IfOk, IsTrue};
+ghost use Rattle.lt_rif.specs.Trace.{end_number};
 ghost use Rattle.lt_loop.specs.Codes.{same_slots-prop};
 ghost use Rattle.lt_loop.specs.Machine.{most_steps};
 ghost use Rattle.lt_loop.specs.Plan.{reply_slots};
@@ -41,12 +42,16 @@ pub struct Core<M: Machine> {
     ghost has_side: { IsTrue (has_side phase setup.controller setup.oracle) },
     ghost made: { HasMade phase written M.rules (M.state machine) } by { HasMade-prop phase written M.rules (M.state machine) },
     ghost writes: { writing writer ≡ writing_of (M.scene machine) setup.locals } by { same_writing-prop (writing writer) (writing_of (M.scene machine) setup.locals) },
-    ghost opens: { Opens phase (header_in (M.scene machine) setup.seed setup.locals) writer.text.items } by { Opens-prop phase (header_in (M.scene machine) setup.seed setup.locals) writer.text.items },
-    ghost asks: { (side_state controller).reading.slots ≡ reply_slots setup.controller (M.scene machine) } by { same_slots-prop (side_state controller).reading.slots (reply_slots setup.controller (M.scene machine)) },
+    ghost opens: { Opens phase (header_in (M.scene machine) setup.seed setup.locals)
+        writer.text.items } by { Opens-prop phase (header_in (M.scene machine) setup.seed setup.locals) writer.text.items },
+    ghost asks: { (side_state controller).reading.slots ≡
+        reply_slots setup.controller (M.scene machine) } by { same_slots-prop (side_state controller).reading.slots
+            (reply_slots setup.controller (M.scene machine)) },
     ghost judges: { (side_state oracle).reading.slots ≡ verdict_slots } by { same_slots-prop (side_state oracle).reading.slots verdict_slots },
     ghost asks_in: { (side_state controller).reading.begun.decimals ≡ (M.scene machine).decimals },
     ghost judges_in: { (side_state oracle).reading.begun.decimals ≡ (M.scene machine).decimals },
-    ghost stands: { Stands phase written left (side_state controller).reading (side_state oracle).reading } by { Stands-prop phase written left (side_state controller).reading (side_state oracle).reading },
+    ghost stands: { Stands phase written left (side_state controller).reading
+        (side_state oracle).reading } by { Stands-prop phase written left (side_state controller).reading (side_state oracle).reading },
 }
 
 // What a core owns is dropped by this one function, wherever a core is.
@@ -68,12 +73,12 @@ impl<M: Machine> Drop for Core<M> {
 }
 
 impl<M: Machine> Core<M> {
-    ghost use Rattle.lt_loop.specs.CoreView.{last_text, plan_of, standing, stream_of};
+    ghost use Rattle.lt_loop.specs.CoreView.{last_text, plan_of, core_state, stream_of};
     ghost use Rattle.lt_loop.specs.Event.{bytes, cuts, failed, fed, goes_on, told, listens, play_due, steps_in, taken_of, IsWanted, MayStarve, Waits, WantsTell};
     ghost use Rattle.lt_loop.specs.Kept.{adding_none, controller_reads, nothing, one, oracle_reads, reads_reply, Holds, HoldsController, HoldsOracle};
     ghost use Rattle.lt_loop.specs.Side.{IsEmpty};
     ghost use Rattle.lt_loop.specs.Work.{most_work, work_in, work_left};
-    ghost use Rattle.lt_loop.specs.Standing.{play_once_answered, from_here, play_once_judged, resume, resume_in, play_once_made, PutsOut};
+    ghost use Rattle.lt_loop.specs.CoreState.{play_once_answered, from_here, play_once_judged, resume, resume_in, play_once_made, PutsOut};
 
     /// The core of a run of which nothing was put out. All that it needs is reserved here.
     ///
@@ -88,11 +93,16 @@ impl<M: Machine> Core<M> {
         requires limit { setup.limit ≤ most_steps }
         requires fresh { (M.rules).made (M.state machine) ≡ Some 0 }
         requires served { is_served setup.controller (M.scene machine) ≡ true }
-        ensures fresh { IfOk result (λ core. WantsTell (standing core) Wants.Turn) }
-        ensures steps { IfOk result (λ core. (standing core).written ≡ 0) }
-        ensures plan { IfOk result (λ core. (standing core).plan ≡ plan_of (M.scene machine) setup) }
-        ensures work { IfOk result (λ core. work_left (standing core) ≡ setup.limit * most_work + 2) }
-        ensures play { IfOk result (λ core. (c o : Rest) → resume (standing core) c o ≡ play_of M.rules (plan_of (M.scene machine) setup) setup.limit (M.state machine) (stream_of c) (stream_of o)) }
+        ensures fresh { IfOk result (λ core. WantsTell (core_state core) Wants.Turn) }
+        ensures steps { IfOk result (λ core. (core_state core).written ≡ 0) }
+        ensures plan { IfOk result (λ core. (core_state core).plan ≡
+            plan_of (M.scene machine) setup) }
+        ensures work { IfOk result (λ core. work_left (core_state core) ≡
+            setup.limit * most_work + 2) }
+        ensures play { IfOk result (λ core. (c o : Rest) →
+            resume (core_state core) c o ≡
+            play_of M.rules (plan_of (M.scene machine) setup) setup.limit (M.state machine)
+            (stream_of c) (stream_of o)) }
     {
         let slots = reply_slots(alloc, setup.controller, &machine)?;
         let inputs = first_inputs(alloc, slots.len(), machine.input_vars())?;
@@ -122,14 +132,14 @@ impl<M: Machine> Core<M> {
 
     /// How many steps were put out to the trace.
     pub fn steps(&self) -> u64
-        ensures { result ≡ (standing self.now).written }
+        ensures { result ≡ (core_state self.now).written }
     {
         self.written
     }
 
     /// The names of the scenario's exceptions.
     pub fn names(&self) -> &[String]
-        ensures { map string_bytes result.now ≡ (standing self.now).plan.scene.exceptions }
+        ensures { map string_bytes result.now ≡ (core_state self.now).plan.scene.exceptions }
     {
         self.machine.names()
     }
@@ -137,19 +147,27 @@ impl<M: Machine> Core<M> {
     /// Takes an event, and goes on until one piece is put out, or a byte is needed that is not there, or the run
     /// has ended, or memory ran out in an instant.
     pub fn event(&mut self, event: Event<'_>) -> Emits
-        ensures taken { result.taken ≡ taken_of (standing self.old) (told event.entry) }
-        ensures out { PutsOut (play_due (told event.entry) result.taken (standing self.old)) result.piece (last_text self.new) (standing self.new) }
-        ensures wants { WantsTell (standing self.new) result.wants }
+        ensures taken { result.taken ≡ taken_of (core_state self.old) (told event.entry) }
+        ensures out { PutsOut (play_due (told event.entry) result.taken (core_state self.old))
+            result.piece (last_text self.new) (core_state self.new) }
+        ensures wants { WantsTell (core_state self.new) result.wants }
         ensures goes { result.piece ≡ None → result.wants ≢ Wants.Turn }
-        ensures counts { (standing self.new).written ≡ (standing self.old).written + steps_in result.piece }
-        ensures plan { (standing self.new).plan ≡ (standing self.old).plan }
-        ensures controller { HoldsController (told event.entry) result.taken (standing self.old) result.piece (standing self.new) }
-        ensures oracle { HoldsOracle (told event.entry) result.taken (standing self.old) result.piece (standing self.new) }
-        ensures falls { IsWanted (standing self.old) (told event.entry) → work_left (standing self.new) < work_left (standing self.old) }
-        ensures rises_not { work_left (standing self.new) ≤ work_left (standing self.old) }
-        ensures starves { result.wants ≡ Wants.Memory → MayStarve (standing self.old).phase (standing self.old).left result.piece }
-        ensures stays { (standing self.old).phase ≡ Phase.Starved → result.wants ≡ Wants.Memory }
-        ensures at_once { cuts (standing self.old) (told event.entry) ≡ true → result.wants ≢ Wants.Memory }
+        ensures counts { (core_state self.new).written ≡
+            (core_state self.old).written + steps_in result.piece }
+        ensures plan { (core_state self.new).plan ≡ (core_state self.old).plan }
+        ensures controller { HoldsController (told event.entry) result.taken (core_state self.old)
+            result.piece (core_state self.new) }
+        ensures oracle { HoldsOracle (told event.entry) result.taken (core_state self.old)
+            result.piece (core_state self.new) }
+        ensures falls { IsWanted (core_state self.old) (told event.entry) →
+            work_left (core_state self.new) < work_left (core_state self.old) }
+        ensures rises_not { work_left (core_state self.new) ≤ work_left (core_state self.old) }
+        ensures starves { result.wants ≡ Wants.Memory →
+            MayStarve (core_state self.old).phase (core_state self.old).left result.piece }
+        ensures stays { (core_state self.old).phase ≡ Phase.OutOfMemory →
+            result.wants ≡ Wants.Memory }
+        ensures at_once { cuts (core_state self.old) (told event.entry) ≡ true →
+            result.wants ≢ Wants.Memory }
     {
         let (taken, piece) = self.go(event);
         Emits {
@@ -161,18 +179,24 @@ impl<M: Machine> Core<M> {
 
     // Takes an event, and goes on. How many bytes were taken, and where the text goes that is put out.
     fn go(&mut self, event: Event<'_>) -> (usize, Option<PieceKind>)
-        ensures taken { result.0 ≡ taken_of (standing self.old) (told event.entry) }
-        ensures out { PutsOut (play_due (told event.entry) result.0 (standing self.old)) result.1 self.new.writer.text.items (standing self.new) }
-        ensures waits { result.1 ≡ None → Waits self.new.phase (standing self.new) }
+        ensures taken { result.0 ≡ taken_of (core_state self.old) (told event.entry) }
+        ensures out { PutsOut (play_due (told event.entry) result.0 (core_state self.old)) result.1
+            self.new.writer.text.items (core_state self.new) }
+        ensures waits { result.1 ≡ None → Waits self.new.phase (core_state self.new) }
         ensures counts { self.new.written ≡ self.old.written + steps_in result.1 }
-        ensures plan { (standing self.new).plan ≡ (standing self.old).plan }
-        ensures controller { HoldsController (told event.entry) result.0 (standing self.old) result.1 (standing self.new) }
-        ensures oracle { HoldsOracle (told event.entry) result.0 (standing self.old) result.1 (standing self.new) }
-        ensures falls { IsWanted (standing self.old) (told event.entry) → work_left (standing self.new) < work_left (standing self.old) }
-        ensures rises_not { work_left (standing self.new) ≤ work_left (standing self.old) }
-        ensures starves { self.new.phase ≡ Phase.Starved → MayStarve self.old.phase self.old.left result.1 }
-        ensures at_once { cuts (standing self.old) (told event.entry) ≡ true → self.new.phase ≢ Phase.Starved }
-        ensures stays { self.old.phase ≡ Phase.Starved → self.new.phase ≡ Phase.Starved }
+        ensures plan { (core_state self.new).plan ≡ (core_state self.old).plan }
+        ensures controller { HoldsController (told event.entry) result.0 (core_state self.old)
+            result.1 (core_state self.new) }
+        ensures oracle { HoldsOracle (told event.entry) result.0 (core_state self.old) result.1
+            (core_state self.new) }
+        ensures falls { IsWanted (core_state self.old) (told event.entry) →
+            work_left (core_state self.new) < work_left (core_state self.old) }
+        ensures rises_not { work_left (core_state self.new) ≤ work_left (core_state self.old) }
+        ensures starves { self.new.phase ≡ Phase.OutOfMemory →
+            MayStarve self.old.phase self.old.left result.1 }
+        ensures at_once { cuts (core_state self.old) (told event.entry) ≡ true →
+            self.new.phase ≢ Phase.OutOfMemory }
+        ensures stays { self.old.phase ≡ Phase.OutOfMemory → self.new.phase ≡ Phase.OutOfMemory }
     {
         match event {
             Event::Turn => (0, self.advance()),
@@ -199,15 +223,20 @@ impl<M: Machine> Core<M> {
 
     // Keeps the bytes of a piece for which there is room, if the run has that side and goes on.
     fn keep(&mut self, side: Who, piece: &[u8]) -> usize
-        ensures taken { result ≡ taken_of (standing self.old) (bytes side piece.now) }
-        ensures same { (c o : Rest) → play_due (bytes side piece.now) result (standing self.old) c o ≡ resume (standing self.new) c o }
+        ensures taken { result ≡ taken_of (core_state self.old) (bytes side piece.now) }
+        ensures same { (c o : Rest) →
+            play_due (bytes side piece.now) result (core_state self.old) c o ≡
+            resume (core_state self.new) c o }
         ensures phase { self.new.phase ≡ self.old.phase }
         ensures left { self.new.left ≡ self.old.left }
         ensures written { self.new.written ≡ self.old.written }
-        ensures plan { (standing self.new).plan ≡ (standing self.old).plan }
-        ensures controller { Holds nothing (side_state self.old.controller) (fed Who.Controller (bytes side piece.now) result) (side_state self.new.controller) }
-        ensures oracle { Holds nothing (side_state self.old.oracle) (fed Who.Oracle (bytes side piece.now) result) (side_state self.new.oracle) }
-        ensures has { IsWanted (standing self.old) (bytes side piece.now) → Waits self.new.phase (standing self.new) → ⊥ }
+        ensures plan { (core_state self.new).plan ≡ (core_state self.old).plan }
+        ensures controller { Holds nothing (side_state self.old.controller)
+            (fed Who.Controller (bytes side piece.now) result) (side_state self.new.controller) }
+        ensures oracle { Holds nothing (side_state self.old.oracle)
+            (fed Who.Oracle (bytes side piece.now) result) (side_state self.new.oracle) }
+        ensures has { IsWanted (core_state self.old) (bytes side piece.now) →
+            Waits self.new.phase (core_state self.new) → ⊥ }
     {
         if !self.listens(side) {
             return 0;
@@ -220,29 +249,35 @@ impl<M: Machine> Core<M> {
 
     // Ends the run for a fault of a side, if it has that side and goes on.
     fn fail(&mut self, side: Who) -> Option<PieceKind>
-        ensures out { PutsOut (play_due (failed side) 0 (standing self.old)) result self.new.writer.text.items (standing self.new) }
-        ensures waits { result ≡ None → Waits self.new.phase (standing self.new) }
+        ensures out { PutsOut (play_due (failed side) 0 (core_state self.old)) result
+            self.new.writer.text.items (core_state self.new) }
+        ensures waits { result ≡ None → Waits self.new.phase (core_state self.new) }
         ensures counts { self.new.written ≡ self.old.written + steps_in result }
-        ensures plan { (standing self.new).plan ≡ (standing self.old).plan }
-        ensures controller { HoldsController (failed side) 0 (standing self.old) result (standing self.new) }
-        ensures oracle { HoldsOracle (failed side) 0 (standing self.old) result (standing self.new) }
-        ensures falls { listens (standing self.old) side ≡ true → work_left (standing self.new) < work_left (standing self.old) }
-        ensures rises_not { work_left (standing self.new) ≤ work_left (standing self.old) }
-        ensures at_once { listens (standing self.old) side ≡ true → self.new.phase ≢ Phase.Starved }
-        ensures starves { self.new.phase ≡ Phase.Starved → MayStarve self.old.phase self.old.left result }
-        ensures stays { self.old.phase ≡ Phase.Starved → self.new.phase ≡ Phase.Starved }
+        ensures plan { (core_state self.new).plan ≡ (core_state self.old).plan }
+        ensures controller { HoldsController (failed side) 0 (core_state self.old) result
+            (core_state self.new) }
+        ensures oracle { HoldsOracle (failed side) 0 (core_state self.old) result
+            (core_state self.new) }
+        ensures falls { listens (core_state self.old) side ≡ true →
+            work_left (core_state self.new) < work_left (core_state self.old) }
+        ensures rises_not { work_left (core_state self.new) ≤ work_left (core_state self.old) }
+        ensures at_once { listens (core_state self.old) side ≡ true →
+            self.new.phase ≢ Phase.OutOfMemory }
+        ensures starves { self.new.phase ≡ Phase.OutOfMemory →
+            MayStarve self.old.phase self.old.left result }
+        ensures stays { self.old.phase ≡ Phase.OutOfMemory → self.new.phase ≡ Phase.OutOfMemory }
     {
         if !self.listens(side) {
             return self.advance();
         }
-        self.end(End::Device(side), self.written + 1)
+        self.end(End::Device(side))
     }
 
     // Whether the run has this side and goes on.
     fn listens(&self, side: Who) -> bool
-        ensures { result ≡ listens (standing self.now) side }
+        ensures { result ≡ listens (core_state self.now) side }
     {
-        let goes_on = !matches!(self.phase, Phase::Over(_) | Phase::Starved);
+        let goes_on = !matches!(self.phase, Phase::Over(_) | Phase::OutOfMemory);
         let has_side = match side {
             Who::Controller => !matches!(self.setup.controller, Talk::Nobody),
             Who::Oracle => self.setup.oracle,
@@ -252,8 +287,8 @@ impl<M: Machine> Core<M> {
 
     // What is waited for. At `Made` and `Answered` a core could go on.
     fn wants(&self) -> Wants
-        ensures tells { WantsTell (standing self.now) result }
-        ensures starved { self.now.phase ≡ Phase.Starved → result ≡ Wants.Memory }
+        ensures tells { WantsTell (core_state self.now) result }
+        ensures starved { self.now.phase ≡ Phase.OutOfMemory → result ≡ Wants.Memory }
     {
         match self.phase {
             Phase::Fresh | Phase::Ready | Phase::Made | Phase::Answered => Wants::Turn,
@@ -272,23 +307,30 @@ impl<M: Machine> Core<M> {
                 }
             }
             Phase::Over(end) => Wants::Nothing(end),
-            Phase::Starved => Wants::Memory,
+            Phase::OutOfMemory => Wants::Memory,
         }
     }
 
     // Goes on until one piece is put out, or a byte is needed that is not there, or the run has ended, or memory
     // ran out.
     fn advance(&mut self) -> Option<PieceKind>
-        ensures out { PutsOut (resume (standing self.old)) result self.new.writer.text.items (standing self.new) }
-        ensures waits { result ≡ None → Waits self.new.phase (standing self.new) }
+        ensures out { PutsOut (resume (core_state self.old)) result self.new.writer.text.items
+            (core_state self.new) }
+        ensures waits { result ≡ None → Waits self.new.phase (core_state self.new) }
         ensures counts { self.new.written ≡ self.old.written + steps_in result }
-        ensures plan { (standing self.new).plan ≡ (standing self.old).plan }
-        ensures controller { goes_on self.new.phase ≡ true → Holds (controller_reads self.old.phase self.old.setup.controller result) (side_state self.old.controller) adding_none (side_state self.new.controller) }
-        ensures oracle { goes_on self.new.phase ≡ true → Holds (oracle_reads self.old.phase result) (side_state self.old.oracle) adding_none (side_state self.new.oracle) }
-        ensures falls { (Waits self.old.phase (standing self.old) → ⊥) → work_left (standing self.new) < work_left (standing self.old) }
-        ensures rises_not { work_left (standing self.new) ≤ work_left (standing self.old) }
-        ensures starves { self.new.phase ≡ Phase.Starved → MayStarve self.old.phase self.old.left result }
-        ensures stays { self.old.phase ≡ Phase.Starved → self.new.phase ≡ Phase.Starved }
+        ensures plan { (core_state self.new).plan ≡ (core_state self.old).plan }
+        ensures controller { goes_on self.new.phase ≡ true →
+            Holds (controller_reads self.old.phase self.old.setup.controller result)
+            (side_state self.old.controller) adding_none (side_state self.new.controller) }
+        ensures oracle { goes_on self.new.phase ≡ true →
+            Holds (oracle_reads self.old.phase result) (side_state self.old.oracle) adding_none
+            (side_state self.new.oracle) }
+        ensures falls { (Waits self.old.phase (core_state self.old) → ⊥) →
+            work_left (core_state self.new) < work_left (core_state self.old) }
+        ensures rises_not { work_left (core_state self.new) ≤ work_left (core_state self.old) }
+        ensures starves { self.new.phase ≡ Phase.OutOfMemory →
+            MayStarve self.old.phase self.old.left result }
+        ensures stays { self.old.phase ≡ Phase.OutOfMemory → self.new.phase ≡ Phase.OutOfMemory }
     {
         match self.phase {
             Phase::Fresh => {
@@ -301,24 +343,30 @@ impl<M: Machine> Core<M> {
             Phase::Controller => self.read_controller(),
             Phase::Answered => self.ask_oracle(),
             Phase::Oracle => self.read_oracle(),
-            Phase::Over(_) | Phase::Starved => None,
+            Phase::Over(_) | Phase::OutOfMemory => None,
         }
     }
 
     // Makes the next instant.
     fn make_instant(&mut self) -> Option<PieceKind>
         requires { self.old.phase ≡ Phase.Ready }
-        ensures out { PutsOut (from_here (standing self.old)) result self.new.writer.text.items (standing self.new) }
-        ensures waits { result ≡ None → Waits self.new.phase (standing self.new) }
+        ensures out { PutsOut (from_here (core_state self.old)) result self.new.writer.text.items
+            (core_state self.new) }
+        ensures waits { result ≡ None → Waits self.new.phase (core_state self.new) }
         ensures counts { self.new.written ≡ self.old.written + steps_in result }
-        ensures plan { (standing self.new).plan ≡ (standing self.old).plan }
-        ensures controller { goes_on self.new.phase ≡ true → Holds (controller_reads Phase.Ready self.old.setup.controller result) (side_state self.old.controller) adding_none (side_state self.new.controller) }
+        ensures plan { (core_state self.new).plan ≡ (core_state self.old).plan }
+        ensures controller { goes_on self.new.phase ≡ true →
+            Holds (controller_reads Phase.Ready self.old.setup.controller result)
+            (side_state self.old.controller) adding_none (side_state self.new.controller) }
         ensures oracle { side_state self.new.oracle ≡ side_state self.old.oracle }
-        ensures falls { work_left (standing self.new) < work_in Phase.Ready self.old.left (side_state self.old.controller).reading (side_state self.old.oracle).reading }
-        ensures starves { self.new.phase ≡ Phase.Starved → MayStarve Phase.Ready self.old.left result }
+        ensures falls { work_left (core_state self.new) <
+            work_in Phase.Ready self.old.left (side_state self.old.controller).reading
+            (side_state self.old.oracle).reading }
+        ensures starves { self.new.phase ≡ Phase.OutOfMemory →
+            MayStarve Phase.Ready self.old.left result }
     {
         if self.left == 0 {
-            return self.end(End::Limit, self.written);
+            return self.end(End::Limit);
         }
         match self.machine.step(self.alloc, &self.inputs) {
             Outcome::Values => {
@@ -328,13 +376,12 @@ impl<M: Machine> Core<M> {
             }
             Outcome::Over(end) => {
                 let cause = end.end();
-                let number = end.number(self.written + 1);
                 // The machine makes no further instant.
                 self.phase = Phase::Over(cause);
-                self.end(cause, number)
+                self.end(cause)
             }
             Outcome::Memory => {
-                self.phase = Phase::Starved;
+                self.phase = Phase::OutOfMemory;
                 None
             }
         }
@@ -343,14 +390,19 @@ impl<M: Machine> Core<M> {
     // Tells the controller, if there is one, the outputs of the instant at hand.
     fn ask_controller(&mut self) -> Option<PieceKind>
         requires { self.old.phase ≡ Phase.Made }
-        ensures out { PutsOut (play_once_made (standing self.old)) result self.new.writer.text.items (standing self.new) }
-        ensures waits { result ≡ None → Waits self.new.phase (standing self.new) }
-        ensures unstarved { self.new.phase ≢ Phase.Starved }
+        ensures out { PutsOut (play_once_made (core_state self.old)) result
+            self.new.writer.text.items (core_state self.new) }
+        ensures waits { result ≡ None → Waits self.new.phase (core_state self.new) }
+        ensures unstarved { self.new.phase ≢ Phase.OutOfMemory }
         ensures counts { self.new.written ≡ self.old.written + steps_in result }
-        ensures plan { (standing self.new).plan ≡ (standing self.old).plan }
-        ensures controller { goes_on self.new.phase ≡ true → Holds (controller_reads Phase.Made self.old.setup.controller result) (side_state self.old.controller) adding_none (side_state self.new.controller) }
+        ensures plan { (core_state self.new).plan ≡ (core_state self.old).plan }
+        ensures controller { goes_on self.new.phase ≡ true →
+            Holds (controller_reads Phase.Made self.old.setup.controller result)
+            (side_state self.old.controller) adding_none (side_state self.new.controller) }
         ensures oracle { side_state self.new.oracle ≡ side_state self.old.oracle }
-        ensures falls { work_left (standing self.new) < work_in Phase.Made self.old.left (side_state self.old.controller).reading (side_state self.old.oracle).reading }
+        ensures falls { work_left (core_state self.new) <
+            work_in Phase.Made self.old.left (side_state self.old.controller).reading
+            (side_state self.old.oracle).reading }
     {
         match self.setup.controller {
             Talk::Nobody => {
@@ -373,15 +425,23 @@ impl<M: Machine> Core<M> {
     // Reads the controller's reply.
     fn read_controller(&mut self) -> Option<PieceKind>
         requires { self.old.phase ≡ Phase.Controller }
-        ensures out { PutsOut (resume_in Phase.Controller (standing self.old)) result self.new.writer.text.items (standing self.new) }
-        ensures waits { result ≡ None → Waits self.new.phase (standing self.new) }
-        ensures unstarved { self.new.phase ≢ Phase.Starved }
+        ensures out { PutsOut (resume_in Phase.Controller (core_state self.old)) result
+            self.new.writer.text.items (core_state self.new) }
+        ensures waits { result ≡ None → Waits self.new.phase (core_state self.new) }
+        ensures unstarved { self.new.phase ≢ Phase.OutOfMemory }
         ensures counts { self.new.written ≡ self.old.written + steps_in result }
-        ensures plan { (standing self.new).plan ≡ (standing self.old).plan }
-        ensures controller { goes_on self.new.phase ≡ true → Holds (reads_reply result) (side_state self.old.controller) adding_none (side_state self.new.controller) }
+        ensures plan { (core_state self.new).plan ≡ (core_state self.old).plan }
+        ensures controller { goes_on self.new.phase ≡ true →
+            Holds (reads_reply result) (side_state self.old.controller) adding_none
+            (side_state self.new.controller) }
         ensures oracle { side_state self.new.oracle ≡ side_state self.old.oracle }
-        ensures falls { (IsEmpty (side_state self.old.controller) → ⊥) → work_left (standing self.new) < work_in Phase.Controller self.old.left (side_state self.old.controller).reading (side_state self.old.oracle).reading }
-        ensures rises_not { work_left (standing self.new) ≤ work_in Phase.Controller self.old.left (side_state self.old.controller).reading (side_state self.old.oracle).reading }
+        ensures falls { (IsEmpty (side_state self.old.controller) → ⊥) →
+            work_left (core_state self.new) <
+            work_in Phase.Controller self.old.left (side_state self.old.controller).reading
+            (side_state self.old.oracle).reading }
+        ensures rises_not { work_left (core_state self.new) ≤
+            work_in Phase.Controller self.old.left (side_state self.old.controller).reading
+            (side_state self.old.oracle).reading }
     {
         match self.controller.read() {
             Read::Whole => {
@@ -393,36 +453,33 @@ impl<M: Machine> Core<M> {
                 self.ask_oracle()
             }
             Read::Needs => None,
-            Read::Short(taken) => self.end(
-                End::Ended {
-                    who: Who::Controller,
-                    taken,
-                },
-                self.written + 1,
-            ),
-            Read::Malformed(fault, place) => self.end(
-                End::Malformed {
-                    who: Who::Controller,
-                    fault,
-                    place,
-                },
-                self.written + 1,
-            ),
+            Read::Short(taken) => self.end(End::Ended {
+                who: Who::Controller,
+                taken,
+            }),
+            Read::Malformed(fault, place) => self.end(End::Malformed {
+                who: Who::Controller,
+                fault,
+                place,
+            }),
         }
     }
 
     // Tells the oracle the step at hand, or puts the step out where there is none.
     fn ask_oracle(&mut self) -> Option<PieceKind>
         requires { self.old.phase ≡ Phase.Answered }
-        ensures out { PutsOut (play_once_answered (standing self.old) self.old.inputs.items) result self.new.writer.text.items (standing self.new) }
-        ensures waits { result ≡ None → Waits self.new.phase (standing self.new) }
-        ensures unstarved { self.new.phase ≢ Phase.Starved }
+        ensures out { PutsOut (play_once_answered (core_state self.old) self.old.inputs.items)
+            result self.new.writer.text.items (core_state self.new) }
+        ensures waits { result ≡ None → Waits self.new.phase (core_state self.new) }
+        ensures unstarved { self.new.phase ≢ Phase.OutOfMemory }
         ensures puts { reads_reply result ≡ one }
         ensures counts { self.new.written ≡ self.old.written + steps_in result }
-        ensures plan { (standing self.new).plan ≡ (standing self.old).plan }
+        ensures plan { (core_state self.new).plan ≡ (core_state self.old).plan }
         ensures controller { side_state self.new.controller ≡ side_state self.old.controller }
         ensures oracle { side_state self.new.oracle ≡ side_state self.old.oracle }
-        ensures falls { work_left (standing self.new) < work_in Phase.Answered self.old.left (side_state self.old.controller).reading (side_state self.old.oracle).reading }
+        ensures falls { work_left (core_state self.new) <
+            work_in Phase.Answered self.old.left (side_state self.old.controller).reading
+            (side_state self.old.oracle).reading }
     {
         if !self.setup.oracle {
             self.written += 1;
@@ -438,15 +495,23 @@ impl<M: Machine> Core<M> {
     // Reads the oracle's reply.
     fn read_oracle(&mut self) -> Option<PieceKind>
         requires { self.old.phase ≡ Phase.Oracle }
-        ensures out { PutsOut (resume_in Phase.Oracle (standing self.old)) result self.new.writer.text.items (standing self.new) }
-        ensures waits { result ≡ None → Waits self.new.phase (standing self.new) }
-        ensures unstarved { self.new.phase ≢ Phase.Starved }
+        ensures out { PutsOut (resume_in Phase.Oracle (core_state self.old)) result
+            self.new.writer.text.items (core_state self.new) }
+        ensures waits { result ≡ None → Waits self.new.phase (core_state self.new) }
+        ensures unstarved { self.new.phase ≢ Phase.OutOfMemory }
         ensures counts { self.new.written ≡ self.old.written + steps_in result }
-        ensures plan { (standing self.new).plan ≡ (standing self.old).plan }
+        ensures plan { (core_state self.new).plan ≡ (core_state self.old).plan }
         ensures controller { side_state self.new.controller ≡ side_state self.old.controller }
-        ensures oracle { goes_on self.new.phase ≡ true → Holds (reads_reply result) (side_state self.old.oracle) adding_none (side_state self.new.oracle) }
-        ensures falls { (IsEmpty (side_state self.old.oracle) → ⊥) → work_left (standing self.new) < work_in Phase.Oracle self.old.left (side_state self.old.controller).reading (side_state self.old.oracle).reading }
-        ensures rises_not { work_left (standing self.new) ≤ work_in Phase.Oracle self.old.left (side_state self.old.controller).reading (side_state self.old.oracle).reading }
+        ensures oracle { goes_on self.new.phase ≡ true →
+            Holds (reads_reply result) (side_state self.old.oracle) adding_none
+            (side_state self.new.oracle) }
+        ensures falls { (IsEmpty (side_state self.old.oracle) → ⊥) →
+            work_left (core_state self.new) <
+            work_in Phase.Oracle self.old.left (side_state self.old.controller).reading
+            (side_state self.old.oracle).reading }
+        ensures rises_not { work_left (core_state self.new) ≤
+            work_in Phase.Oracle self.old.left (side_state self.old.controller).reading
+            (side_state self.old.oracle).reading }
     {
         match self.oracle.read() {
             Read::Whole => {
@@ -456,36 +521,33 @@ impl<M: Machine> Core<M> {
                 self.put_step(verdict)
             }
             Read::Needs => None,
-            Read::Short(taken) => self.end(
-                End::Ended {
-                    who: Who::Oracle,
-                    taken,
-                },
-                self.written + 1,
-            ),
-            Read::Malformed(fault, place) => self.end(
-                End::Malformed {
-                    who: Who::Oracle,
-                    fault,
-                    place,
-                },
-                self.written + 1,
-            ),
+            Read::Short(taken) => self.end(End::Ended {
+                who: Who::Oracle,
+                taken,
+            }),
+            Read::Malformed(fault, place) => self.end(End::Malformed {
+                who: Who::Oracle,
+                fault,
+                place,
+            }),
         }
     }
 
     // Puts out the step that was counted last, and the end where its verdict is false.
     fn put_step(&mut self, verdict: bool) -> Option<PieceKind>
         requires { self.old.phase ≡ Phase.Ready }
-        ensures out { PutsOut (play_once_judged (standing self.old) verdict) result self.new.writer.text.items (standing self.new) }
-        ensures waits { result ≡ None → Waits self.new.phase (standing self.new) }
-        ensures unstarved { self.new.phase ≢ Phase.Starved }
+        ensures out { PutsOut (play_once_judged (core_state self.old) verdict) result
+            self.new.writer.text.items (core_state self.new) }
+        ensures waits { result ≡ None → Waits self.new.phase (core_state self.new) }
+        ensures unstarved { self.new.phase ≢ Phase.OutOfMemory }
         ensures puts { result ≡ Some PieceKind.Step }
         ensures counts { self.new.written ≡ self.old.written }
-        ensures plan { (standing self.new).plan ≡ (standing self.old).plan }
+        ensures plan { (core_state self.new).plan ≡ (core_state self.old).plan }
         ensures controller { side_state self.new.controller ≡ side_state self.old.controller }
         ensures oracle { side_state self.new.oracle ≡ side_state self.old.oracle }
-        ensures rises_not { work_left (standing self.new) ≤ work_in Phase.Ready self.old.left (side_state self.old.controller).reading (side_state self.old.oracle).reading }
+        ensures rises_not { work_left (core_state self.new) ≤
+            work_in Phase.Ready self.old.left (side_state self.old.controller).reading
+            (side_state self.old.oracle).reading }
     {
         if verdict {
             self.writer.make_step(
@@ -508,19 +570,22 @@ impl<M: Machine> Core<M> {
         Some(PieceKind::Step)
     }
 
-    // Ends the run, with an end line of this number.
-    fn end(&mut self, end: End, number: u64) -> Option<PieceKind>
-        ensures out { PutsOut (λ c o. ended (standing self.old).plan end number) result self.new.writer.text.items (standing self.new) }
-        ensures waits { result ≡ None → Waits self.new.phase (standing self.new) }
-        ensures unstarved { self.new.phase ≢ Phase.Starved }
+    // Ends the run, with its end line.
+    fn end(&mut self, end: End) -> Option<PieceKind>
+        ensures out { PutsOut (λ c o.
+            ended (core_state self.old).plan end (end_number end self.old.written)) result
+            self.new.writer.text.items (core_state self.new) }
+        ensures waits { result ≡ None → Waits self.new.phase (core_state self.new) }
+        ensures unstarved { self.new.phase ≢ Phase.OutOfMemory }
         ensures puts { result ≡ Some PieceKind.EndLine }
         ensures counts { self.new.written ≡ self.old.written }
-        ensures plan { (standing self.new).plan ≡ (standing self.old).plan }
+        ensures plan { (core_state self.new).plan ≡ (core_state self.old).plan }
         ensures over { goes_on self.new.phase ≡ false }
         ensures controller { side_state self.new.controller ≡ side_state self.old.controller }
         ensures oracle { side_state self.new.oracle ≡ side_state self.old.oracle }
-        ensures falls { work_left (standing self.new) ≡ 0 }
+        ensures falls { work_left (core_state self.new) ≡ 0 }
     {
+        let number = end.number(self.written);
         self.writer.make_end(end, self.machine.names(), number);
         self.phase = Phase::Over(end);
         Some(PieceKind::EndLine)

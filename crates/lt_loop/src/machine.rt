@@ -2,7 +2,7 @@
 
 ghost use Rattle.std.specs.Prelude.{◌≡◌, ◌<◌, ◌≤◌, ◌+◌, ℕ, true, List, Some, map, length, string_bytes};
 ghost use Rattle.lt_num.specs.Bounds.{most_decimals};
-ghost use Rattle.lt_loop.specs.Machine.{Instant, MayStep, Rules, StepTells, end_of, number_of};
+ghost use Rattle.lt_loop.specs.Machine.{Instant, MayStep, Rules, StepTells, end_of};
 ghost use Rattle.lt_loop.specs.Scene.{Scene, fit, input_slots};
 ghost use Rattle.lt_loop.specs.SceneView.{variable};
 ghost use Rattle.lt_loop.specs.declared.machine.Outcome.{Outcome};
@@ -48,23 +48,6 @@ impl ScenarioEnd {
             ScenarioEnd::Budget { need } => End::Budget { need },
         }
     }
-
-    /// The number of the end line, where the instant at hand has this number, from 1: the steps before it where
-    /// the scenario is over, and else its own.
-    pub fn number(self, instant: u64) -> u64
-        requires { 1 ≤ instant }
-        ensures is { result ≡ number_of self instant }
-        ensures small { result ≤ instant }
-    {
-        match self {
-            ScenarioEnd::Normal => instant - 1,
-            ScenarioEnd::Deadlock
-            | ScenarioEnd::Raise { .. }
-            | ScenarioEnd::Fault(_)
-            | ScenarioEnd::TooLarge
-            | ScenarioEnd::Budget { .. } => instant,
-        }
-    }
 }
 
 /// What a step of a machine answers.
@@ -103,14 +86,17 @@ pub trait Machine: Drop {
     fn step(&mut self, alloc: Global, inputs: &[Value]) -> Outcome
         requires inputs { fit (input_slots (scene self.old)) inputs.now ≡ true }
         requires may { MayStep (rules.made (state self.old)) }
-        ensures tells { StepTells (rules.instant (state self.old) inputs.now) result (state self.new) }
-        ensures made { (n : ℕ) → result ≡ Outcome.Values → rules.made (state self.old) ≡ Some n → rules.made (state self.new) ≡ Some (n + 1) }
+        ensures tells { StepTells (rules.instant (state self.old) inputs.now) result
+            (state self.new) }
+        ensures made { (n : ℕ) → result ≡ Outcome.Values → rules.made (state self.old) ≡ Some n →
+            rules.made (state self.new) ≡ Some (n + 1) }
         ensures scene { scene self.new ≡ scene self.old };
 
     /// The outputs of the last instant, a value for each output of the scenario.
     fn outputs(&self) -> &[Value]
         ensures is { result.now ≡ rules.outputs (state self.now) }
-        ensures all { (n : ℕ) → rules.made (state self.now) ≡ Some (n + 1) → length result.now ≡ length (scene self.now).outputs };
+        ensures all { (n : ℕ) → rules.made (state self.now) ≡ Some (n + 1) →
+            length result.now ≡ length (scene self.now).outputs };
 
     /// The locals of the last instant, in the order of their variables; one that is out of scope has no value.
     fn locals(&self) -> &[Option<Value>]

@@ -27,5 +27,5 @@ pub enum Phase {
     Over(End),
 
     /// Memory ran out in an instant, and the run can't go on.
-    Starved,
+    OutOfMemory,
 }

@@ -65,7 +65,8 @@ impl Side {
     /// A side of which nothing was taken, with replies of these slots. Only this call takes memory.
     pub fn make(alloc: Global, slots: Vec<Slot>, decimals: u32) -> Result<Side, AllocError>
         requires { decimals ≤ most_decimals }
-        ensures reading { IfOk result (λ s. (side_state s).reading ≡ between decimals slots.items 0) }
+        ensures reading { IfOk result (λ s. (side_state s).reading ≡
+            between decimals slots.items 0) }
         ensures nothing { IfOk result (λ s. s.kept.items ≡ []) }
         ensures open { IfOk result (λ s. s.is_closed ≡ false) }
     {
@@ -79,7 +80,8 @@ impl Side {
     /// The side of an oracle, of which nothing was taken.
     pub fn of_oracle(alloc: Global, decimals: u32) -> Result<Side, AllocError>
         requires { decimals ≤ most_decimals }
-        ensures reading { IfOk result (λ s. (side_state s).reading ≡ between decimals verdict_slots 0) }
+        ensures reading { IfOk result (λ s. (side_state s).reading ≡
+            between decimals verdict_slots 0) }
         ensures nothing { IfOk result (λ s. s.kept.items ≡ []) }
         ensures open { IfOk result (λ s. s.is_closed ≡ false) }
     {
@@ -120,12 +122,15 @@ impl Side {
     /// Reads what is kept for the reply at hand.
     pub fn read(&mut self) -> Read
         requires { (side_state self.old).reading.begun.place < 2 ^ 62 }
-        ensures tells { ReadTells (side_state self.old) result (side_state self.new) (values_of self.new.reader) }
+        ensures tells { ReadTells (side_state self.old) result (side_state self.new)
+            (values_of self.new.reader) }
         ensures slots { (side_state self.new).reading.slots ≡ (side_state self.old).reading.slots }
-        ensures decimals { (side_state self.new).reading.begun.decimals ≡ (side_state self.old).reading.begun.decimals }
+        ensures decimals { (side_state self.new).reading.begun.decimals ≡
+            (side_state self.old).reading.begun.decimals }
         ensures moves { ReadMoves (side_state self.old) result (side_state self.new) }
         ensures closed { self.new.is_closed ≡ self.old.is_closed }
-        ensures fits { result ≡ Read.Whole → fit (side_state self.old).reading.slots (values_of self.new.reader) ≡ true }
+        ensures fits { result ≡ Read.Whole →
+            fit (side_state self.old).reading.slots (values_of self.new.reader) ≡ true }
     {
         match self.reader.feed(&self.kept) {
             Fed::Whole(count) => {
@@ -149,12 +154,15 @@ impl Side {
         requires place { (side_state self.old).reading.begun.place < 2 ^ 62 }
         requires none { self.old.kept.items ≡ [] }
         requires closed { self.old.is_closed ≡ true }
-        ensures tells { ReadTells (side_state self.old) result (side_state self.new) (values_of self.new.reader) }
+        ensures tells { ReadTells (side_state self.old) result (side_state self.new)
+            (values_of self.new.reader) }
         ensures slots { (side_state self.new).reading.slots ≡ (side_state self.old).reading.slots }
-        ensures decimals { (side_state self.new).reading.begun.decimals ≡ (side_state self.old).reading.begun.decimals }
+        ensures decimals { (side_state self.new).reading.begun.decimals ≡
+            (side_state self.old).reading.begun.decimals }
         ensures moves { ReadMoves (side_state self.old) result (side_state self.new) }
         ensures closed { self.new.is_closed ≡ self.old.is_closed }
-        ensures fits { result ≡ Read.Whole → fit (side_state self.old).reading.slots (values_of self.new.reader) ≡ true }
+        ensures fits { result ≡ Read.Whole →
+            fit (side_state self.old).reading.slots (values_of self.new.reader) ≡ true }
     {
         match self.reader.finish() {
             Closing::Whole => Read::Whole,
@@ -164,7 +172,7 @@ impl Side {
     }
 }
 
-// Takes so many bytes away at the front.
+// Takes so many bytes away at the prefix.
 fn drop_front(bytes: &mut Vec<u8>, count: usize)
     requires { count ≤ vec_len bytes.old }
     ensures items { bytes.new.items ≡ drop count bytes.old.items }

@@ -28,7 +28,11 @@ impl Var {
     /// that is nearest to 0.
     pub fn first_value(&self) -> Value
         ensures is { result ≡ first_value self.now.kind self.now.range self.now.first }
-        ensures fits { may_hold (record { kind = self.now.kind; range = Some self.now.range; keep = true }) result ≡ true }
+        ensures fits { may_hold (record {
+          kind = self.now.kind;
+          range = Some self.now.range;
+          keep = true;
+        }) result ≡ true }
     {
         match self.first {
             Some(value) => value,

@@ -84,8 +84,10 @@ impl Writer {
         seed: u64,
         writes_locals: bool,
     ) -> Result<Writer, AllocError>
-        ensures writes { IfOk result (λ w. writing w ≡ writing_of (M.scene machine.now) writes_locals) }
-        ensures header { IfOk result (λ w. w.text.items ≡ header_in (M.scene machine.now) seed writes_locals) }
+        ensures writes { IfOk result (λ w. writing w ≡
+            writing_of (M.scene machine.now) writes_locals) }
+        ensures header { IfOk result (λ w. w.text.items ≡
+            header_in (M.scene machine.now) seed writes_locals) }
     {
         let Some(names) = with_texts(0, machine.names()) else {
             return Err(AllocError);
@@ -110,7 +112,8 @@ impl Writer {
     /// Makes the line of an instant's outputs.
     pub fn make_line(&mut self, outputs: &[Value])
         requires { length outputs.now ≡ length (writing self.old).outputs }
-        ensures is { self.new.text.items ≡ line_text (writing self.old).decimals (writing self.old).outputs outputs.now }
+        ensures is { self.new.text.items ≡
+            line_text (writing self.old).decimals (writing self.old).outputs outputs.now }
         ensures same { writing self.new ≡ writing self.old }
     {
         // Laws that the proof needs: the room is enough for a line whose values have 64 bits, as these have.
@@ -123,7 +126,9 @@ impl Writer {
     /// Makes the line of a step's outputs and inputs.
     pub fn make_step_line(&mut self, outputs: &[Value], inputs: &[Value])
         requires { length outputs.now + length inputs.now ≡ length (writing self.old).step }
-        ensures is { self.new.text.items ≡ line_text (writing self.old).decimals (writing self.old).step (outputs.now ++ inputs.now) }
+        ensures is { self.new.text.items ≡
+            line_text (writing self.old).decimals (writing self.old).step (outputs.now ++
+            inputs.now) }
         ensures same { writing self.new ≡ writing self.old }
     {
         self.values.clear();
@@ -144,7 +149,8 @@ impl Writer {
         inputs: &[Value],
         locals: &[Option<Value>],
     )
-        ensures is { self.new.text.items ≡ step_in (writing self.old) number outputs.now inputs.now locals.now }
+        ensures is { self.new.text.items ≡
+            step_in (writing self.old) number outputs.now inputs.now locals.now }
         ensures same { writing self.new ≡ writing self.old }
     {
         // Laws that the proof needs: the room is enough for a step whose values have 64 bits, as these have.
@@ -165,7 +171,7 @@ impl Writer {
         );
     }
 
-    /// Makes the text of the step of this number, with an end line of the same number behind it. Exceptions have
+    /// Makes the text of the step of this number, with an end line of the same number after it. Exceptions have
     /// these names.
     pub fn make_last_step(
         &mut self,
@@ -176,8 +182,11 @@ impl Writer {
         end: End,
         names: &[String],
     )
-        requires { sum_by (λ name. length name) (map string_bytes names.now) ≡ (writing self.old).names }
-        ensures is { self.new.text.items ≡ step_in (writing self.old) number outputs.now inputs.now locals.now ++ end_text end (map string_bytes names.now) number }
+        requires { sum_by (λ name. length name) (map string_bytes names.now) ≡
+            (writing self.old).names }
+        ensures is { self.new.text.items ≡
+            step_in (writing self.old) number outputs.now inputs.now locals.now ++
+            end_text end (map string_bytes names.now) number }
         ensures same { writing self.new ≡ writing self.old }
     {
         // Laws that the proof needs, as for a step alone.
@@ -202,7 +211,8 @@ impl Writer {
 
     /// Makes the end line, with this number. Exceptions have these names.
     pub fn make_end(&mut self, end: End, names: &[String], number: u64)
-        requires { sum_by (λ name. length name) (map string_bytes names.now) ≡ (writing self.old).names }
+        requires { sum_by (λ name. length name) (map string_bytes names.now) ≡
+            (writing self.old).names }
         ensures is { self.new.text.items ≡ end_text end (map string_bytes names.now) number }
         ensures same { writing self.new ≡ writing self.old }
     {
@@ -223,7 +233,8 @@ fn where_written(writes_locals: bool, locals: &[Option<Value>]) -> Option<&[Opti
 
 // Variables as a header declares them.
 fn declared(alloc: Global, variables: &[Var]) -> Result<Vec<Declared>, AllocError>
-    ensures { IfOk result (λ v. map declared_variable v.items ≡ map declared_as (map variable variables.now)) }
+    ensures { IfOk result (λ v. map declared_variable v.items ≡
+        map declared_as (map variable variables.now)) }
 {
     let mut declared = Vec::new(alloc);
     for variable in variables {
@@ -258,9 +269,10 @@ fn all_kinds<M: Machine>(alloc: Global, machine: &M) -> Result<Vec<Kind>, AllocE
     with_kinds(kinds, machine.local_vars())
 }
 
-// Some kinds, and those of variables behind them.
+// Some kinds, and those of variables after them.
 fn with_kinds(kinds: Vec<Kind>, variables: &[Var]) -> Result<Vec<Kind>, AllocError>
-    ensures { IfOk result (λ more. more.items ≡ kinds.items ++ kinds_of (map variable variables.now)) }
+    ensures { IfOk result (λ more. more.items ≡ kinds.items ++
+        kinds_of (map variable variables.now)) }
 {
     let mut kinds = kinds;
     for variable in variables {
@@ -278,8 +290,10 @@ fn header<M: Machine>(
     writes_locals: bool,
     names: u32,
 ) -> Result<Vec<u8>, AllocError>
-    ensures text { IfOk result (λ text. text.items ≡ header_in (M.scene machine.now) seed writes_locals) }
-    ensures room { IfOk result (λ text. room_for (length (all_kinds (M.scene machine.now))) names ≤ vec_capacity text) }
+    ensures text { IfOk result (λ text. text.items ≡
+        header_in (M.scene machine.now) seed writes_locals) }
+    ensures room { IfOk result (λ text. room_for (length (all_kinds (M.scene machine.now))) names ≤
+        vec_capacity text) }
 {
     let outputs = declared(alloc, machine.output_vars())?;
     let inputs = declared(alloc, machine.input_vars())?;
@@ -305,8 +319,12 @@ fn header_of(
     writes_locals: bool,
     names: u32,
 ) -> Result<Vec<u8>, AllocError>
-    ensures text { IfOk result (λ text. text.items ≡ header_text seed (map declared_variable outputs.now) (map declared_variable inputs.now) (where_written writes_locals (map declared_variable locals.now))) }
-    ensures room { IfOk result (λ text. room_for (length outputs.now + length inputs.now + length locals.now) names ≤ vec_capacity text) }
+    ensures text { IfOk result (λ text. text.items ≡
+        header_text seed (map declared_variable outputs.now) (map declared_variable inputs.now)
+        (where_written writes_locals (map declared_variable locals.now))) }
+    ensures room { IfOk result (λ text.
+        room_for (length outputs.now + length inputs.now + length locals.now) names ≤
+        vec_capacity text) }
 {
     let Some(room) = room_of(outputs, inputs, locals, names) else {
         return Err(AllocError);
@@ -333,7 +351,9 @@ fn room_of(
     locals: &[Declared],
     names: u32,
 ) -> Option<usize>
-    ensures { IfSome result (λ room. room ≡ room_for (length outputs.now + length inputs.now + length locals.now) (names + names_of outputs.now + names_of inputs.now + names_of locals.now)) }
+    ensures { IfSome result (λ room. room ≡
+        room_for (length outputs.now + length inputs.now + length locals.now)
+        (names + names_of outputs.now + names_of inputs.now + names_of locals.now)) }
 {
     let variables = with_length(with_length(0, outputs.len())?, inputs.len())?;
     let variables = with_length(variables, locals.len())?;

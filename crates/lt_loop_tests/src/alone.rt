@@ -38,7 +38,14 @@ impl Machine for Alone {
 
     ghost rules = { repeats };
 
-    ghost scene = { λ s. record { decimals = 2; outputs = variable s.output ∷ []; inputs = []; locals = []; exceptions = [] } };
+    ghost scene = { λ s. record {
+      decimals = 2;
+      outputs = variable s.output ∷
+          [];
+      inputs = [];
+      locals = [];
+      exceptions = [];
+    } };
 
     ghost state = { λ s. record { made = s.made; given = s.given } };
 

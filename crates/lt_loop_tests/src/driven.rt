@@ -1,11 +1,11 @@
 //! Runs that are driven over links and a sink in memory.
 
-ghost use Rattle.lt_loop.specs.CoreView.{standing};
+ghost use Rattle.lt_loop.specs.CoreView.{core_state};
 ghost use Rattle.lt_loop.specs.Event.{WantsTell};
 
 use crate::alone::Alone;
 use crate::echo::Echo;
-use lt_drive::{Driven, drive};
+use lt_drive::{DriveEnd, drive};
 use lt_io::{MemSink, ScriptLink};
 use lt_loop::{Core, Machine, Setup, Talk, Wants};
 use std::alloc::Global;
@@ -121,14 +121,14 @@ fn drive_alone(alloc: Global, room: u64) -> Result<String, Fail> {
     drive_over(alloc, &mut core, three_steps(dead, dead), LONE_HEADER)
 }
 
-// Drives a run over the links and the sink of a script, and tells what came of it, with its trace behind this header.
+// Drives a run over the links and the sink of a script, and tells what came of it, with its trace after this header.
 fn drive_over<M: Machine>(
     alloc: Global,
     core: &mut Core<M>,
     script: Script<'_>,
     header: &str,
 ) -> Result<String, Fail>
-    requires { WantsTell (standing core.old) Wants.Turn }
+    requires { WantsTell (core_state core.old) Wants.Turn }
 {
     let mut controller = script.controller.link(alloc)?;
     let mut oracle = script.oracle.link(alloc)?;
@@ -138,12 +138,12 @@ fn drive_over<M: Machine>(
     shown(alloc, header, driven, steps, &controller, &oracle, &trace)
 }
 
-// What came of a run, as text: the trace behind its header, what the controller was sent and the oracle was shown, and
+// What came of a run, as text: the trace after its header, what the controller was sent and the oracle was shown, and
 // how the driving ended, after how many steps, with how many faults of the controller, of the oracle and of the trace.
 fn shown(
     alloc: Global,
     header: &str,
-    driven: Driven,
+    driven: DriveEnd,
     steps: u64,
     controller: &ScriptLink,
     oracle: &ScriptLink,
@@ -259,7 +259,7 @@ fn a_side_that_fails_ends_the_run(rt: HostRuntime) -> Result<(), Fail> {
 }
 
 #[test]
-fn a_front_is_sent_where_there_is_no_room_for_more(rt: HostRuntime) -> Result<(), Fail> {
+fn a_prefix_is_sent_where_there_is_no_room_for_more(rt: HostRuntime) -> Result<(), Fail> {
     let mut script = three_steps(Said::whole(REPLIES), Said::whole(VERDICTS));
     script.controller.room = 3;
     let due = r#"#step 1
@@ -275,22 +275,20 @@ fn a_trace_without_room_ends_the_driving(rt: HostRuntime) -> Result<(), Fail> {
     let text =
         "#seed 0\n#inputs \"x\":int\n#outputs \"y\":int\n#step 1\n5 #outs 7\n#step 2\n7 #outs 8\n";
     for (room, untraced) in [
-        (0, "Untraced { step: 0 }"),
-        (10, "Untraced { step: 0 }"),
-        (41, "Untraced { step: 1 }"),
-        (50, "Untraced { step: 1 }"),
-        (59, "Untraced { step: 2 }"),
-        (64, "Untraced { step: 2 }"),
+        (0, "TraceWriteFailed { step: 0 }"),
+        (10, "TraceWriteFailed { step: 0 }"),
+        (41, "TraceWriteFailed { step: 1 }"),
+        (50, "TraceWriteFailed { step: 1 }"),
+        (59, "TraceWriteFailed { step: 2 }"),
+        (64, "TraceWriteFailed { step: 2 }"),
     ] {
         let mut script = three_steps(Said::whole(REPLIES), Said::whole(VERDICTS));
         script.room = room;
         let found = drive_echo(rt.alloc(), script, "")?;
         let traced = text.get(..room).unwrap_or("no such place");
-        let behind = found.strip_prefix(traced).unwrap_or("another trace");
+        let rest = found.strip_prefix(traced).unwrap_or("another trace");
         assert!(rt;
-            behind.starts_with("sent ")
-                && behind.contains(untraced)
-                && behind.ends_with(" faults 0 0 1"),
+            rest.starts_with("sent ") && rest.contains(untraced) && rest.ends_with(" faults 0 0 1"),
             "{found}"
         );
     }
@@ -304,7 +302,7 @@ fn a_side_and_the_trace_both_fail(rt: HostRuntime) -> Result<(), Fail> {
     let mut script = three_steps(controller, Said::whole(VERDICTS));
     script.room = 41;
     let due = r#"sent "5\n", shown ""
-Untraced { step: 1 } after 0, faults 1 0 1"#;
+TraceWriteFailed { step: 1 } after 0, faults 1 0 1"#;
     check(&rt, rt.alloc(), script, due)
 }
 
@@ -359,14 +357,14 @@ Ended(Limit) after 2, faults 0 0 0"#;
 #[test]
 fn a_run_starves_where_memory_runs_out(rt: HostRuntime) -> Result<(), Fail> {
     let at_once = r#"sent "", shown ""
-Starved after 0, faults 0 0 0"#;
+OutOfMemory after 0, faults 0 0 0"#;
     check_alone(&rt, rt.alloc(), 0, at_once)?;
     let later = r#"#step 1
 5 #outs
 #step 2
 5 #outs
 sent "", shown ""
-Starved after 2, faults 0 0 0"#;
+OutOfMemory after 2, faults 0 0 0"#;
     check_alone(&rt, rt.alloc(), 2, later)
 }
 

@@ -38,7 +38,14 @@ impl Machine for Echo {
 
     ghost rules = { echoes };
 
-    ghost scene = { λ s. record { decimals = 2; outputs = variable s.output ∷ []; inputs = variable s.input ∷ []; locals = []; exceptions = [] } };
+    ghost scene = { λ s. record {
+      decimals = 2;
+      outputs = variable s.output ∷
+          [];
+      inputs = variable s.input ∷ [];
+      locals = [];
+      exceptions = [];
+    } };
 
     ghost state = { λ s. record { most = s.most; made = s.made; given = s.given } };
 

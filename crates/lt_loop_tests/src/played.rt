@@ -1,13 +1,13 @@
 //! Runs with programs in memory beside them.
 
-ghost use Rattle.lt_loop.specs.CoreView.{standing};
+ghost use Rattle.lt_loop.specs.CoreView.{core_state};
 ghost use Rattle.lt_loop.specs.Event.{WantsTell};
 
 use crate::alone::Alone;
 use crate::echo::Echo;
 use lt_io::{Calls, MemSink, MemSpawner, ScriptLink};
-use lt_loop::{Core, Machine, Setup, Talk, Wants};
-use lt_session::{Played, Sides, Source, play};
+use lt_loop::{Core, InputSource, Machine, Setup, Talk, Wants};
+use lt_session::{SessionEnd, Sides, play};
 use std::alloc::Global;
 use std::process::Abort;
 use std::str::from_utf8;
@@ -37,9 +37,9 @@ fn play_echo(alloc: Global, sides: Sides<'_>, programs: &[Program<'_>]) -> Resul
         seed: 0,
         limit: 2,
         locals: false,
-        controller: match sides.controller {
-            Source::Recorded(_) => Talk::Replay,
-            Source::Nobody | Source::Program(_) => Talk::Live,
+        controller: match sides.inputs {
+            InputSource::Trace(_) => Talk::Replay,
+            InputSource::Nobody | InputSource::Program(_) => Talk::Live,
         },
         oracle: sides.oracle.is_some(),
     };
@@ -55,7 +55,7 @@ fn play_over<M: Machine>(
     sides: Sides<'_>,
     programs: &[Program<'_>],
 ) -> Result<String, Fail>
-    requires { WantsTell (standing core.old) Wants.Turn }
+    requires { WantsTell (core_state core.old) Wants.Turn }
 {
     let mut spawner = spawner_of(alloc, programs)?;
     let mut trace = MemSink::make(alloc, 1000, Vec::new(alloc))?;
@@ -66,7 +66,7 @@ fn play_over<M: Machine>(
 // What came of a run, as text.
 fn shown(
     alloc: Global,
-    played: Played,
+    played: SessionEnd,
     spawner: &MemSpawner,
     trace: &MemSink,
 ) -> Result<String, Fail> {
@@ -97,7 +97,8 @@ const CAR: Program<'_> = ("car", "7\n8\n", &[]);
 #[test]
 fn programs_are_started_by_their_commands(rt: HostRuntime) -> Result<(), Fail> {
     let sides = Sides {
-        controller: Source::Program("car 1"),
+        inputs: InputSource::Program("car 1"),
+        replay: &[],
         oracle: Some("judge"),
     };
     let due = r#"#seed 0
@@ -122,7 +123,8 @@ Driven(Ended(Limit)), asked for ["car 1", "judge"], 0 faults"#;
 fn recorded_bytes_stand_for_a_controller(rt: HostRuntime) -> Result<(), Fail> {
     let earlier = "#seed 3\n#step 1\n5 #outs 7\n#step 2\n7 #outs 8\n#end limit 2\n";
     let sides = Sides {
-        controller: Source::Recorded(earlier.as_bytes()),
+        inputs: InputSource::Trace("earlier"),
+        replay: earlier.as_bytes(),
         oracle: None,
     };
     let due = r#"#seed 0
@@ -148,7 +150,8 @@ fn a_run_without_a_controller_starts_nothing(rt: HostRuntime) -> Result<(), Fail
     };
     let mut core = Core::make(rt.alloc(), Alone::make(rt.alloc(), 9)?, setup)?;
     let sides = Sides {
-        controller: Source::Nobody,
+        inputs: InputSource::Nobody,
+        replay: &[],
         oracle: None,
     };
     let found = play_over(rt.alloc(), &mut core, sides, &[("car", "7\n", &[])])?;
@@ -166,19 +169,21 @@ Driven(Ended(Limit)), asked for [], 0 faults"#;
 #[test]
 fn a_program_that_is_not_there_is_blamed(rt: HostRuntime) -> Result<(), Fail> {
     let sides = Sides {
-        controller: Source::Program("car"),
+        inputs: InputSource::Program("car"),
+        replay: &[],
         oracle: Some("judge"),
     };
-    let controller = r#"Unstarted(Controller), asked for ["car"], 1 faults"#;
+    let controller = r#"StartFailed(Controller), asked for ["car"], 1 faults"#;
     check(&rt, rt.alloc(), sides, &[JUDGE], controller)?;
-    let oracle = r#"Unstarted(Oracle), asked for ["car", "judge"], 1 faults"#;
+    let oracle = r#"StartFailed(Oracle), asked for ["car", "judge"], 1 faults"#;
     check(&rt, rt.alloc(), sides, &[CAR], oracle)
 }
 
 #[test]
 fn a_link_that_fails_is_counted(rt: HostRuntime) -> Result<(), Fail> {
     let sides = Sides {
-        controller: Source::Program("car"),
+        inputs: InputSource::Program("car"),
+        replay: &[],
         oracle: None,
     };
     let due = r#"#seed 0

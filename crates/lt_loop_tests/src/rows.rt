@@ -22,7 +22,7 @@ fn live(limit: u16, replies: &[u8]) -> Script<'_> {
     }
 }
 
-// This comes of a run, in pieces of any length: its trace behind the header, and what is sent to its sides.
+// This comes of a run, in pieces of any length: its trace after the header, and what is sent to its sides.
 fn check(rt: &impl Abort, alloc: Global, script: Script<'_>, due: &str) -> Result<(), Fail> {
     for length in 1..80 {
         let found = shown(alloc, &run(alloc, script, length)?)?;
@@ -86,7 +86,7 @@ sent "5\n1\n", shown "5 1\n1 2\n""#;
 }
 
 #[test]
-fn an_end_comes_behind_the_bytes_before_it(rt: HostRuntime) -> Result<(), Fail> {
+fn an_end_comes_after_the_bytes_before_it(rt: HostRuntime) -> Result<(), Fail> {
     let malformed = r#"#step 1
 5 #outs 1
 #step 2

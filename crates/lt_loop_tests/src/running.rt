@@ -1,5 +1,5 @@
 //! Runs of a core whose streams come in pieces of one length, where they are wanted. The end of the controller's stream
-//! comes right behind its last piece, while bytes of it may still be kept.
+//! comes right after its last piece, while bytes of it may still be kept.
 
 use crate::echo::Echo;
 use lt_loop::{Core, Destination, Emits, Event, Setup, Talk, Wants};

@@ -4,7 +4,7 @@ mod Parsing
 mod Reals
 -- The form of a plant's lines.
 mod Lines
--- What is due to the bytes behind a line.
+-- What is due to the bytes after a line.
 mod Dues
 -- On the way through an input.
 mod Ways

@@ -39,12 +39,12 @@ pub read_within : (n d : ℤ) (real : Fixed) → IsRounded n d (Ok real) → uns
 read_within n d real h = bounded_within h.raw real (nat_le (unsigned_abs h.raw) most_raw) refl h.is_bounded
 
 -- what may follow the first digit of a number, at its first byte that is no digit
-pub behind_digits : (text : List ℕ) (i b : ℕ) → i < length text → b ≡ get_or text i 0 → is_ascii_digit b ≡ false → continues_number (drop i text) ≡ (is_point b && list_all is_ascii_digit (drop (i + 1) text))
-behind_digits text i b h e other = rw (drop-cons text i 0, ← e, other, add-one) refl
+pub after_digits : (text : List ℕ) (i b : ℕ) → i < length text → b ≡ get_or text i 0 → is_ascii_digit b ≡ false → continues_number (drop i text) ≡ (is_point b && list_all is_ascii_digit (drop (i + 1) text))
+after_digits text i b h e other = rw (drop-cons text i 0, ← e, other, add-one) refl
 
 -- a text is one that was printed exactly where a test says so
 pub tells_printed : (text printed into old : List ℕ) (n : ℕ) (is_same : Bool) → n ≡ length printed → into ≡ printed ++ old → is_same ≡ bytes_eq (take n into) text → Decides is_same (text ≡ printed)
 tells_printed text printed into old n is_same count written same =
-    let front : take n into ≡ printed = rw (count, written) (take-append_seam printed old) in
+    let prefix : take n into ≡ printed = rw (count, written) (take-append_seam printed old) in
     let decides = bytes_eq-Decides (take n into) text in
-    (λ is_true. sym (decides.0 (sym same ∙ is_true)) ∙ front, λ e. same ∙ decides.1 (front ∙ sym e))
+    (λ is_true. sym (decides.0 (sym same ∙ is_true)) ∙ prefix, λ e. same ∙ decides.1 (prefix ∙ sym e))

@@ -6,7 +6,7 @@ use Rattle.std.specs.declared.option.Option.{Option}
 use Rattle.lt_io.specs.Causes.{WhereTold}
 use Rattle.lt_plants.specs.Service.{input_of, longest_line, most_taken, ended, IsDue, IsServed}
 use Rattle.lt_plants.specs.inner.Endings.{code_of}
-use Rattle.lt_plants.specs.inner.Going.{GoesOn, EndsAfter, Serves, due_behind}
+use Rattle.lt_plants.specs.inner.Going.{GoesOn, EndsAfter, Serves, due_after}
 use Rattle.lt_plants.specs.declared.plant.Plant.{Plant}
 use Rattle.lt_plants.specs.declared.ending.Ending.{Ending}
 use Rattle.lt_plants.specs.declared.ending.Ending.TheVariants as ending
@@ -21,7 +21,7 @@ sent_kept (Some x) (Some y) (Some z) sent p q = q ∙ p
 
 -- a way goes on where nothing is sent
 pub way_kept : (a b c : Option (List ℕ)) (plant plant' : Plant) (last last' : Bool) (text before : List ℕ) →
-    GoesOn a b (λ bytes. due_behind plant last [] (before ++ bytes)) (due_behind plant' last' text) → Keeps b c → GoesOn a c (λ bytes. due_behind plant last [] (before ++ bytes)) (due_behind plant' last' text)
+    GoesOn a b (λ bytes. due_after plant last [] (before ++ bytes)) (due_after plant' last' text) → Keeps b c → GoesOn a c (λ bytes. due_after plant last [] (before ++ bytes)) (due_after plant' last' text)
 way_kept a b c plant plant' last last' text before way kept = (way.0, sent_kept a b c way.0 way.1 kept, way.2)
 
 -- nothing more was taken
@@ -34,7 +34,7 @@ none_more a b c bytes buffer count z p q =
 -- a service ends at the end of the input
 pub served_end : (plant plant' : Plant) (last last' : Bool) (text : List ℕ) (l0 l1 l2 s0 s1 s2 : Option (List ℕ)) (bytes buffer : List ℕ) (count taken : ℕ) →
     taken ≡ length bytes → taken < most_taken → Consumes l0 l1 bytes → Consumes l1 l2 (take count buffer) → count ≡ 0 → IsAtEnd l2 →
-    GoesOn s0 s1 (λ more. due_behind plant last [] (bytes ++ more)) (due_behind plant' last' text) → Keeps s1 s2 → length text ≤ longest_line →
+    GoesOn s0 s1 (λ more. due_after plant last [] (bytes ++ more)) (due_after plant' last' text) → Keeps s1 s2 → length text ≤ longest_line →
     Serves plant last l0 l2 s0 s2 ending.Ended
 served_end plant plant' last last' text l0 l1 l2 s0 s1 s2 bytes buffer count taken long few p q z over way kept short =
     let due = way.2 [] [] 0 (ended plant' last' text short) in
@@ -45,7 +45,7 @@ served_end plant plant' last last' text l0 l1 l2 s0 s1 s2 bytes buffer count tak
 -- a service ends in a piece
 pub served_after : (e : Ending) (plant plant' : Plant) (last last' : Bool) (text : List ℕ) (l0 l3 s0 s2 s3 : Option (List ℕ)) (bytes piece : List ℕ) (taken : ℕ) →
     taken ≡ length (bytes ++ piece) → Consumes l0 l3 (bytes ++ piece) →
-    GoesOn s0 s2 (λ more. due_behind plant last [] (bytes ++ more)) (due_behind plant' last' text) → EndsAfter s2 s3 (λ more. due_behind plant' last' text (piece ++ more)) taken e →
+    GoesOn s0 s2 (λ more. due_after plant last [] (bytes ++ more)) (due_after plant' last' text) → EndsAfter s2 s3 (λ more. due_after plant' last' text (piece ++ more)) taken e →
     Serves plant last l0 l3 s0 s3 e
 served_after ending.Failed plant plant' last last' text l0 l3 s0 s2 s3 bytes piece taken long p way h = tt
 served_after ending.Ended plant plant' last last' text l0 l3 s0 s2 s3 bytes piece taken long p way h = absurd h
@@ -71,15 +71,15 @@ served_told ending.Ended plant last (Some xs) None s0 s1 h other = absurd h.1
 served_told ending.Ended plant last (Some xs) (Some ys) s0 s1 h other =
     let all : xs ≡ h.0 = h.1 ∙ ap (λ t. h.0 ++ t) h.2 ∙ append-nil h.0 in
     let P : List ℕ → Type 0 = λ t. IsDue plant last (input_of [] t) h.4.0 0 in
-    record { taken = h.0; behind = ys; takes = h.1; leaves = refl; replies = h.4.0; sends = h.4.1; number = 0; answers = inl (h.3, subst P (sym all) h.4.2, refl) }
+    record { taken = h.0; after = ys; takes = h.1; leaves = refl; replies = h.4.0; sends = h.4.1; number = 0; answers = inl (h.3, subst P (sym all) h.4.2, refl) }
 served_told ending.NoReply plant last (Some xs) l1 s0 s1 h other =
     let told = told_at xs l1 h.0 h.1 in
     let P : List ℕ → Type 0 = λ t. IsDue plant last (input_of [] t) h.3.0 1 in
-    record { taken = h.0; behind = told.0; takes = told.2; leaves = told.1; replies = h.3.0; sends = h.3.1; number = 1; answers = inl (h.2, subst P (sym told.2) (h.3.2 told.0), refl) }
+    record { taken = h.0; after = told.0; takes = told.2; leaves = told.1; replies = h.3.0; sends = h.3.1; number = 1; answers = inl (h.2, subst P (sym told.2) (h.3.2 told.0), refl) }
 served_told ending.TooLong plant last (Some xs) l1 s0 s1 h other =
     let told = told_at xs l1 h.0 h.1 in
     let P : List ℕ → Type 0 = λ t. IsDue plant last (input_of [] t) h.3.0 2 in
-    record { taken = h.0; behind = told.0; takes = told.2; leaves = told.1; replies = h.3.0; sends = h.3.1; number = 2; answers = inl (h.2, subst P (sym told.2) (h.3.2 told.0), refl) }
+    record { taken = h.0; after = told.0; takes = told.2; leaves = told.1; replies = h.3.0; sends = h.3.1; number = 2; answers = inl (h.2, subst P (sym told.2) (h.3.2 told.0), refl) }
 served_told ending.TooMany plant last (Some xs) l1 s0 s1 h other =
     let told = told_at xs l1 h.0 h.1 in
-    record { taken = h.0; behind = told.0; takes = told.2; leaves = told.1; replies = h.3.0; sends = h.3.2; number = h.3.1; answers = inr (h.2, h.3.3, refl) }
+    record { taken = h.0; after = told.0; takes = told.2; leaves = told.1; replies = h.3.0; sends = h.3.2; number = h.3.1; answers = inr (h.2, h.3.3, refl) }

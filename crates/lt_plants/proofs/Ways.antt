@@ -7,7 +7,7 @@ use Rattle.std.proofs.KnownBytes.{Appends-nil, Appends-trans}
 use Rattle.std.specs.Io.KnownBytes.{Appends}
 use Rattle.std.specs.declared.option.Option.{Option}
 use Rattle.std.specs.declared.result.Result.{Result}
-use Rattle.lt_plants.specs.inner.Going.{GoesOn, EndsWith, EndsAfter, HasEnding, due_behind, limited_of}
+use Rattle.lt_plants.specs.inner.Going.{GoesOn, EndsWith, EndsAfter, HasEnding, due_after, limited_of}
 use Rattle.lt_plants.specs.Service.{longest_line, most_taken, ended}
 use Rattle.lt_plants.specs.declared.plant.Plant.{Plant}
 use Rattle.lt_plants.specs.declared.ending.Ending.{Ending}
@@ -24,29 +24,29 @@ bytes_from piece bytes i byte h e = rw (drop-cons piece i 0, ← e, add-one) ref
 
 -- a way through a piece, and one byte more
 pub goes_on : (a b c : Option (List ℕ)) (f : List ℕ → List ℕ → ℕ → Type 0) (plant plant' : Plant) (last last' : Bool) (text text' piece : List ℕ) (i byte : ℕ) → i < length piece → byte ≡ get_or piece i 0 →
-    GoesOn a b f (λ bytes. due_behind plant last text (drop i piece ++ bytes)) → GoesOn b c (λ bytes. due_behind plant last text (byte ∷ bytes)) (due_behind plant' last' text') →
-    GoesOn a c f (λ bytes. due_behind plant' last' text' (drop (i + 1) piece ++ bytes))
+    GoesOn a b f (λ bytes. due_after plant last text (drop i piece ++ bytes)) → GoesOn b c (λ bytes. due_after plant last text (byte ∷ bytes)) (due_after plant' last' text') →
+    GoesOn a c f (λ bytes. due_after plant' last' text' (drop (i + 1) piece ++ bytes))
 goes_on a b c f plant plant' last last' text text' piece i byte h e one two = (
   one.0 ++ two.0,
   Appends-trans a b c one.0 two.0 one.1 two.1,
   λ bytes replies number due.
-      let P : List ℕ → Type 0 = λ t. due_behind plant last text t (two.0 ++ replies) number in
+      let P : List ℕ → Type 0 = λ t. due_after plant last text t (two.0 ++ replies) number in
       rw (append_assoc one.0 two.0 replies) (one.2 bytes (two.0 ++ replies) number (subst P (sym (bytes_from piece bytes i byte h e)) (two.2 (drop (i + 1) piece ++ bytes) replies number due))),
 )
 
 ends_with : (a b c : Option (List ℕ)) (f : List ℕ → List ℕ → ℕ → Type 0) (plant : Plant) (last : Bool) (text piece : List ℕ) (i byte number : ℕ) → i < length piece → byte ≡ get_or piece i 0 →
-    GoesOn a b f (λ bytes. due_behind plant last text (drop i piece ++ bytes)) → EndsWith b c (λ bytes. due_behind plant last text (byte ∷ bytes)) number → EndsWith a c f number
+    GoesOn a b f (λ bytes. due_after plant last text (drop i piece ++ bytes)) → EndsWith b c (λ bytes. due_after plant last text (byte ∷ bytes)) number → EndsWith a c f number
 ends_with a b c f plant last text piece i byte number h e one two = (
   one.0 ++ two.0,
   Appends-trans a b c one.0 two.0 one.1 two.1,
   λ bytes.
-      let P : List ℕ → Type 0 = λ t. due_behind plant last text t two.0 number in
+      let P : List ℕ → Type 0 = λ t. due_after plant last text t two.0 number in
       one.2 bytes two.0 number (subst P (sym (bytes_from piece bytes i byte h e)) (two.2 (drop (i + 1) piece ++ bytes))),
 )
 
 -- a way through a piece, and an end at a byte
 pub ends_on : (ending : Ending) (a b c : Option (List ℕ)) (f : List ℕ → List ℕ → ℕ → Type 0) (plant : Plant) (last : Bool) (text piece : List ℕ) (i byte : ℕ) → i < length piece → byte ≡ get_or piece i 0 →
-    GoesOn a b f (λ bytes. due_behind plant last text (drop i piece ++ bytes)) → HasEnding b c (λ bytes. due_behind plant last text (byte ∷ bytes)) ending → HasEnding a c f ending
+    GoesOn a b f (λ bytes. due_after plant last text (drop i piece ++ bytes)) → HasEnding b c (λ bytes. due_after plant last text (byte ∷ bytes)) ending → HasEnding a c f ending
 ends_on ending.NoReply a b c f plant last text piece i byte h e one two = ends_with a b c f plant last text piece i byte 1 h e one two
 ends_on ending.TooLong a b c f plant last text piece i byte h e one two = ends_with a b c f plant last text piece i byte 2 h e one two
 ends_on ending.Failed a b c f plant last text piece i byte h e one two = tt
@@ -54,13 +54,13 @@ ends_on ending.Ended a b c f plant last text piece i byte h e one two = two
 ends_on ending.TooMany a b c f plant last text piece i byte h e one two = two
 
 -- a way that begins, where nothing came of a line
-pub way_start : (a : Option (List ℕ)) (plant : Plant) (last : Bool) (text : List ℕ) → text ≡ [] → GoesOn a a (λ bytes. due_behind plant last [] ([] ++ bytes)) (due_behind plant last text)
+pub way_start : (a : Option (List ℕ)) (plant : Plant) (last : Bool) (text : List ℕ) → text ≡ [] → GoesOn a a (λ bytes. due_after plant last [] ([] ++ bytes)) (due_after plant last text)
 way_start a plant last text e = rw e ([], Appends-nil a, λ bytes replies number due. due)
 
 -- a way through some bytes, and then through a piece
 pub way_more : (a b c : Option (List ℕ)) (plant plant' plant'' : Plant) (last last' last'' : Bool) (text text' before piece : List ℕ) →
-    GoesOn a b (λ bytes. due_behind plant last [] (before ++ bytes)) (due_behind plant' last' text) → GoesOn b c (λ bytes. due_behind plant' last' text (piece ++ bytes)) (due_behind plant'' last'' text') →
-    GoesOn a c (λ bytes. due_behind plant last [] ((before ++ piece) ++ bytes)) (due_behind plant'' last'' text')
+    GoesOn a b (λ bytes. due_after plant last [] (before ++ bytes)) (due_after plant' last' text) → GoesOn b c (λ bytes. due_after plant' last' text (piece ++ bytes)) (due_after plant'' last'' text') →
+    GoesOn a c (λ bytes. due_after plant last [] ((before ++ piece) ++ bytes)) (due_after plant'' last'' text')
 way_more a b c plant plant' plant'' last last' last'' text text' before piece one two = (
   one.0 ++ two.0,
   Appends-trans a b c one.0 two.0 one.1 two.1,
@@ -69,16 +69,16 @@ way_more a b c plant plant' plant'' last last' last'' text text' before piece on
 
 -- a way through some bytes, and then an end in a piece
 pub way_ends : (a b c : Option (List ℕ)) (plant plant' : Plant) (last last' : Bool) (text before piece : List ℕ) (number : ℕ) →
-    GoesOn a b (λ bytes. due_behind plant last [] (before ++ bytes)) (due_behind plant' last' text) → EndsWith b c (λ bytes. due_behind plant' last' text (piece ++ bytes)) number →
-    EndsWith a c (λ bytes. due_behind plant last [] ((before ++ piece) ++ bytes)) number
+    GoesOn a b (λ bytes. due_after plant last [] (before ++ bytes)) (due_after plant' last' text) → EndsWith b c (λ bytes. due_after plant' last' text (piece ++ bytes)) number →
+    EndsWith a c (λ bytes. due_after plant last [] ((before ++ piece) ++ bytes)) number
 way_ends a b c plant plant' last last' text before piece number one two = (
   one.0 ++ two.0,
   Appends-trans a b c one.0 two.0 one.1 two.1,
   λ bytes. rw (append_assoc before piece bytes) (one.2 (piece ++ bytes) two.0 number (two.2 bytes)),
 )
 
--- what was sent behind so many bytes that they end a service
-pub many_taken : (a b : Option (List ℕ)) (f : List ℕ → List ℕ → ℕ → Type 0) (plant : Plant) (last : Bool) (text : List ℕ) → length text ≤ longest_line → GoesOn a b f (due_behind plant last text) → (sent : List ℕ) × (number : ℕ) × Appends a b sent × f [] sent number
+-- what was sent after so many bytes that they end a service
+pub many_taken : (a b : Option (List ℕ)) (f : List ℕ → List ℕ → ℕ → Type 0) (plant : Plant) (last : Bool) (text : List ℕ) → length text ≤ longest_line → GoesOn a b f (due_after plant last text) → (sent : List ℕ) × (number : ℕ) × Appends a b sent × f [] sent number
 many_taken a b f plant last text short way =
     let P : List ℕ → Type 0 = λ t. f [] t 0 in
     (way.0, 0, way.1, subst P (append-nil way.0) (way.2 [] [] 0 (ended plant last text short)))
@@ -92,7 +92,7 @@ limited_at false before now due taken ending.NoReply same h = rw (← same) (ltb
 limited_at true before now due taken ending.TooLong same h = rw (← same) (ltb-true taken most_taken (sym same), h)
 limited_at false before now due taken ending.TooLong same h = rw (← same) (ltb-false taken most_taken (sym same), (h.0, 2, h.1, h.2 []))
 
--- an end at a byte is one behind so many bytes
+-- an end at a byte is one after so many bytes
 pub limited_ends : (before now : Option (List ℕ)) (due : List ℕ → List ℕ → ℕ → Type 0) (taken : ℕ) (e : Ending) → HasEnding before now due e → EndsAfter before now due taken (limited_of taken e)
 limited_ends before now due taken e h = limited_at (nat_lt taken most_taken) before now due taken e refl h
 
@@ -100,7 +100,7 @@ line_feed : (k : ℕ) → 0 < k → take {A = ℕ} 1 (replicate k 10) ≡ 10 ∷
 line_feed zero h = absurd (omega arith)
 line_feed (suc k) h = refl
 
--- a reply at the front of line feeds, with the first of these
+-- a reply at the prefix of line feeds, with the first of these
 pub fed : (reply : List ℕ) → length reply ≤ 24 → take (length reply + 1) (reply ++ drop (length reply) (replicate 25 10)) ≡ reply ++ 10 ∷ []
 fed reply h =
     take-append-add reply (drop (length reply) (replicate 25 10)) 1

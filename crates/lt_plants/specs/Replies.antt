@@ -10,18 +10,18 @@ abbrev pub letter : Bool → ℕ
 letter true = 116
 letter false = 102
 
--- a blank and a truth behind it
-abbrev pub behind_blank : Bool → List ℕ
-behind_blank truth = 32 ∷ letter truth ∷ []
+-- a blank and a truth after it
+abbrev pub after_blank : Bool → List ℕ
+after_blank truth = 32 ∷ letter truth ∷ []
 
 -- how many decimals a plant's reals have
 abbrev pub decimals : ℕ
 decimals = 2
 
--- a line has this real, of which the raw number counts hundredths, in front of a text
-pub record HasReal (line : List ℕ) (raw : ℤ) (behind : List ℕ) : Type 0 where
+-- a line has this real, of which the raw number counts hundredths, in prefix of a text
+pub record HasReal (line : List ℕ) (raw : ℤ) (after : List ℕ) : Type 0 where
   pub within : unsigned_abs raw ≤ most_raw
-  pub text : line ≡ text_of decimals raw ++ behind
+  pub text : line ≡ text_of decimals raw ++ after
 
 -- The answer of a thermostat whose last one is known, at a temperature: it heats below 19.00, it doesn't above
 -- 21.00, and between them it goes on as it did.
@@ -35,14 +35,14 @@ pub record IsHeating (last : Bool) (temperature : ℤ) (now : Bool) : Type 0 whe
 abbrev pub IsReply : Plant → Bool → List ℕ → List ℕ → Bool → Type 0
 -- a temperature, and whether the door is open, which changes nothing: whether it heats, which is kept
 IsReply plant.Thermostat last line reply now =
-    (temperature : ℤ) × (door : Bool) × HasReal line temperature (behind_blank door) × IsHeating last temperature now × (reply ≡ letter now ∷ [])
+    (temperature : ℤ) × (door : Bool) × HasReal line temperature (after_blank door) × IsHeating last temperature now × (reply ≡ letter now ∷ [])
 -- a truth, which is kept: whether this one and the one before are true
 IsReply plant.Gate last line reply now = (line ≡ letter now ∷ []) × (reply ≡ letter (last && now) ∷ [])
 -- whatever the line is: always the same number
 IsReply (plant.Constant n) last line reply now = (reply ≡ text_of 0 n) × (now ≡ last)
 -- a temperature, whether the door is open, and whether it is heated: false exactly where it is heated over 30.00
 IsReply plant.Safe last line reply now =
-    (temperature : ℤ) × (door : Bool) × (heat : Bool) × HasReal line temperature (behind_blank door ++ behind_blank heat)
+    (temperature : ℤ) × (door : Bool) × (heat : Bool) × HasReal line temperature (after_blank door ++ after_blank heat)
     × (safe : Bool) × (reply ≡ letter safe ∷ []) × ((safe ≡ false) ↔ ((pos 3000 <ℤ temperature) × (heat ≡ true))) × (now ≡ last)
 
 -- The plant has no reply to the line.

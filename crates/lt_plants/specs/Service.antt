@@ -5,12 +5,12 @@ use Rattle.std.specs.declared.option.Option.{Option}
 use Rattle.lt_plants.specs.Replies.{IsReply, HasNoReply}
 use Rattle.lt_plants.specs.declared.plant.Plant.{Plant}
 
--- an input: lines, each without its line feed, and the rest behind the last line feed
+-- an input: lines, each without its line feed, and the rest after the last line feed
 pub data Input : Type 0 where
   rest : (text : List ℕ) → Input
   line : (text : List ℕ) → Input → Input
 
--- the input of a text and of the bytes behind it, where the text has no line feed
+-- the input of a text and of the bytes after it, where the text has no line feed
 abbrev pub input_of : List ℕ → List ℕ → Input
 input_of text [] = rest text
 input_of text (b ∷ bs) = if b == 10 then line text (input_of [] bs) else input_of (text ++ b ∷ []) bs
@@ -29,7 +29,7 @@ pub data IsDue : Plant → Bool → Input → List ℕ → ℕ → Type 0 where
   long_line : (plant : Plant) (last : Bool) (text : List ℕ) (more : Input) → longest_line < length text → IsDue plant last (line text more) [] 2
   -- a line without a reply
   no_reply : (plant : Plant) (last : Bool) (text : List ℕ) (more : Input) → length text ≤ longest_line → HasNoReply plant last text → IsDue plant last (line text more) [] 1
-  -- a line with a reply, and what is due to all that comes behind it
+  -- a line with a reply, and what is due to all that comes after it
   replied : (plant : Plant) (last : Bool) (text : List ℕ) (more : Input) (reply : List ℕ) (now : Bool) (replies : List ℕ) (number : ℕ) →
       length text ≤ longest_line → IsReply plant last text reply now → IsDue plant now more replies number →
       IsDue plant last (line text more) (reply ++ (10 ∷ replies)) number
@@ -43,9 +43,9 @@ most_taken = 2 ^ 63
 -- as many, and it sent the replies that are due to those that it took and answers 4.
 pub record IsServed (plant : Plant) (last : Bool) (bytes : List ℕ) (left sent_before sent : Option (List ℕ)) (answer : ℕ) : Type 0 where
   pub taken : List ℕ
-  pub behind : List ℕ
-  pub takes : bytes ≡ taken ++ behind
-  pub leaves : left ≡ Some behind
+  pub after : List ℕ
+  pub takes : bytes ≡ taken ++ after
+  pub leaves : left ≡ Some after
   pub replies : List ℕ
   pub sends : Appends sent_before sent replies
   pub number : ℕ

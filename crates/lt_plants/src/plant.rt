@@ -23,10 +23,11 @@ pub enum Plant {
 }
 
 /// The plant that words name: `thermostat`, `gate` or `safe` alone, or `constant` and a number, which is one to
-/// eighteen digits, and may have a minus in front.
+/// eighteen digits, and may have a minus in prefix.
 pub fn plant_of(words: &[String]) -> Option<Plant>
     ensures some { IfSome result (λ plant. IsNamed plant (map string_bytes words.now)) }
-    ensures none { IfNone result ((plant : Plant) → ¬ (IsNamed plant (map string_bytes words.now))) }
+    ensures none { IfNone result ((plant : Plant) →
+        ¬ (IsNamed plant (map string_bytes words.now))) }
 {
     match words {
         [word] => plain_plant(word.as_str()),
@@ -51,7 +52,8 @@ fn plain_plant(word: &str) -> Option<Plant>
 // The plant that a word and a number name.
 fn constant_plant(word: &str, number: &str) -> Option<Plant>
     ensures some { IfSome result (λ plant. IsNamed plant (word.now ∷ number.now ∷ [])) }
-    ensures none { IfNone result ((plant : Plant) → ¬ (IsNamed plant (word.now ∷ number.now ∷ []))) }
+    ensures none { IfNone result ((plant : Plant) →
+        ¬ (IsNamed plant (word.now ∷ number.now ∷ []))) }
 {
     if word != "constant" {
         return None;
@@ -70,12 +72,12 @@ fn number_of(text: &str) -> Option<i64>
     text.parse().ok()
 }
 
-// What stands behind a minus, or all of a text without one.
+// What stands after a minus, or all of a text without one.
 fn without_minus(text: &[u8]) -> &[u8]
     ensures { result.now ≡ without_minus text.now }
 {
     match text {
-        [b'-', behind @ ..] => behind,
+        [b'-', after @ ..] => after,
         _ => text,
     }
 }

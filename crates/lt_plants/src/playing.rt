@@ -28,12 +28,13 @@ impl Playing {
     }
 }
 
-/// Writes the reply to a line at the front of `into`, and answers how many bytes that took. The rest of `into`
+/// Writes the reply to a line at the prefix of `into`, and answers how many bytes that took. The rest of `into`
 /// stays as it was. The line and the reply are without their line feeds.
 ///
 /// It is `None` exactly where the line has not the form of the plant's lines, and then nothing changes.
 pub fn reply(playing: &mut Playing, line: &[u8], into: &mut [u8; 24]) -> Option<usize>
-    ensures some { IfSome result (λ n. (text : List ℕ) × (n ≡ length text) × (into.new ≡ text ++ drop n into.old)
+    ensures some { IfSome result (λ n. (text : List ℕ) × (n ≡ length text) ×
+        (into.new ≡ text ++ drop n into.old)
         × IsReply playing.old.plant playing.old.last line.now text playing.new.last) }
     ensures room { IfSome result (λ n. n ≤ 24) }
     ensures none { IfNone result (HasNoReply playing.old.plant playing.old.last line.now) }
@@ -59,7 +60,7 @@ struct Heard {
     now: bool,
 }
 
-// Writes a reply at the front of `into`, and answers how many bytes that took.
+// Writes a reply at the prefix of `into`, and answers how many bytes that took.
 fn write(told: Told, into: &mut [u8; 24]) -> usize
     ensures room { result ≤ 24 }
     ensures count { result ≡ length (told_text told) }
@@ -76,7 +77,8 @@ fn write(told: Told, into: &mut [u8; 24]) -> usize
 
 // What a plant hears in a line.
 fn hear(playing: Playing, line: &[u8]) -> Option<Heard>
-    ensures some { IfSome result (λ h. IsReply playing.plant playing.last line.now (told_text h.told) h.now) }
+    ensures some { IfSome result (λ h.
+        IsReply playing.plant playing.last line.now (told_text h.told) h.now) }
     ensures none { IfNone result (HasNoReply playing.plant playing.last line.now) }
 {
     match playing.plant {
@@ -91,7 +93,8 @@ fn hear(playing: Playing, line: &[u8]) -> Option<Heard>
 }
 
 fn thermostat(last: bool, line: &[u8]) -> Option<Heard>
-    ensures some { IfSome result (λ h. IsReply Plant.Thermostat last line.now (told_text h.told) h.now) }
+    ensures some { IfSome result (λ h.
+        IsReply Plant.Thermostat last line.now (told_text h.told) h.now) }
     ensures none { IfNone result (HasNoReply Plant.Thermostat last line.now) }
 {
     let (text, _door) = split_truth(line)?;
@@ -131,8 +134,8 @@ fn safe(last: bool, line: &[u8]) -> Option<Heard>
     ensures some { IfSome result (λ h. IsReply Plant.Safe last line.now (told_text h.told) h.now) }
     ensures none { IfNone result (HasNoReply Plant.Safe last line.now) }
 {
-    let (front, heat) = split_truth(line)?;
-    let (text, _door) = split_truth(front)?;
+    let (prefix, heat) = split_truth(line)?;
+    let (text, _door) = split_truth(prefix)?;
     let temperature = real_of(text)?;
     Some(Heard {
         told: Told::Truth(!(temperature.raw > 3000 && heat)),

@@ -16,7 +16,8 @@ const DECIMALS: u32 = 2;
 pub fn real_of(text: &[u8]) -> Option<Fixed>
     ensures some { IfSome result (λ real. text.now ≡ text_of decimals real.raw) }
     ensures within { IfSome result (λ real. unsigned_abs real.raw ≤ most_raw) }
-    ensures none { IfNone result ((raw : ℤ) → unsigned_abs raw ≤ most_raw → text.now ≢ text_of decimals raw) }
+    ensures none { IfNone result ((raw : ℤ) → unsigned_abs raw ≤ most_raw →
+        text.now ≢ text_of decimals raw) }
 {
     text_reads_back();
     if !is_literal(text) {
@@ -30,7 +31,8 @@ pub fn real_of(text: &[u8]) -> Option<Fixed>
 
 // The real, where it is printed as this text.
 fn printed_as(real: Fixed, text: &[u8]) -> Option<Fixed>
-    ensures some { IfSome result (λ printed. (printed ≡ real) × (text.now ≡ text_of decimals real.raw)) }
+    ensures some { IfSome result (λ printed. (printed ≡ real) ×
+        (text.now ≡ text_of decimals real.raw)) }
     ensures none { IfNone result (text.now ≢ text_of decimals real.raw) }
 {
     let mut printed = [0; 24];
@@ -59,7 +61,7 @@ fn is_short_number(text: &[u8]) -> bool
     is_number(text) && text.iter().filter(|byte| byte.is_ascii_digit()).count() <= 18
 }
 
-// Whether a text is digits, which may have a point behind the first ones.
+// Whether a text is digits, which may have a point after the first ones.
 fn is_number(text: &[u8]) -> bool
     ensures { result ≡ is_number text.now }
 {
@@ -70,7 +72,7 @@ fn is_number(text: &[u8]) -> bool
 }
 
 // Whether a text may follow the first digit of a number.
-#[tactic(auto, using(crate::proofs::Reals::behind_digits))]
+#[tactic(auto, using(crate::proofs::Reals::after_digits))]
 fn continues_number(text: &[u8]) -> bool
     ensures { result ≡ continues_number text.now }
 {

@@ -5,7 +5,7 @@ ghost use Rattle.std.specs.Io.KnownBytes.{Appends, Keeps};
 ghost use Rattle.lt_io.specs.Causes.{Rose, WhereTold};
 ghost use Rattle.lt_plants.specs.Service.{line, input_of, longest_line, most_taken, IsDue, IsServed};
 ghost use Rattle.lt_plants.specs.inner.Endings.{code_of};
-ghost use Rattle.lt_plants.specs.inner.Going.{due_behind, EndsAfter, GoesOn, Serves, HasEnding, limited_of};
+ghost use Rattle.lt_plants.specs.inner.Going.{due_after, EndsAfter, GoesOn, Serves, HasEnding, limited_of};
 
 use crate::ending::Ending;
 use crate::line::{Line, TooLong};
@@ -17,7 +17,7 @@ const MOST_TAKEN: u64 = 1 << 63;
 
 /// Replies to all lines of a link, each reply with a line feed, and answers why it ends.
 ///
-/// A line is what ends in a line feed, and the rest is what stands behind the last one. A line is bad where it has
+/// A line is what ends in a line feed, and the rest is what stands after the last one. A line is bad where it has
 /// more than 4,096 bytes before its line feed, or where the plant has no reply to it. The lines before the first
 /// bad one get their replies; that one and the rest get none.
 ///
@@ -29,10 +29,11 @@ const MOST_TAKEN: u64 = 1 << 63;
 /// | 4 | 2^63 bytes or more were taken before one of these answers |
 /// | 9 | the link failed, and its count of faults rose |
 pub fn serve<L: Link>(playing: &mut Playing, link: &mut L) -> u8
-    ensures fault { result ≡ 9 → Rose (L.faults link.old) (L.faults link.new) }
-    ensures calm { result ≢ 9 → L.faults link.new ≡ L.faults link.old }
-    ensures served { result ≢ 9 → WhereTold (L.left link.old) (λ bytes.
-        IsServed playing.old.plant playing.old.last bytes (L.left link.new) (L.sent link.old) (L.sent link.new) result) }
+    ensures fault { result ≡ 9 → Rose (L.state link.old).faults (L.state link.new).faults }
+    ensures calm { result ≢ 9 → (L.state link.new).faults ≡ (L.state link.old).faults }
+    ensures served { result ≢ 9 → WhereTold (L.state link.old).left (λ bytes.
+        IsServed playing.old.plant playing.old.last bytes (L.state link.new).left
+        (L.state link.old).sent (L.state link.new).sent result) }
     ensures plant { playing.new.plant ≡ playing.old.plant }
 {
     let mut session = Session {
@@ -55,9 +56,12 @@ impl Session {
     // Replies to all lines.
     fn serve<L: Link>(&mut self, link: &mut L) -> Ending
         requires { self.old.line ≡ [] }
-        ensures fault { result ≡ Ending.Failed → Rose (L.faults link.old) (L.faults link.new) }
-        ensures calm { result ≢ Ending.Failed → L.faults link.new ≡ L.faults link.old }
-        ensures served { Serves self.old.playing.plant self.old.playing.last (L.left link.old) (L.left link.new) (L.sent link.old) (L.sent link.new) result }
+        ensures fault { result ≡ Ending.Failed →
+            Rose (L.state link.old).faults (L.state link.new).faults }
+        ensures calm { result ≢ Ending.Failed →
+            (L.state link.new).faults ≡ (L.state link.old).faults }
+        ensures served { Serves self.old.playing.plant self.old.playing.last (L.state link.old).left
+            (L.state link.new).left (L.state link.old).sent (L.state link.new).sent result }
         ensures plant { self.new.playing.plant ≡ self.old.playing.plant }
     {
         let mut buffer = [0; 4096];
@@ -79,15 +83,18 @@ impl Session {
     // Takes some bytes, the last of so many, and answers how the service ends there, where it does.
     fn take_piece<L: Link>(&mut self, piece: &[u8], taken: u64, link: &mut L) -> Option<Ending>
         requires { length self.old.line ≤ longest_line }
-        ensures goes { IfNone result (GoesOn (L.sent link.old) (L.sent link.new)
-            (λ bytes. due_behind self.old.playing.plant self.old.playing.last self.old.line (piece.now ++ bytes))
-            (due_behind self.new.playing.plant self.new.playing.last self.new.line)) }
+        ensures goes { IfNone result (GoesOn (L.state link.old).sent (L.state link.new).sent
+            (λ bytes. due_after self.old.playing.plant self.old.playing.last self.old.line (piece.now ++ bytes))
+            (due_after self.new.playing.plant self.new.playing.last self.new.line)) }
         ensures few { IfNone result (taken < most_taken) }
-        ensures ends { IfSome result (λ ending. EndsAfter (L.sent link.old) (L.sent link.new)
-            (λ bytes. due_behind self.old.playing.plant self.old.playing.last self.old.line (piece.now ++ bytes)) taken ending) }
-        ensures fault { result ≡ Some Ending.Failed → Rose (L.faults link.old) (L.faults link.new) }
-        ensures calm { result ≢ Some Ending.Failed → L.faults link.new ≡ L.faults link.old }
-        ensures left { Keeps (L.left link.old) (L.left link.new) }
+        ensures ends { IfSome result (λ ending.
+            EndsAfter (L.state link.old).sent (L.state link.new).sent
+            (λ bytes. due_after self.old.playing.plant self.old.playing.last self.old.line (piece.now ++ bytes)) taken ending) }
+        ensures fault { result ≡ Some Ending.Failed →
+            Rose (L.state link.old).faults (L.state link.new).faults }
+        ensures calm { result ≢ Some Ending.Failed →
+            (L.state link.new).faults ≡ (L.state link.old).faults }
+        ensures left { Keeps (L.state link.old).left (L.state link.new).left }
         ensures plant { self.new.playing.plant ≡ self.old.playing.plant }
         ensures short { length self.new.line ≤ longest_line }
     {
@@ -101,14 +108,17 @@ impl Session {
     // Takes some bytes.
     fn take_all<L: Link>(&mut self, piece: &[u8], link: &mut L) -> Result<(), Ending>
         requires { length self.old.line ≤ longest_line }
-        ensures goes { OnOk result (GoesOn (L.sent link.old) (L.sent link.new)
-            (λ bytes. due_behind self.old.playing.plant self.old.playing.last self.old.line (piece.now ++ bytes))
-            (due_behind self.new.playing.plant self.new.playing.last self.new.line)) }
-        ensures ends { IfErr result (λ ending. HasEnding (L.sent link.old) (L.sent link.new)
-            (λ bytes. due_behind self.old.playing.plant self.old.playing.last self.old.line (piece.now ++ bytes)) ending) }
-        ensures fault { result ≡ Err Ending.Failed → Rose (L.faults link.old) (L.faults link.new) }
-        ensures calm { result ≢ Err Ending.Failed → L.faults link.new ≡ L.faults link.old }
-        ensures left { Keeps (L.left link.old) (L.left link.new) }
+        ensures goes { OnOk result (GoesOn (L.state link.old).sent (L.state link.new).sent
+            (λ bytes. due_after self.old.playing.plant self.old.playing.last self.old.line (piece.now ++ bytes))
+            (due_after self.new.playing.plant self.new.playing.last self.new.line)) }
+        ensures ends { IfErr result (λ ending.
+            HasEnding (L.state link.old).sent (L.state link.new).sent
+            (λ bytes. due_after self.old.playing.plant self.old.playing.last self.old.line (piece.now ++ bytes)) ending) }
+        ensures fault { result ≡ Err Ending.Failed →
+            Rose (L.state link.old).faults (L.state link.new).faults }
+        ensures calm { result ≢ Err Ending.Failed →
+            (L.state link.new).faults ≡ (L.state link.old).faults }
+        ensures left { Keeps (L.state link.old).left (L.state link.new).left }
         ensures plant { self.new.playing.plant ≡ self.old.playing.plant }
         ensures short { length self.new.line ≤ longest_line }
     {
@@ -123,14 +133,19 @@ impl Session {
 
     // Takes a byte.
     fn take<L: Link>(&mut self, byte: u8, link: &mut L) -> Result<(), Ending>
-        ensures goes { OnOk result (GoesOn (L.sent link.old) (L.sent link.new)
-            (λ bytes. due_behind self.old.playing.plant self.old.playing.last self.old.line (byte ∷ bytes))
-            (due_behind self.new.playing.plant self.new.playing.last self.new.line)) }
-        ensures ends { IfErr result (λ ending. HasEnding (L.sent link.old) (L.sent link.new)
-            (λ bytes. due_behind self.old.playing.plant self.old.playing.last self.old.line (byte ∷ bytes)) ending) }
-        ensures fault { result ≡ Err Ending.Failed → Rose (L.faults link.old) (L.faults link.new) }
-        ensures calm { result ≢ Err Ending.Failed → L.faults link.new ≡ L.faults link.old }
-        ensures left { Keeps (L.left link.old) (L.left link.new) }
+        ensures goes { OnOk result (GoesOn (L.state link.old).sent (L.state link.new).sent
+            (λ bytes. due_after self.old.playing.plant self.old.playing.last self.old.line (byte ∷
+            bytes))
+            (due_after self.new.playing.plant self.new.playing.last self.new.line)) }
+        ensures ends { IfErr result (λ ending.
+            HasEnding (L.state link.old).sent (L.state link.new).sent
+            (λ bytes. due_after self.old.playing.plant self.old.playing.last self.old.line (byte ∷
+            bytes)) ending) }
+        ensures fault { result ≡ Err Ending.Failed →
+            Rose (L.state link.old).faults (L.state link.new).faults }
+        ensures calm { result ≢ Err Ending.Failed →
+            (L.state link.new).faults ≡ (L.state link.old).faults }
+        ensures left { Keeps (L.state link.old).left (L.state link.new).left }
         ensures plant { self.new.playing.plant ≡ self.old.playing.plant }
         ensures short { length self.new.line ≤ longest_line }
     {
@@ -145,14 +160,17 @@ impl Session {
 
     // Replies to the line that has ended.
     fn end_line<L: Link>(&mut self, link: &mut L) -> Result<(), Ending>
-        ensures goes { OnOk result (GoesOn (L.sent link.old) (L.sent link.new)
+        ensures goes { OnOk result (GoesOn (L.state link.old).sent (L.state link.new).sent
             (λ bytes. IsDue self.old.playing.plant self.old.playing.last (line self.old.line (input_of [] bytes)))
-            (due_behind self.new.playing.plant self.new.playing.last self.new.line)) }
-        ensures ends { IfErr result (λ ending. HasEnding (L.sent link.old) (L.sent link.new)
+            (due_after self.new.playing.plant self.new.playing.last self.new.line)) }
+        ensures ends { IfErr result (λ ending.
+            HasEnding (L.state link.old).sent (L.state link.new).sent
             (λ bytes. IsDue self.old.playing.plant self.old.playing.last (line self.old.line (input_of [] bytes))) ending) }
-        ensures fault { result ≡ Err Ending.Failed → Rose (L.faults link.old) (L.faults link.new) }
-        ensures calm { result ≢ Err Ending.Failed → L.faults link.new ≡ L.faults link.old }
-        ensures left { Keeps (L.left link.old) (L.left link.new) }
+        ensures fault { result ≡ Err Ending.Failed →
+            Rose (L.state link.old).faults (L.state link.new).faults }
+        ensures calm { result ≢ Err Ending.Failed →
+            (L.state link.new).faults ≡ (L.state link.old).faults }
+        ensures left { Keeps (L.state link.old).left (L.state link.new).left }
         ensures plant { self.new.playing.plant ≡ self.old.playing.plant }
         ensures short { length self.new.line ≤ longest_line }
     {
@@ -168,11 +186,14 @@ impl Session {
 // Sends a reply with its line feed.
 fn send_line<L: Link>(reply: &[u8], link: &mut L) -> Result<(), Ending>
     requires { length reply.now ≤ 24 }
-    ensures sent { OnOk result (Appends (L.sent link.old) (L.sent link.new) (reply.now ++ 10 ∷ [])) }
+    ensures sent { OnOk result (Appends (L.state link.old).sent (L.state link.new).sent
+        (reply.now ++ 10 ∷ [])) }
     ensures ends { IfErr result (λ ending. ending ≡ Ending.Failed) }
-    ensures fault { result ≡ Err Ending.Failed → Rose (L.faults link.old) (L.faults link.new) }
-    ensures calm { result ≢ Err Ending.Failed → L.faults link.new ≡ L.faults link.old }
-    ensures left { Keeps (L.left link.old) (L.left link.new) }
+    ensures fault { result ≡ Err Ending.Failed →
+        Rose (L.state link.old).faults (L.state link.new).faults }
+    ensures calm { result ≢ Err Ending.Failed →
+        (L.state link.new).faults ≡ (L.state link.old).faults }
+    ensures left { Keeps (L.state link.old).left (L.state link.new).left }
 {
     let mut text = [b'\n'; 25];
     text[..reply.len()].copy_from_slice(reply);
@@ -182,7 +203,7 @@ fn send_line<L: Link>(reply: &[u8], link: &mut L) -> Result<(), Ending>
     }
 }
 
-// How a service ends behind so many bytes, where it would end so.
+// How a service ends after so many bytes, where it would end so.
 fn limited(taken: u64, ending: Ending) -> Ending
     ensures { result ≡ limited_of taken ending }
 {

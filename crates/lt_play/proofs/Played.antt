@@ -52,7 +52,7 @@ few_made finished h = absurd h
 
 -- ---- what an instant leaves
 
--- where a run stands behind an instant with values: one instant was made more, and it shows its outputs
+-- where a run stands after an instant with values: one instant was made more, and it shows its outputs
 abbrev LeadsOn : Scene → Configuration → Instant → Type 0
 LeadsOn s c (values outputs locals next) = (next.step ≡ c.step + 1) × (length (outputs_of next.previous) ≡ length s.outputs)
 LeadsOn s c other = Unit {0}
@@ -145,7 +145,7 @@ module _ (old new : State) (inputs : List Value) where
   step_tells steps.Ended h = let P : Step → Type 0 = Tells steps.Ended in subst P (h (λ e. absurd (cc e))) refl
   step_tells steps.Memory h = any_starves (instant_by (step_of old inputs)) new
 
-  -- what holds of a machine behind each step holds behind a step of the code
+  -- what holds of a machine after each step holds after a step of the code
   by_step : (P : State → Type 0) (r : Outcome) → Steps old inputs r new → Starves old r new → P (step_of old inputs).state → P (record old { phase = finished }) → P new
   by_step P steps.Values h w s f = let Q : Step → Type 0 = λ x. P x.state in subst Q (sym (h (λ e. absurd (cc e)))) s
   by_step P steps.Normal h w s f = let Q : Step → Type 0 = λ x. P x.state in subst Q (sym (h (λ e. absurd (cc e)))) s

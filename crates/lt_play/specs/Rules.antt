@@ -26,7 +26,7 @@ known_scene s = record {
   exceptions = s.exceptions;
 }
 
--- what a core is told of a step; one behind the end tells once more that the scenario is over
+-- what a core is told of a step; one after the end tells once more that the scenario is over
 abbrev pub told : step.Outcome → Outcome
 told steps.Values = outcome.Values
 told steps.Normal = outcome.Over end.Normal

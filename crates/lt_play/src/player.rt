@@ -1,4 +1,4 @@
-//! The machine of a scenario behind the words of a core.
+//! The machine of a scenario after the words of a core.
 
 ghost use Rattle.std.specs.Prelude.{◌≡◌, IfOk, Some, map};
 ghost use Rattle.lt_loop.specs.SceneView.{variable};
@@ -22,9 +22,15 @@ pub struct Player {
     outputs: Vec<Var>,
     locals: Vec<Var>,
     ghost shows: { IsShown (machine_state machine) } by { IsShown-prop (machine_state machine) },
-    ghost inputs_are: { map variable inputs.items ≡ map known_variable (machine_state machine).scene.inputs } by { same_variables-prop (map variable inputs.items) (map known_variable (machine_state machine).scene.inputs) },
-    ghost outputs_are: { map variable outputs.items ≡ map known_variable (machine_state machine).scene.outputs } by { same_variables-prop (map variable outputs.items) (map known_variable (machine_state machine).scene.outputs) },
-    ghost locals_are: { map variable locals.items ≡ map known_variable (machine_state machine).scene.locals } by { same_variables-prop (map variable locals.items) (map known_variable (machine_state machine).scene.locals) },
+    ghost inputs_are: { map variable inputs.items ≡
+        map known_variable (machine_state machine).scene.inputs } by { same_variables-prop (map variable inputs.items)
+            (map known_variable (machine_state machine).scene.inputs) },
+    ghost outputs_are: { map variable outputs.items ≡
+        map known_variable (machine_state machine).scene.outputs } by { same_variables-prop (map variable outputs.items)
+            (map known_variable (machine_state machine).scene.outputs) },
+    ghost locals_are: { map variable locals.items ≡
+        map known_variable (machine_state machine).scene.locals } by { same_variables-prop (map variable locals.items)
+            (map known_variable (machine_state machine).scene.locals) },
 }
 
 impl Player {
@@ -103,7 +109,7 @@ impl lt_loop::Machine for Player {
     }
 }
 
-// What a core is told of a step. One behind the end tells it once more that the scenario is over.
+// What a core is told of a step. One after the end tells it once more that the scenario is over.
 fn told(outcome: lt_step::Outcome) -> Outcome
     ensures { result ≡ told outcome }
 {

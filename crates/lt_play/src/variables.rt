@@ -10,7 +10,8 @@ use std::alloc::{AllocError, Global};
 
 /// Variables as a core knows them.
 pub fn known(alloc: Global, variables: &[lt_term::Var]) -> Result<Vec<Var>, AllocError>
-    ensures { IfOk result (λ vs. map variable vs.items ≡ map known_variable (map scenario.variable variables.now)) }
+    ensures { IfOk result (λ vs. map variable vs.items ≡
+        map known_variable (map scenario.variable variables.now)) }
 {
     let mut all = Vec::new(alloc);
     for variable in variables {

@@ -6,4 +6,4 @@ pub mod Words
 pub mod Lines
 pub mod Telling
 pub mod ToldRuns
-pub mod Fronts
+pub mod Prefixes

@@ -23,7 +23,7 @@ use Rattle.lt_replay.proofs.Words.{value_word}
 
 -- ---- lines as fields
 
--- with a space between two, and a line feed behind the last
+-- with a space between two, and a line feed after the last
 abbrev line_fields : List (List ℕ) → List Field
 line_fields [] = []
 line_fields (w ∷ []) = record { gap = []; word = w; blank = 10 } ∷ []
@@ -53,7 +53,7 @@ module _ (reads : StepReadsBack) (rooms : RoomIsEnough) where
 
 -- ---- streams of lines
 
--- What is read by some slots has this text, and more may come behind it. A reply of no slots reads nothing.
+-- What is read by some slots has this text, and more may come after it. A reply of no slots reads nothing.
 abbrev pub IsAt : List Slot → List ℕ → Stream → Type 0
 IsAt slots text s = (0 < length slots → s.bytes ≡ text) × (s.is_closed ≡ false)
 

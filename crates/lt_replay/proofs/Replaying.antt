@@ -5,12 +5,12 @@ use Rattle.lt_rif.specs.Enough.{AreSized, RoomIsEnough}
 use Rattle.lt_rif.specs.ReadBack.{AreOnLines, HoldAll, StepReadsBack, half_longest}
 use Rattle.lt_rif.specs.Reply.{Reply, Stream, whole, needs, short, malformed, longest, reply_of}
 use Rattle.lt_rif.specs.Spelling.{gap_text}
-use Rattle.lt_rif.specs.Trace.{DeclaredVariable}
+use Rattle.lt_rif.specs.Trace.{DeclaredVariable, end_number}
 use Rattle.lt_rif.specs.declared.end.End.{End}
 use Rattle.lt_rif.specs.declared.end.End.TheVariants as end
 use Rattle.lt_rif.specs.declared.end.Who.TheVariants as who
 use Rattle.lt_loop.specs.Fits.{RepliesFit}
-use Rattle.lt_loop.specs.Machine.{Instant, Rules, values, over, end_of, number_of}
+use Rattle.lt_loop.specs.Machine.{Instant, Rules, values, over, end_of}
 use Rattle.lt_loop.specs.Plan.{Plan, closing_text, opening_text, reply_slots, traced_step, where_written}
 use Rattle.lt_loop.specs.Play.{Made, Play, controller_asked, controller_read, controller_reply, ended, ends, holds, instant_made, made_by, oracle_asked, oracle_read, play_from, step_count, stepped}
 use Rattle.lt_loop.specs.Scene.{Scene, Variable, declared_as, first_inputs, fit, input_slots, passed_slot, slot_of, traced_slots, verdict_slots}
@@ -183,7 +183,7 @@ module _ (reads : StepReadsBack) (rooms : RoomIsEnough) (fits : RepliesFit) wher
         → Repeats (instant_made rules (replaying plan) k i go' s o) (instant_made rules plan k i go c o)
     instant_repeats k most (values m) go go' c s o small shows room well ready on =
         talk_repeats plan.controller plan (made_by rules k m) most (go m) (go' m) c s o served can small (shows m refl) room well ready (on m refl)
-    instant_repeats k most (over e) go go' c s o small shows room well ready on = end_repeats plan (end_of e) (number_of e k)
+    instant_repeats k most (over e) go go' c s o small shows room well ready on = end_repeats plan (end_of e) (end_number (end_of e) (k - 1))
 
     instant_fits : (k : ℕ) (i : Instant State) (c : Stream) → k < 2 ^ 64 → ((next : State) → i ≡ values next → Shows plan.scene (rules.outputs next) (rules.locals next))
         → length (step_of rules plan k i (answered plan.controller plan c)) ≤ 32_256

@@ -48,7 +48,7 @@ inputs_held [] (y ∷ ys) h = absurd (cc)
 inputs_held (v ∷ vs) [] h = absurd (cc)
 inputs_held (v ∷ vs) (y ∷ ys) h = let two = both _ _ h in (held (slot_of v) y two.0, inputs_held vs ys two.1)
 
--- what a trace shows of them, behind outputs that are passed
+-- what a trace shows of them, after outputs that are passed
 pub inputs_fit : (outs : List Variable) (slots : List Slot) (ys : List Value) → fit (map passed_slot outs ++ slots) ys ≡ true → fit slots ys ≡ true
 unfolding fit
 inputs_fit [] slots ys h = h

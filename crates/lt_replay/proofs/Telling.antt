@@ -46,25 +46,25 @@ pub told_missed : (plan : Plan) (k : ℕ) (e : End) (again run : Play) → is_re
     → step_count again.pieces ≡ step_count run.pieces → IsToldFrom plan k e again run
 told_missed plan k e again run fails text count = record { same = λ w. absurd (truth (is_replayable e) w fails); missed = λ f. text; steps = λ f. count }
 
--- ---- pieces in front
+-- ---- pieces in prefix
 
 module _ (plan : Plan) (k : ℕ) (e : End) (again run : Play) (bytes : List ℕ) where
-  pub behind_outputs : IsToldFrom plan k e again run → IsToldFrom plan k e (piece_then piece_kind.Outputs bytes again) (piece_then piece_kind.Outputs bytes run)
-  behind_outputs told = record {
+  pub after_outputs : IsToldFrom plan k e again run → IsToldFrom plan k e (piece_then piece_kind.Outputs bytes again) (piece_then piece_kind.Outputs bytes run)
+  after_outputs told = record {
     same = λ w. ap (λ (p : Play). piece_then piece_kind.Outputs bytes p) (told.same w);
     missed = λ fails. told.missed fails ∙ ap (λ (n : ℕ). trace_text again.pieces ++ closing_text plan e n) {x = k + step_count run.pieces} {y = k + (0 + step_count run.pieces)} (omega arith);
     steps = λ fails. ap (λ (n : ℕ). 0 + n) (told.steps fails);
   }
 
-  behind_question : IsToldFrom plan k e again run → IsToldFrom plan k e (piece_then piece_kind.Question bytes again) (piece_then piece_kind.Question bytes run)
-  behind_question told = record {
+  after_question : IsToldFrom plan k e again run → IsToldFrom plan k e (piece_then piece_kind.Question bytes again) (piece_then piece_kind.Question bytes run)
+  after_question told = record {
     same = λ w. ap (λ (p : Play). piece_then piece_kind.Question bytes p) (told.same w);
     missed = λ fails. told.missed fails ∙ ap (λ (n : ℕ). trace_text again.pieces ++ closing_text plan e n) {x = k + step_count run.pieces} {y = k + (0 + step_count run.pieces)} (omega arith);
     steps = λ fails. ap (λ (n : ℕ). 0 + n) (told.steps fails);
   }
 
-  behind_step : IsToldFrom plan (k + 1) e again run → IsToldFrom plan k e (piece_then piece_kind.Step bytes again) (piece_then piece_kind.Step bytes run)
-  behind_step told = record {
+  after_step : IsToldFrom plan (k + 1) e again run → IsToldFrom plan k e (piece_then piece_kind.Step bytes again) (piece_then piece_kind.Step bytes run)
+  after_step told = record {
     same = λ w. ap (λ (p : Play). piece_then piece_kind.Step bytes p) (told.same w);
     missed =
         λ fails.
@@ -105,7 +105,7 @@ abbrev pub Follows : Plan → ℕ → End → (Stream → Play) → (Stream → 
 Follows plan k e go go' =
     (o s t : Stream) → (go o).stop ≡ ends e → IsFed plan (shown_replies plan (go o).pieces) (shown_verdicts (go o).pieces (go o).stop) s t → IsToldFrom plan (k + 1) e (go' s t) (go o)
 
--- The step is written, with this behind it in its piece. What follows shows these replies, and it is enough that it is told.
+-- The step is written, with this after it in its piece. What follows shows these replies, and it is enough that it is told.
 pub record IsWritten (plan : Plan) (made : Made) (y : List Value) (go : Stream → Play) (e : End) (first : Play) : Type 0 where
   pub after : List ℕ
   pub rest : List ℕ
@@ -154,7 +154,7 @@ module _ (reads : StepReadsBack) (spelling : SpellingIsRead) (rooms : RoomIsEnou
           let next = read.next in
           let told = follows o s read.left is (fed.0, (λ has. next.0 (omega arith)), next.1) in
           subst (λ (r : Reply). IsToldFrom asking made.number e (question (oracle_read asking made y (go' s) r)) (question (stepped asking made y true (go o)))) (sym read.is)
-          (behind_question asking made.number e _ _ _ (behind_step asking made.number e _ _ _ told));
+          (after_question asking made.number e _ _ _ (after_step asking made.number e _ _ _ told));
     }
     verdict_asked false o is = record {
       after = closing_text asking end.Oracle made.number;
@@ -184,5 +184,5 @@ module _ (reads : StepReadsBack) (spelling : SpellingIsRead) (rooms : RoomIsEnou
           after = [];
           rest = shown_replies alone (go o).pieces;
           replies = ap (λ (t : List ℕ). shown_reply alone.controller alone t ++ shown_replies alone (go o).pieces) (sym (append-nil (traced_step alone made.number made.outputs y made.locals)));
-          goes = λ go' s t follows fed. behind_step alone made.number e _ _ _ (follows o s t is (fed.0, (λ has. absurd (cc has)), fed.2));
+          goes = λ go' s t follows fed. after_step alone made.number e _ _ _ (follows o s t is (fed.0, (λ has. absurd (cc has)), fed.2));
         })

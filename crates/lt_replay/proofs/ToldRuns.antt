@@ -26,7 +26,7 @@ use Rattle.lt_replay.specs.Shown.{TracesShowTheirRun, open_text, reply_kinds, sh
 use Rattle.lt_replay.proofs.Lines.{IsAt, reply_read, reply_values, step_shows}
 use Rattle.lt_replay.proofs.Replaying.{given_fit, none_fit}
 use Rattle.lt_replay.proofs.Shown.{inputs_held}
-use Rattle.lt_replay.proofs.Telling.{Asked, written, missed, Follows, IsFed, IsToldFrom, behind_outputs, end_text_is, fails_so, idle_reply, oracle_idle, oracle_is_asked, told_missed, told_same}
+use Rattle.lt_replay.proofs.Telling.{Asked, written, missed, Follows, IsFed, IsToldFrom, after_outputs, end_text_is, fails_so, idle_reply, oracle_idle, oracle_is_asked, told_missed, told_same}
 
 -- ---- a step that isn't the last piece of a run that the oracle ended
 
@@ -151,7 +151,7 @@ module _ (reads : StepReadsBack) (spelling : SpellingIsRead) (rooms : RoomIsEnou
       unread_told plan made e (go [] c) go' s u _ (λ text. refl) (oracle_is_asked reads spelling rooms plan can.decimals made [] (go [] c) e follow.0 plan.has_oracle o is) follow.1 fed
   talk_told base talk.Live made e go go' c s o u known served follows is fed =
       let plan : Plan = record base { controller = talk.Live } in
-      behind_outputs plan made.number e _ _ _ (reply_told plan made e go go' c s o u (controller_reply plan c) refl known (λ text. refl) follows is fed)
+      after_outputs plan made.number e _ _ _ (reply_told plan made e go go' c s o u (controller_reply plan c) refl known (λ text. refl) follows is fed)
   talk_told base talk.Replay made e go go' c s o u known served follows is fed =
       let plan : Plan = record base { controller = talk.Replay } in
       reply_told plan made e go go' c s o u (controller_reply plan c) refl known (λ text. refl) follows is fed

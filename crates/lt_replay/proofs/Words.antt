@@ -76,12 +76,12 @@ neither : (a b : Bool) → a || b ≡ false → (a ≡ false) × (b ≡ false)
 neither true b h = absurd (cc)
 neither false b h = (refl, h)
 
--- a word without blanks, up to the blank behind it
-words_run : (front text : List ℕ) (b : ℕ) (bytes : List ℕ) → list_any is_blank text ≡ false → is_blank b ≡ true → words_of front (text ++ b ∷ bytes) ≡ word (front ++ text) b bytes (words_of [] bytes)
-words_run front [] b bytes none is = rw is (ap (λ (t : List ℕ). word t b bytes (words_of [] bytes)) (sym (append-nil front)))
-words_run front (x ∷ text) b bytes none is =
+-- a word without blanks, up to the blank after it
+words_run : (prefix text : List ℕ) (b : ℕ) (bytes : List ℕ) → list_any is_blank text ≡ false → is_blank b ≡ true → words_of prefix (text ++ b ∷ bytes) ≡ word (prefix ++ text) b bytes (words_of [] bytes)
+words_run prefix [] b bytes none is = rw is (ap (λ (t : List ℕ). word t b bytes (words_of [] bytes)) (sym (append-nil prefix)))
+words_run prefix (x ∷ text) b bytes none is =
     let split = neither (is_blank x) (list_any is_blank text) none in
-    rw split.0 (words_run (front ++ x ∷ []) text b bytes split.1 is ∙ ap (λ (t : List ℕ). word t b bytes (words_of [] bytes)) (append_assoc front (x ∷ []) text))
+    rw split.0 (words_run (prefix ++ x ∷ []) text b bytes split.1 is ∙ ap (λ (t : List ℕ). word t b bytes (words_of [] bytes)) (append_assoc prefix (x ∷ []) text))
 
 -- what comes last in a reply that isn't whole doesn't make it so
 cut_short : (too_long : Bool) (place n : ℕ) (vs : List Value) (s : Stream) → (if too_long then malformed fault.TooLong place else short n) ≡ whole vs s → ⊥
@@ -95,7 +95,7 @@ judgement_was r text k range (Ok u) left s v go none is = cc
 judgement_was r text k range (Err f) left s v go none is = absurd (cc is)
 
 module _ (left s : Stream) (v : Value) where
-  -- a reply that goes on, with nothing behind it
+  -- a reply that goes on, with nothing after it
   ends_short : (r : Begun) (text : List ℕ) → reply_in true (past r text false) (last []) ≡ whole (v ∷ []) s → ⊥
   unfolding class_of
   ends_short r text is = cut_short (nat_le longest (r.taken + length text + 1 + 0)) r.place (r.taken + length text + 1 + 0) (v ∷ []) s is
@@ -135,7 +135,7 @@ judged_keeps decimals slot text = slot_keeps slot (bounded_raw (raw_written deci
 abbrev before_word : List ℕ
 before_word = codes "#step 0" ++ 10 ∷ (codes "#outs" ++ 32 ∷ [])
 
--- what such a step is read as, behind what stands before its input
+-- what such a step is read as, after what stands before its input
 step_of_word : (decimals : ℕ) (k : Kind) (range : Option Range) (text : List ℕ) → list_any is_blank text ≡ false
     → reply_of decimals (record { kind = k; range = range; keep = true } ∷ []) (record { place = 0; bytes = before_word ++ (text ++ 10 ∷ []); is_closed = true })
     ≡ reply_in true (record { decimals = decimals; slots = record { kind = k; range = range; keep = true } ∷ []; values = []; is_comment = false; taken = 14; place = 0 }) (word text 10 [] (last []))

@@ -68,7 +68,7 @@ pub record Shows (s : Scene) (outputs : List Value) (locals : List (Option Value
   pub sized : AreLocalsSized locals
 
 -- Each instant shows what can be read back, for so many instants, with these inputs before the first one and whatever
--- inputs of the scenario's behind it.
+-- inputs of the scenario's after it.
 abbrev pub ShowsFor : {State : Type 0} → Rules State → Scene → ℕ → State → List Value → Type 0
 ShowsFor rules s zero m y = Unit {0}
 ShowsFor {State} rules s (suc left) m y =

@@ -10,7 +10,7 @@ use Rattle.lt_rif.specs.declared.slot.Slot.{Slot}
 use Rattle.lt_loop.specs.Machine.{Rules, most_steps}
 use Rattle.lt_loop.specs.Plan.{Plan, closing_text, step_kinds}
 use Rattle.lt_loop.specs.Play.{Piece, Play, Stop, ends, play_of, starves, step_count, stopped}
-use Rattle.lt_loop.specs.Run.{behind_all}
+use Rattle.lt_loop.specs.Run.{pieces_then}
 use Rattle.lt_loop.specs.Scene.{Scene, Variable, first_inputs, input_slots, kinds_of, traced_slots}
 use Rattle.lt_loop.specs.Stands.{is_served}
 use Rattle.lt_loop.specs.declared.event.PieceKind.{PieceKind}
@@ -57,7 +57,7 @@ shown_replies plan (p ∷ ps) = reply_in p.kind plan p.bytes ++ shown_replies pl
 
 -- ---- the verdicts of an oracle
 
--- The verdict on a step behind which a run goes on with these pieces, and stops so: it is false where that step is the last
+-- The verdict on a step after which a run goes on with these pieces, and stops so: it is false where that step is the last
 -- piece of a run that the oracle ended.
 abbrev pub verdict_before : List Piece → Stop → Bool
 verdict_before [] (ends end.Oracle) = false
@@ -75,7 +75,7 @@ shown_verdicts (p ∷ ps) stop = verdict_in p.kind ps stop ++ shown_verdicts ps 
 
 -- ---- the law
 
--- a text as a stream behind which more may come
+-- a text as a stream after which more may come
 abbrev pub open_text : List ℕ → Stream
 open_text text = record { place = 0; bytes = text; is_closed = false }
 
@@ -102,30 +102,30 @@ TracesShowTheirRun State =
     (let run = play_of rules plan limit m c o in
     run.stop ≡ ends e → IsTold plan e (shown_play rules plan limit m run) run)
 
--- ---- fronts
+-- ---- prefixes
 
--- the play on what some pieces of a run show that was not over behind them: all their verdicts are true
-abbrev pub shown_front : {State : Type 0} → Rules State → Plan → ℕ → State → List Piece → Play
-shown_front rules plan limit m ps = play_of rules plan limit m (open_text (shown_replies plan ps)) (open_text (shown_verdicts ps starves))
+-- the play on what some pieces of a run show that was not over after them: all their verdicts are true
+abbrev pub shown_prefix : {State : Type 0} → Rules State → Plan → ℕ → State → List Piece → Play
+shown_prefix rules plan limit m ps = play_of rules plan limit m (open_text (shown_replies plan ps)) (open_text (shown_verdicts ps starves))
 
 -- A play begins with these pieces, but for the last of them, which aren't for the trace: what was told of a step that isn't
 -- among them. So it begins with the same trace, and as many steps.
 pub record Begins (play : Play) (ps : List Piece) : Type 0 where
-  pub front : List Piece
+  pub prefix : List Piece
   pub rest : Play
-  pub joined : play ≡ behind_all front rest
+  pub joined : play ≡ pieces_then prefix rest
   pub sent : List Piece
-  pub pieces : ps ≡ front ++ sent
+  pub pieces : ps ≡ prefix ++ sent
   pub unseen : trace_text sent ≡ []
-  pub text : trace_text front ≡ trace_text ps
-  pub steps : step_count front ≡ step_count ps
+  pub text : trace_text prefix ≡ trace_text ps
+  pub steps : step_count prefix ≡ step_count ps
 
--- Where a run was cut behind some pieces, before its end, as where a device failed, the play on what they show begins with
+-- Where a run was cut after some pieces, before its end, as where a device failed, the play on what they show begins with
 -- these pieces. Of what was told of a step that isn't among them a trace shows nothing.
-abbrev pub FrontsShowTheirRun : Type 0 → Type 0
-FrontsShowTheirRun State =
+abbrev pub PrefixesShowTheirRun : Type 0 → Type 0
+PrefixesShowTheirRun State =
     (rules : Rules State) (plan : Plan) (limit : ℕ) (m : State) (c o : Stream) (ps : List Piece) (rest : Play) →
     IsTraceable plan.scene → limit ≤ most_steps → is_served plan.controller plan.scene ≡ true →
     ShowsFor rules plan.scene limit m (first_inputs plan.scene) →
-    play_of rules plan limit m c o ≡ behind_all ps rest → ((e : End) → rest ≢ stopped (ends e)) →
-    Begins (shown_front rules plan limit m ps) ps
+    play_of rules plan limit m c o ≡ pieces_then ps rest → ((e : End) → rest ≢ stopped (ends e)) →
+    Begins (shown_prefix rules plan limit m ps) ps

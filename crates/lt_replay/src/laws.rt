@@ -1,7 +1,7 @@
 //! The laws. The functions do nothing: their contracts say them.
 
 ghost use Rattle.lt_replay.specs.Replay.{ReplaysAreTheSame};
-ghost use Rattle.lt_replay.specs.Shown.{FrontsShowTheirRun, TracesShowTheirRun};
+ghost use Rattle.lt_replay.specs.Shown.{PrefixesShowTheirRun, TracesShowTheirRun};
 
 use lt_loop::{Machine, replies_fit};
 use lt_rif::{room_is_enough, spelling_is_read, step_reads_back};
@@ -27,9 +27,9 @@ pub fn traces_show_their_run<M: Machine>()
     replies_fit();
 }
 
-/// So is a run that was cut before its end: what it wrote to the trace is the front of what that play writes.
-pub fn fronts_show_their_run<M: Machine>()
-    ensures { FrontsShowTheirRun M.State }
+/// So is a run that was cut before its end: what it wrote to the trace is the prefix of what that play writes.
+pub fn prefixes_show_their_run<M: Machine>()
+    ensures { PrefixesShowTheirRun M.State }
 {
     // Laws that the proof needs: a step that was written is read back, lines are read, steps are short, and replies fit.
     step_reads_back();

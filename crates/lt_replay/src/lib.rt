@@ -7,4 +7,4 @@
 
 mod laws;
 
-pub use laws::{fronts_show_their_run, replays_are_the_same, traces_show_their_run};
+pub use laws::{prefixes_show_their_run, replays_are_the_same, traces_show_their_run};

@@ -1,28 +1,28 @@
 -- A call that plays the trace of an earlier one again.
 use Rattle.std.proofs.Common.{◌≡◌, ◌^◌, ◌<◌, ◌≤◌, ℕ, true, List, ◌++◌, Some, Ok, refl, ap, sym, subst, ◌∙◌, arith}
+use Rattle.lt_rif.specs.Trace.{end_number}
 use Rattle.std.specs.Io.KnownBytes.{Appends}
-use Rattle.lt_drive.specs.Outside.{text_to}
+use Rattle.lt_drive.specs.Interaction.{text_to}
+use Rattle.lt_io.specs.Outside.{Outside, Sources}
 use Rattle.lt_drive.specs.Told.{closed}
 use Rattle.lt_loop.specs.CoreView.{stream_of}
 use Rattle.lt_loop.specs.Play.{Play, Stop, ends, step_count}
 use Rattle.lt_loop.specs.declared.event.Destination.TheVariants as destination
-use Rattle.lt_prepare.specs.Laws.{TextsHaveOneScenarioAnswer}
+use Rattle.lt_frontend.specs.Laws.{TextsHaveOneScenarioAnswer}
 use Rattle.lt_replay.specs.Replay.{is_replayable, trace_text}
 use Rattle.lt_rif.specs.declared.end.End.{End}
 use Rattle.lt_rif.specs.declared.end.End.TheVariants as end
 use Rattle.lt_session.specs.Told as beside
 use Rattle.lt_term.specs.Scene.{Scene}
 use Rattle.lt_traced.specs.Traced.{IsRunOf, ScenarioReplaysAreTheSame}
-use Rattle.lt_words.specs.Settings.{most_seed}
-use Rattle.lt_words.specs.Words.{Request}
-use Rattle.lt_words.specs.declared.words.Mode.TheVariants as mode
-use Rattle.lt_call.specs.Course.{run_of}
+use Rattle.lt_args.specs.Settings.{most_seed}
+use Rattle.lt_args.specs.Words.{Request}
+use Rattle.lt_args.specs.declared.words.Mode.TheVariants as mode
+use Rattle.lt_call.specs.Run.{run_of}
 use Rattle.lt_call.specs.Due.{Answer, Contents, HasScene, IsDue, IsServed, IsShort, Work, by_all, plays}
 use Rattle.lt_call.specs.Due as due
-use Rattle.lt_call.specs.Given.{number_behind}
 use Rattle.lt_call.specs.Laws.{ContentsHaveOneDueAnswer, IsUncut, IsWhole, UncutCallsAreWhole}
 use Rattle.lt_call.specs.Lines.{status_lines}
-use Rattle.lt_call.specs.Outside.{Outside}
 use Rattle.lt_call.specs.declared.status.Ending.{Ending}
 use Rattle.lt_call.specs.declared.status.Status.{Status}
 use Rattle.lt_call.specs.declared.status.Status.TheVariants as status
@@ -45,7 +45,7 @@ one_scene law request contents scene other has also = let same = (law request.de
 
 module _ (one : TextsHaveOneScenarioAnswer) (request : Request) (contents : Contents) (scene : Scene) (has : HasScene request contents scene) (running : request.mode ≡ mode.Run) where
   -- where a call ran, a run is due
-  ran_due : (c o : List ℕ) (names : List (List ℕ)) (old new : Outside) (ending : Ending) (answer : Answer) → IsDue request contents answer → IsWhole request contents.replay c o answer.work names old new (status.Ran ending) → Runs request contents answer scene
+  ran_due : (c o : List ℕ) (names : List (List ℕ)) (old new : Outside Sources) (ending : Ending) (answer : Answer) → IsDue request contents answer → IsWhole request contents.replay c o answer.work names old new (status.Ran ending) → Runs request contents answer scene
   ran_due c o names old new ending _ (due.too_long file long) whole = absurd (cc whole.0)
   ran_due c o names old new ending _ (due.no_scenario reason run short why) whole = absurd (cc whole.0)
   ran_due c o names old new ending _ (due.unserved other run short also none) whole = absurd (cc whole.0)
@@ -81,7 +81,7 @@ run_on request scene c o = run_of request scene (closed c) (closed o)
 same_end : (s : Stop) (e f : End) → s ≡ ends e → s ≡ ends f → e ≡ f
 same_end s e f h k = let both : ends e ≡ ends f = sym h ∙ k in cc
 
-module _ (request : Request) (scene : Scene) (trace c o name bytes : List ℕ) (names names' : List (List ℕ)) (old new old' new' : Outside) (ending : Ending) (s' : Status) where
+module _ (request : Request) (scene : Scene) (trace c o name bytes : List ℕ) (names names' : List (List ℕ)) (old new old' new' : Outside Sources) (ending : Ending) (s' : Status) where
   both_same : (e : End) → (let run = run_on request scene c o in let again = run_on (replaying name request) scene bytes o in
       IsWhole request trace c o (plays scene) names old new (status.Ran ending) → IsWhole (replaying name request) bytes bytes o (plays scene) names' old' new' s' →
       run.stop ≡ ends e → again.stop ≡ ends e → trace_text again.pieces ≡ bytes → step_count again.pieces ≡ step_count run.pieces → (before' : List ℕ) → old'.trace.written ≡ Some before' →
@@ -91,10 +91,10 @@ module _ (request : Request) (scene : Scene) (trace c o name bytes : List ℕ) (
       let again = run_on (replaying name request) scene bytes o in
       let f : first.0 ≡ e = same_end run.stop first.0 e first.1 stops in
       let g : second.0 ≡ e = same_end again.stop second.0 e second.1 stops_again in
-      let one : status.Ran ending ≡ status.Ran (record { end = e; at = number_behind e (step_count run.pieces) }) = first.2 ∙ ap (λ (x : End). status.Ran (record { end = x; at = number_behind x (step_count run.pieces) })) f in
-      let other : s' ≡ status.Ran (record { end = e; at = number_behind e (step_count run.pieces) }) =
-      second.2 ∙ ap (λ (x : End). status.Ran (record { end = x; at = number_behind x (step_count again.pieces) })) g
-      ∙ ap (λ (n : ℕ). status.Ran (record { end = e; at = number_behind e n })) steps in
+      let one : status.Ran ending ≡ status.Ran (record { end = e; at = end_number e (step_count run.pieces) }) = first.2 ∙ ap (λ (x : End). status.Ran (record { end = x; at = end_number x (step_count run.pieces) })) f in
+      let other : s' ≡ status.Ran (record { end = e; at = end_number e (step_count run.pieces) }) =
+      second.2 ∙ ap (λ (x : End). status.Ran (record { end = x; at = end_number x (step_count again.pieces) })) g
+      ∙ ap (λ (n : ℕ). status.Ran (record { end = e; at = end_number e n })) steps in
       let same : s' ≡ status.Ran ending = other ∙ sym one in
       let called : names' ≡ names = second.3 ∙ sym first.3 in
       let grown : Appends old'.trace.written new'.trace.written bytes = subst (λ (t : List ℕ). Appends old'.trace.written new'.trace.written t) (same_text again.pieces ∙ text) second.4 in

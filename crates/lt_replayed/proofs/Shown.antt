@@ -1,24 +1,31 @@
 -- The trace of a call shows its run.
 use Rattle.std.proofs.Common.{◌≡◌, ◌+◌, ℕ, Bool, true, false, ◌⊎◌, inl, inr, List, [], ◌∷◌, ◌++◌, None, Some, Ok, refl, ap, sym, subst, ◌∙◌, arith, append_assoc, append-nil}
+use Rattle.lt_rif.specs.Trace.{end_number}
 use Rattle.std.specs.Io.KnownBytes.{Appends, Keeps}
 use Rattle.std.specs.declared.option.Option.{Option}
 use Rattle.lt_drive.specs.Drive as drive
-use Rattle.lt_drive.specs.Drive.{Course, GivesOut, IsDriven, IsUnended, fault_line}
-use Rattle.lt_drive.specs.Outside.{Link, Received, Sink, piece, received_then, side, text_to}
-use Rattle.lt_drive.specs.declared.driven.Driven.{Driven}
+use Rattle.lt_drive.specs.Drive.{Continuation, GivesOut, IsDriven, IsUnended, fault_line}
+use Rattle.lt_io.specs.Link.{Link}
+use Rattle.lt_drive.specs.Interaction.{Received, piece, received_then, side, text_to}
+use Rattle.lt_io.specs.Sink.{Sink}
+use Rattle.lt_loop.specs.InputSource.{InputSource}
+use Rattle.lt_session.specs.Session.{IsPlayed}
+use Rattle.lt_io.specs.Programs.{Programs}
+use Rattle.lt_io.specs.Outside.{Outside, Sources, without_files, linked}
+use Rattle.lt_drive.specs.declared.drive_end.DriveEnd.{DriveEnd}
 use Rattle.lt_io.specs.Causes.{WhereTold}
 use Rattle.lt_loop.specs.CoreView.{stream_of}
 use Rattle.lt_loop.specs.Plan.{Plan, closing_text}
 use Rattle.lt_loop.specs.Play.{Piece, Play, Stop, destination_of, ends, needs_byte, starves, step_count, steps_of, stopped}
-use Rattle.lt_loop.specs.Run.{behind_all}
+use Rattle.lt_loop.specs.Run.{pieces_then}
 use Rattle.lt_loop.specs.Side.{Rest, silent}
-use Rattle.lt_loop.specs.Standing.{Standing}
+use Rattle.lt_loop.specs.CoreState.{CoreState}
 use Rattle.lt_loop.specs.declared.event.Destination.{Destination}
 use Rattle.lt_loop.specs.declared.event.Destination.TheVariants as destination
 use Rattle.lt_loop.specs.declared.event.PieceKind.{PieceKind}
 use Rattle.lt_loop.specs.declared.event.PieceKind.TheVariants as piece_kind
-use Rattle.lt_prepare.specs.Laws.{TextsHaveOneScenarioAnswer}
-use Rattle.lt_prepare.specs.Prepared.{IsScenarioAnswer}
+use Rattle.lt_frontend.specs.Laws.{TextsHaveOneScenarioAnswer}
+use Rattle.lt_frontend.specs.Prepared.{IsScenarioAnswer}
 use Rattle.lt_replay.specs.Replay.{is_replayable, trace_text, traced_to}
 use Rattle.lt_replay.specs.Shown.{Begins, IsTold, reply_in, shown_replies, shown_verdicts, verdict_before, verdict_in}
 use Rattle.lt_rif.specs.Trace.{bool_text, line}
@@ -27,25 +34,23 @@ use Rattle.lt_rif.specs.declared.end.End.TheVariants as end
 use Rattle.lt_rif.specs.declared.end.Who.{Who}
 use Rattle.lt_rif.specs.declared.end.Who.TheVariants as who
 use Rattle.lt_session.specs.Session as session
-use Rattle.lt_session.specs.Session.{IsPlayed, Outside as Beside, Origin}
-use Rattle.lt_session.specs.declared.played.Played.{Played}
-use Rattle.lt_session.specs.declared.played.Played.TheVariants as played
+use Rattle.lt_session.specs.declared.session_end.SessionEnd.{SessionEnd}
+use Rattle.lt_session.specs.declared.session_end.SessionEnd.TheVariants as session_end
 use Rattle.lt_step.specs.Machine.{State}
 use Rattle.lt_term.specs.Scene.{Scene}
-use Rattle.lt_traced.specs.Traced.{IsRunOf, ScenarioFrontsShowTheirRun, ScenarioTracesShowTheirRun}
-use Rattle.lt_words.specs.Words.{IsWithin, Request}
-use Rattle.lt_words.specs.declared.words.Mode.TheVariants as mode
+use Rattle.lt_traced.specs.Traced.{IsRunOf, ScenarioPrefixesShowTheirRun, ScenarioTracesShowTheirRun}
+use Rattle.lt_args.specs.Words.{IsWithin, Request}
+use Rattle.lt_args.specs.declared.words.Mode.TheVariants as mode
 use Rattle.lt_call.specs.Call.{IsText}
-use Rattle.lt_call.specs.Course.{IsCourseOf, plan_of, run_of}
+use Rattle.lt_call.specs.Run.{IsContinuationOf, plan_of, run_of}
 use Rattle.lt_call.specs.Due.{Answer, Contents, IsDue, IsServed, Work, has_file, plays, stresses, writes}
 use Rattle.lt_call.specs.Due as due
 use Rattle.lt_call.specs.Given as given
-use Rattle.lt_call.specs.Given.{Gives, IsDone, number_behind, status_of}
-use Rattle.lt_call.specs.Outside.{Outside, beside}
+use Rattle.lt_call.specs.Given.{Gives, IsDone, status_of}
 use Rattle.lt_call.specs.declared.status.Status.{Status}
 use Rattle.lt_replayed.specs.Setup.{setup_of}
 use Rattle.lt_replayed.specs.Shown as shown
-use Rattle.lt_replayed.specs.Shown.{TraceShowsFirst, ShowsBy, ShowsFront, ShowsRun, TracesOfCallsShowTheirRuns, shown_run}
+use Rattle.lt_replayed.specs.Shown.{TraceShowsFirst, ShowsBy, ShowsPrefix, ShowsRun, TracesOfCallsShowTheirRuns, shown_run}
 use Rattle.lt_replayed.proofs.Traces.{none_appended, same_text, text_append}
 
 -- ---- verdicts
@@ -130,13 +135,13 @@ over_or_not [] (needs_byte w) = inr (λ e is. let stops : needs_byte w ≡ ends 
 over_or_not [] starves = inr (λ e is. let stops : starves ≡ ends e = ap (λ (q : Play). q.stop) is in absurd (cc stops))
 over_or_not (p ∷ ps) s = inr (λ e is. let pieces : p ∷ ps ≡ [] = ap (λ (q : Play). q.pieces) is in absurd (cc pieces))
 
-more_unended : (p : Piece) (rest : Play) → IsUnended (behind_all (p ∷ []) rest)
+more_unended : (p : Piece) (rest : Play) → IsUnended (pieces_then (p ∷ []) rest)
 more_unended p rest e is = let pieces : p ∷ rest.pieces ≡ [] = ap (λ (q : Play). q.pieces) is in absurd (cc pieces)
 
-behind_both : (ps qs : List Piece) (rest : Play) → behind_all (ps ++ qs) rest ≡ behind_all ps (behind_all qs rest)
+behind_both : (ps qs : List Piece) (rest : Play) → pieces_then (ps ++ qs) rest ≡ pieces_then ps (pieces_then qs rest)
 behind_both ps qs rest = ap (λ (t : List Piece). record { pieces = t; stop = rest.stop }) (append_assoc ps qs rest.pieces)
 
-behind_none : (ps : List Piece) (s : Stop) → behind_all ps (stopped s) ≡ record { pieces = ps; stop = s }
+behind_none : (ps : List Piece) (s : Stop) → pieces_then ps (stopped s) ≡ record { pieces = ps; stop = s }
 behind_none ps s = ap (λ (t : List Piece). record { pieces = t; stop = s }) (append-nil ps)
 
 -- ---- runs
@@ -150,10 +155,10 @@ nothing_shown : (request : Request) (scene : Scene) (old new : Option (List ℕ)
 nothing_shown request scene old new none = record {
   pieces = [];
   grows = none;
-  shows = record { front = []; rest = shown_run request scene [] starves; joined = refl; sent = []; pieces = refl; unseen = refl; text = refl; steps = refl };
+  shows = record { prefix = []; rest = shown_run request scene [] starves; joined = refl; sent = []; pieces = refl; unseen = refl; text = refl; steps = refl };
 }
 
-module _ (traces : ScenarioTracesShowTheirRun) (fronts : ScenarioFrontsShowTheirRun) (request : Request) (text : List ℕ) (scene : Scene) (known : IsRunOf request.decimals request.node text scene (setup_of request)) where
+module _ (traces : ScenarioTracesShowTheirRun) (prefixes : ScenarioPrefixesShowTheirRun) (request : Request) (text : List ℕ) (scene : Scene) (known : IsRunOf request.decimals request.node text scene (setup_of request)) where
   abbrev plan : Plan
   plan = plan_of request scene
 
@@ -171,34 +176,34 @@ module _ (traces : ScenarioTracesShowTheirRun) (fronts : ScenarioFrontsShowTheir
       let told = traces request.decimals request.node text scene request.budget (setup_of request) (stream_of c) (stream_of o) e known (ap (λ (p : Play). p.stop) is) in
       ended_by ps e (is_replayable e) refl (subst (λ (run : Play). IsTold plan e (shown_run request scene run.pieces run.stop) run) is told)
 
-  -- a front of a run that isn't over shows itself
-  front_shows : (c o : Rest) (ps : List Piece) (rest : Play) → run_of request scene c o ≡ behind_all ps rest → IsUnended rest → Begins (shown_run request scene ps starves) ps
-  front_shows c o ps rest is unended = fronts request.decimals request.node text scene request.budget (setup_of request) (stream_of c) (stream_of o) ps rest known is unended
+  -- a prefix of a run that isn't over shows itself
+  prefix_shows : (c o : Rest) (ps : List Piece) (rest : Play) → run_of request scene c o ≡ pieces_then ps rest → IsUnended rest → Begins (shown_run request scene ps starves) ps
+  prefix_shows c o ps rest is unended = prefixes request.decimals request.node text scene request.budget (setup_of request) (stream_of c) (stream_of o) ps rest known is unended
 
-  -- a front of a run shows itself, whether it is over or not
-  some_front_shows : (c o : Rest) (ps : List Piece) (rest : Play) → run_of request scene c o ≡ behind_all ps rest → ((e : End) × (rest ≡ stopped (ends e))) ⊎ IsUnended rest → ShowsFront request scene ps
-  some_front_shows c o ps rest is (inl over) = shown.over over.0 (ended_shows c o ps over.0 (is ∙ ap (λ (r : Play). behind_all ps r) over.1 ∙ behind_none ps (ends over.0)))
-  some_front_shows c o ps rest is (inr unended) = shown.begun (front_shows c o ps rest is unended)
+  -- a prefix of a run shows itself, whether it is over or not
+  some_prefix_shows : (c o : Rest) (ps : List Piece) (rest : Play) → run_of request scene c o ≡ pieces_then ps rest → ((e : End) × (rest ≡ stopped (ends e))) ⊎ IsUnended rest → ShowsPrefix request scene ps
+  some_prefix_shows c o ps rest is (inl over) = shown.over over.0 (ended_shows c o ps over.0 (is ∙ ap (λ (r : Play). pieces_then ps r) over.1 ∙ behind_none ps (ends over.0)))
+  some_prefix_shows c o ps rest is (inr unended) = shown.begun (prefix_shows c o ps rest is unended)
 
   -- so does a run that a side's fault ended
-  fault_shows : (c o : Rest) (ps qs : List Piece) (rest : Play) (w : Who) → run_of request scene c o ≡ behind_all ps rest → IsUnended rest → IsQuiet plan qs →
+  fault_shows : (c o : Rest) (ps qs : List Piece) (rest : Play) (w : Who) → run_of request scene c o ≡ pieces_then ps rest → IsUnended rest → IsQuiet plan qs →
       trace_text qs ≡ closing_text plan (end.Device w) (step_count ps + 1) → ShowsRun request scene (ps ++ qs) (end.Device w)
   fault_shows c o ps qs rest w is unended quiet last =
-      let begins = front_shows c o ps rest is unended in
+      let begins = prefix_shows c o ps rest is unended in
       let replies = replies_before plan ps qs quiet in
       let verdicts = verdicts_same (ps ++ qs) (end.Device w) refl ∙ verdicts_before plan ps qs quiet in
       let same : shown_run request scene (ps ++ qs) (ends (end.Device w)) ≡ shown_run request scene ps starves =
       λ i. run_of request scene (record { bytes = replies i; is_closed = false }) (record { bytes = verdicts i; is_closed = false }) in
       let steps = begins.steps in
-      let before : trace_text ps ≡ trace_text begins.front = sym begins.text in
-      let behind : trace_text qs ≡ closing_text plan (end.Device w) (step_count begins.front + 1) = last ∙ ap (λ (n : ℕ). closing_text plan (end.Device w) (n + 1)) (sym steps) in
-      shown.cut begins.front begins.rest refl (same ∙ begins.joined) (steps ∙ sym (steps_before plan ps qs quiet)) (text_append ps qs ∙ (λ i. before i ++ behind i))
+      let before : trace_text ps ≡ trace_text begins.prefix = sym begins.text in
+      let after : trace_text qs ≡ closing_text plan (end.Device w) (step_count begins.prefix + 1) = last ∙ ap (λ (n : ℕ). closing_text plan (end.Device w) (n + 1)) (sym steps) in
+      shown.cut begins.prefix begins.rest refl (same ∙ begins.joined) (steps ∙ sym (steps_before plan ps qs quiet)) (text_append ps qs ∙ (λ i. before i ++ after i))
 
   -- ---- what is driven
 
-  module _ (k : Course) (course : IsCourseOf request scene k) where
+  module _ (k : Continuation) (course : IsContinuationOf request scene k) where
     -- what a course plays is the run
-    begins_run : (received : Received) (ps : List Piece) (rest : Play) → drive.play_on k received silent silent ≡ behind_all ps rest → run_of request scene (received_then received.controller silent) (received_then received.oracle silent) ≡ behind_all ps rest
+    begins_run : (received : Received) (ps : List Piece) (rest : Play) → drive.play_on k received silent silent ≡ pieces_then ps rest → run_of request scene (received_then received.controller silent) (received_then received.oracle silent) ≡ pieces_then ps rest
     begins_run received ps rest is = sym (course.plays (received_then received.controller silent) (received_then received.oracle silent)) ∙ is
 
     line_is : (ps : List Piece) (w : Who) → (fault_line k ps w).bytes ≡ closing_text plan (end.Device w) (step_count ps + 1)
@@ -216,70 +221,70 @@ module _ (traces : ScenarioTracesShowTheirRun) (fronts : ScenarioFrontsShowTheir
         subst (λ (u : Who). ShowsRun request scene out (end.Device u)) same
         (subst (λ (t : List Piece). ShowsRun request scene t (end.Device v)) (sym given_is)
         (fault_shows _ _ ps (fault_line k ps v ∷ []) here.0 v (begins_run received ps here.0 here.1) here.2 (line_quiet plan (fault_line k ps v).bytes) (append-nil (fault_line k ps v).bytes ∙ last)))
-    fault_given received out _ w is (drive.unsent v ps kind front rest goes begins given_is) =
+    fault_given received out _ w is (drive.unsent v ps kind prefix rest goes begins given_is) =
         let same : v ≡ w = cc in
         let here = begins silent silent in
-        let whole = piece kind (front ++ rest) in
-        let sent = piece kind front in
+        let whole = piece kind (prefix ++ rest) in
+        let sent = piece kind prefix in
         let end_line = fault_line k ps v in
         let last = line_is ps v in
-        let unseen = sent_unseen kind v front goes in
+        let unseen = sent_unseen kind v prefix goes in
         subst (λ (u : Who). ShowsRun request scene out (end.Device u)) same
         (subst (λ (t : List Piece). ShowsRun request scene t (end.Device v)) (sym given_is)
-        (fault_shows _ _ ps (sent ∷ end_line ∷ []) (behind_all (whole ∷ []) here.0) v (begins_run received (ps ++ whole ∷ []) here.0 here.1 ∙ behind_both ps (whole ∷ []) here.0) (more_unended whole here.0)
-        (sent_quiet plan kind v front end_line.bytes goes)
+        (fault_shows _ _ ps (sent ∷ end_line ∷ []) (pieces_then (whole ∷ []) here.0) v (begins_run received (ps ++ whole ∷ []) here.0 here.1 ∙ behind_both ps (whole ∷ []) here.0) (more_unended whole here.0)
+        (sent_quiet plan kind v prefix end_line.bytes goes)
         (text_append (sent ∷ []) (end_line ∷ []) ∙ ap (λ (t : List ℕ). t ++ trace_text (end_line ∷ [])) unseen ∙ append-nil end_line.bytes ∙ last)))
 
     -- what is given out, whether a side failed or not
-    front_given : (received : Received) (out : List Piece) (fault : Option Who) → GivesOut k received out fault → ShowsFront request scene out
-    front_given received out None (drive.calm begins) =
+    prefix_given : (received : Received) (out : List Piece) (fault : Option Who) → GivesOut k received out fault → ShowsPrefix request scene out
+    prefix_given received out None (drive.calm begins) =
         let here = begins silent silent in
         let rest = here.0 in
-        some_front_shows _ _ out rest (begins_run received out rest here.1) (over_or_not rest.pieces rest.stop)
-    front_given received out (Some w) gives = shown.over (end.Device w) (fault_given received out (Some w) w refl gives)
+        some_prefix_shows _ _ out rest (begins_run received out rest here.1) (over_or_not rest.pieces rest.stop)
+    prefix_given received out (Some w) gives = shown.over (end.Device w) (fault_given received out (Some w) w refl gives)
 
-    module _ (old new : Beside) (core : Standing State) where
+    module _ (old new : Outside Programs) (core : CoreState State) where
       grown : (ps : List Piece) → Appends old.trace.written new.trace.written (text_to destination.Trace ps) → Appends old.trace.written new.trace.written (trace_text ps)
       grown ps h = subst (λ (t : List ℕ). Appends old.trace.written new.trace.written t) (same_text ps) h
 
-      numbered : (ps : List Piece) (e : End) → core.written ≡ k.written + step_count ps → number_behind e core.written ≡ number_behind e (step_count ps)
-      numbered ps e counts = ap (λ (n : ℕ). number_behind e n) (let none = course.unwritten in let same : core.written ≡ step_count ps = omega (arith, none, counts) in same)
+      numbered : (ps : List Piece) (e : End) → core.written ≡ k.written + step_count ps → end_number e core.written ≡ end_number e (step_count ps)
+      numbered ps e counts = ap (λ (n : ℕ). end_number e n) (let none = course.unwritten in let same : core.written ≡ step_count ps = omega (arith, none, counts) in same)
 
-      driven_shows : (c o c' o' : Link) (how : Driven) → IsDriven k (session.between c o old.trace) (session.between c' o' new.trace) core how → ShowsBy request scene (status_of (played.Driven how) core.written) old.trace.written new.trace.written
-      driven_shows c o c' o' _ (drive.ended received ps e whole happens counts over) = record {
+      driven_shows : (c o c' o' : Link) (how : DriveEnd) → IsDriven k (linked c o old.trace) (linked c' o' new.trace) core how → ShowsBy request scene (status_of (session_end.Driven how) core.written) old.trace.written new.trace.written
+      driven_shows c o c' o' _ (drive.ended received ps e whole interaction counts over) = record {
         pieces = ps;
-        grows = grown ps (happens.gives destination.Trace);
+        grows = grown ps (interaction.gives destination.Trace);
         shows = ended_shows _ _ ps e (begins_run received ps (stopped (ends e)) (whole silent silent ∙ sym (behind_none ps (ends e))) ∙ behind_none ps (ends e));
         number = numbered ps e counts.1;
       }
-      driven_shows c o c' o' _ (drive.failed received out w gives happens counts over) = record {
+      driven_shows c o c' o' _ (drive.failed received out w gives interaction counts over) = record {
         pieces = out;
-        grows = grown out (happens.gives destination.Trace);
+        grows = grown out (interaction.gives destination.Trace);
         shows = fault_given received out (Some w) w refl gives;
         number = numbered out (end.Device w) counts.1;
       }
-      driven_shows c o c' o' _ (drive.starved received ps begins happens counts starving) =
+      driven_shows c o c' o' _ (drive.starved received ps begins interaction counts starving) =
           let here = begins silent silent in
-          record { pieces = ps; grows = grown ps (happens.gives destination.Trace); shows = front_shows _ _ ps here.0 (begins_run received ps here.0 here.1) here.2 }
-      driven_shows c o c' o' _ (drive.untraced received fault out kind front rest gives goes some happens counts) = record {
+          record { pieces = ps; grows = grown ps (interaction.gives destination.Trace); shows = prefix_shows _ _ ps here.0 (begins_run received ps here.0 here.1) here.2 }
+      driven_shows c o c' o' _ (drive.untraced received fault out kind prefix rest gives goes some interaction counts) = record {
         pieces = out;
         kind = kind;
-        front = front;
+        prefix = prefix;
         rest = rest;
         grows =
             subst (λ (t : List ℕ). Appends old.trace.written new.trace.written t)
-            (text_append out (piece kind front ∷ []) ∙ ap (λ (t : List ℕ). trace_text out ++ t) (part_traced kind front goes))
-            (grown (out ++ piece kind front ∷ []) (happens.gives destination.Trace));
+            (text_append out (piece kind prefix ∷ []) ∙ ap (λ (t : List ℕ). trace_text out ++ t) (part_traced kind prefix goes))
+            (grown (out ++ piece kind prefix ∷ []) (interaction.gives destination.Trace));
         to_trace = goes;
         part = some;
-        shows = front_given received (out ++ piece kind (front ++ rest) ∷ []) fault gives;
-        number = ap (λ (n : ℕ). drive.step_at_hand kind n) (let none = course.unwritten in let same : k.written + step_count out ≡ step_count out = omega (arith, none) in same);
+        shows = prefix_given received (out ++ piece kind (prefix ++ rest) ∷ []) fault gives;
+        number = ap (λ (n : ℕ). drive.failed_step kind n) (let none = course.unwritten in let same : k.written + step_count out ≡ step_count out = omega (arith, none) in same);
       }
 
       unchanged : new.trace ≡ old.trace → Appends old.trace.written new.trace.written []
       unchanged trace_is = none_appended old.trace.written new.trace.written (subst (λ (t : Sink). Keeps old.trace.written t.written) (sym trace_is) (keeps_itself old.trace.written))
 
-      played_shows : (controller oracle : Origin) (how : Played) → IsPlayed k controller oracle old new core how → ShowsBy request scene (status_of how core.written) old.trace.written new.trace.written
+      played_shows : (controller oracle : InputSource) (how : SessionEnd) → IsPlayed k controller oracle old new core how → ShowsBy request scene (status_of how core.written) old.trace.written new.trace.written
       played_shows controller oracle _ (session.driven c c' o o' p q r how opens opened drove closes closed) = driven_shows c o c' o' how drove
       played_shows controller oracle _ (session.no_controller command why unstarted trace_is) = tt
       played_shows controller oracle _ (session.no_oracle command c p q why opens unstarted closes trace_is) = tt
@@ -294,11 +299,11 @@ record RunsIt (request : Request) (scene : Scene) (work : Work) : Type 0 where
   writes_not : (printed : List ℕ) → work ≡ writes printed → ⊥
   stresses_not : (n : ℕ) (other : Scene) → work ≡ stresses n other → ⊥
 
-module _ (traces : ScenarioTracesShowTheirRun) (fronts : ScenarioFrontsShowTheirRun) (request : Request) (text : List ℕ) (scene : Scene) (within : IsWithin request) (has : IsScenarioAnswer request.decimals request.node text (Ok scene)) where
+module _ (traces : ScenarioTracesShowTheirRun) (prefixes : ScenarioPrefixesShowTheirRun) (request : Request) (text : List ℕ) (scene : Scene) (within : IsWithin request) (has : IsScenarioAnswer request.decimals request.node text (Ok scene)) where
   is_run : IsServed request scene → IsRunOf request.decimals request.node text scene (setup_of request)
   is_run served = record { scenario = record { few = within.decimals; is = has }; limit = within.limit; served = served }
 
-  done_shows : (trace : List ℕ) (old new : Beside) (work : Work) (names : List (List ℕ)) (s : Status) → RunsIt request scene work → IsDone request trace old new work names s → ShowsBy request scene s old.trace.written new.trace.written
+  done_shows : (trace : List ℕ) (old new : Outside Programs) (work : Work) (names : List (List ℕ)) (s : Status) → RunsIt request scene work → IsDone request trace old new work names s → ShowsBy request scene s old.trace.written new.trace.written
   done_shows trace old new _ _ _ it (given.refused reason puts) = tt
   done_shows trace old new _ _ _ it (given.written printed same all) = tt
   done_shows trace old new _ _ _ it (given.cut printed same part) = absurd (it.writes_not printed refl)
@@ -307,10 +312,10 @@ module _ (traces : ScenarioTracesShowTheirRun) (fronts : ScenarioFrontsShowTheir
   done_shows trace old new _ _ _ it (given.untold n other ps e run limit unbroken puts) = absurd (it.stresses_not n other refl)
   done_shows trace old new _ _ _ it (given.ran other k core how course is) =
       let it_is = it.runs other refl in
-      played_shows traces fronts request text scene (is_run it_is.1) k (subst (λ (x : Scene). IsCourseOf request x k) it_is.0 course) old new core _ _ how is
+      played_shows traces prefixes request text scene (is_run it_is.1) k (subst (λ (x : Scene). IsContinuationOf request x k) it_is.0 course) old new core _ _ how is
 
-  gives_shows : (contents : Contents) (answer : Answer) (asked names : List (List ℕ)) (old new : Outside) (s : Status) → RunsIt request scene answer.work → Gives request contents answer asked old new names s → ShowsBy request scene s old.trace.written new.trace.written
-  gives_shows contents answer asked _ old new _ it (given.done names s files is) = done_shows contents.replay (beside old) (beside new) answer.work names s it is
+  gives_shows : (contents : Contents) (answer : Answer) (asked names : List (List ℕ)) (old new : Outside Sources) (s : Status) → RunsIt request scene answer.work → Gives request contents answer asked old new names s → ShowsBy request scene s old.trace.written new.trace.written
+  gives_shows contents answer asked _ old new _ it (given.done names s files is) = done_shows contents.replay (without_files old) (without_files new) answer.work names s it is
   gives_shows contents answer asked _ old new _ it (given.by_file n some files puts) = tt
   gives_shows contents answer asked _ old new _ it (given.by_memory n files puts) = nothing_shown request scene old.trace.written new.trace.written (none_appended old.trace.written new.trace.written puts.trace)
 
@@ -338,13 +343,13 @@ of_file false told text e is = absurd (cc e)
 
 -- ---- the law
 
-pub traces_of_calls_show_their_runs : TextsHaveOneScenarioAnswer → ScenarioTracesShowTheirRun → ScenarioFrontsShowTheirRun → TracesOfCallsShowTheirRuns
-traces_of_calls_show_their_runs one traces fronts request told asked names old new s within run gives =
+pub traces_of_calls_show_their_runs : TextsHaveOneScenarioAnswer → ScenarioTracesShowTheirRun → ScenarioPrefixesShowTheirRun → TracesOfCallsShowTheirRuns
+traces_of_calls_show_their_runs one traces prefixes request told asked names old new s within run gives =
     let contents = gives.0 in
     let are = gives.1 in
     let answer = gives.2 in (
       contents.scenario,
       of_file (has_file request.mode) (told request.file) contents.scenario (ap has_file run) are.0,
       λ scene has.
-          gives_shows traces fronts request contents.scenario scene within has contents answer asked names old new s (due_runs one request contents.scenario scene contents answer run refl has gives.3) gives.4,
+          gives_shows traces prefixes request contents.scenario scene within has contents answer asked names old new s (due_runs one request contents.scenario scene contents answer run refl has gives.3) gives.4,
     )

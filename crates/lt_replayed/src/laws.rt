@@ -4,9 +4,9 @@ ghost use Rattle.lt_replayed.specs.Again.{ReplayedCallsAreTheSame};
 ghost use Rattle.lt_replayed.specs.Shown.{TracesOfCallsShowTheirRuns};
 
 use lt_call::{contents_have_one_due_answer, uncut_calls_are_whole};
-use lt_prepare::texts_have_one_scenario_answer;
+use lt_frontend::texts_have_one_scenario_answer;
 use lt_traced::{
-    scenario_fronts_show_their_run, scenario_replays_are_the_same, scenario_traces_show_their_run,
+    scenario_prefixes_show_their_run, scenario_replays_are_the_same, scenario_traces_show_their_run,
 };
 
 /// A call that plays the trace of an earlier call again writes the same bytes, has the same status, and says the same.
@@ -25,5 +25,5 @@ pub fn traces_of_calls_show_their_runs()
 {
     texts_have_one_scenario_answer();
     scenario_traces_show_their_run();
-    scenario_fronts_show_their_run();
+    scenario_prefixes_show_their_run();
 }

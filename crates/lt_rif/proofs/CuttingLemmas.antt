@@ -18,21 +18,21 @@ first-next : (n decimals : ℕ) (slots : List Slot) (s : Stream) → first_of n 
 first-next zero decimals slots s = refl
 first-next (suc n) decimals slots s = refl
 
--- one call, where those after it find the replies of what it left
+-- one call, where those later it find the replies of what it left
 found-by : (call : Fed) (old after : Reading) (piece rest : List ℕ) (values : List Value) (closed : Bool) (decimals : ℕ) (slots : List Slot) (more : List Finding)
     → old.begun.decimals ≡ decimals → old.slots ≡ slots → FedTells old piece call after values
     → more ≡ first_of (length more) decimals slots (answer after (left_of piece call rest) closed)
     → found_then call values after.begun.place more ≡ first_of (length (found_then call values after.begun.place more)) decimals slots (answer old (piece ++ rest) closed)
-found-by fed.More old after piece rest values closed decimals slots more d s tells behind = behind ∙ ap (first_of (length more) decimals slots) (sym (tells.0 rest closed))
-found-by (fed.Whole n) old after piece rest values closed decimals slots more d s tells behind =
+found-by fed.More old after piece rest values closed decimals slots more d s tells later = later ∙ ap (first_of (length more) decimals slots) (sym (tells.0 rest closed))
+found-by (fed.Whole n) old after piece rest values closed decimals slots more d s tells later =
     let place = after.begun.place in
     let left : Stream = record { place = place; bytes = drop n piece ++ rest; is_closed = closed } in
     let stands : after ≡ between decimals slots place = tells.2 ∙ (λ i. between (d i) (s i) place) in
     let next : answer after (drop n piece ++ rest) closed ≡ reply_of decimals slots left =
     ap (λ (r : Reading). answer r (drop n piece ++ rest) closed) stands ∙ next_reply decimals slots left in
-    ap (λ (fs : List Finding). reply values place ∷ fs) (behind ∙ ap (first_of (length more) decimals slots) next ∙ first-next (length more) decimals slots left)
+    ap (λ (fs : List Finding). reply values place ∷ fs) (later ∙ ap (first_of (length more) decimals slots) next ∙ first-next (length more) decimals slots left)
     ∙ ap (λ (r : Reply). reply_then r (replies_of (length more) decimals slots)) (sym (tells.1 rest closed))
-found-by (fed.Malformed f place) old after piece rest values closed decimals slots more d s tells behind =
+found-by (fed.Malformed f place) old after piece rest values closed decimals slots more d s tells later =
     ap (λ (r : Reply). reply_then r (replies_of 0 decimals slots)) (sym (tells.0 rest closed))
 
 -- all of them
@@ -42,8 +42,8 @@ found-all [] r bytes closed decimals slots d s feeds = refl
 found-all (call ∷ calls) r bytes closed decimals slots d s feeds =
     let rest = feeds.0 in
     let is = feeds.1 in
-    let behind = found-all calls call.after (left_of call.piece call.fed rest) closed decimals slots (is.decimals ∙ d) (is.slots ∙ s) feeds.3 in
-    found-by call.fed r call.after call.piece rest call.values closed decimals slots (findings_of calls) d s is.tells behind
+    let later = found-all calls call.after (left_of call.piece call.fed rest) closed decimals slots (is.decimals ∙ d) (is.slots ∙ s) feeds.3 in
+    found-by call.fed r call.after call.piece rest call.values closed decimals slots (findings_of calls) d s is.tells later
     ∙ ap (λ (bs : List ℕ). first_of (length (findings_of (call ∷ calls))) decimals slots (answer r bs closed)) (sym feeds.2)
 
 pub cuts_change_nothing : CutsChangeNothing

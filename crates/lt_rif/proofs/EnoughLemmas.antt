@@ -20,8 +20,8 @@ use Rattle.lt_rif.specs.declared.end.Who.{Who}
 use Rattle.lt_rif.specs.declared.end.Who.TheVariants as who
 use Rattle.lt_rif.specs.declared.fault.ValueFault.{ValueFault}
 use Rattle.lt_rif.specs.declared.fault.ValueFault.TheVariants as fault
-use Rattle.lt_rif.specs.inner.Spaced.{before_space, behind_space}
-use Rattle.lt_rif.proofs.TraceLemmas.{behind-append, step_lays_out}
+use Rattle.lt_rif.specs.inner.Spaced.{before_space, after_space}
+use Rattle.lt_rif.proofs.TraceLemmas.{after-append, step_lays_out}
 
 -- ---- the header
 
@@ -95,43 +95,43 @@ before-length decimals (k ∷ kinds) (v ∷ values) few sized =
     let text = value_text decimals k v in
     omega (arith, bool-length decimals k v few sized.0, length-append (text ++ codes " ") (before_space (value_words decimals kinds values)), length-append text (codes " "))
 
-behind-length : (decimals : ℕ) (kinds : List Kind) (values : List Value) → decimals ≤ 6 → AreSized values → length (behind_space (value_words decimals kinds values)) ≤ 32 * length (value_words decimals kinds values)
-behind-length decimals [] values few sized = omega arith
-behind-length decimals (k ∷ kinds) [] few sized = omega arith
-behind-length decimals (k ∷ kinds) (v ∷ values) few sized =
-    let rest = behind-length decimals kinds values few sized.1 in
+after-length : (decimals : ℕ) (kinds : List Kind) (values : List Value) → decimals ≤ 6 → AreSized values → length (after_space (value_words decimals kinds values)) ≤ 32 * length (value_words decimals kinds values)
+after-length decimals [] values few sized = omega arith
+after-length decimals (k ∷ kinds) [] few sized = omega arith
+after-length decimals (k ∷ kinds) (v ∷ values) few sized =
+    let rest = after-length decimals kinds values few sized.1 in
     let text = value_text decimals k v in
-    omega (arith, bool-length decimals k v few sized.0, length-append (codes " " ++ text) (behind_space (value_words decimals kinds values)), length-append (codes " ") text)
+    omega (arith, bool-length decimals k v few sized.0, length-append (codes " " ++ text) (after_space (value_words decimals kinds values)), length-append (codes " ") text)
 
 words-few : (decimals : ℕ) (kinds : List Kind) (values : List Value) → (length (value_words decimals kinds values) ≤ length kinds) × (length (value_words decimals kinds values) ≤ length values)
 words-few decimals [] values = (omega arith, omega arith)
 words-few decimals (k ∷ kinds) [] = (omega arith, omega arith)
 words-few decimals (k ∷ kinds) (v ∷ values) = let rest = words-few decimals kinds values in (omega (arith, rest.0), omega (arith, rest.1))
 
-locals-behind-length : (decimals : ℕ) (kinds : List Kind) (locals : List (Option Value)) → decimals ≤ 6 → AreLocalsSized locals → length (behind_space (local_words decimals kinds locals)) ≤ 32 * length kinds
-locals-behind-length decimals [] locals few sized = omega arith
-locals-behind-length decimals (k ∷ kinds) [] few sized = omega arith
-locals-behind-length decimals (k ∷ kinds) (None ∷ locals) few sized =
-    let rest = locals-behind-length decimals kinds locals few sized in
-    omega (arith, length-append (codes " " ++ codes "?") (behind_space (local_words decimals kinds locals)))
-locals-behind-length decimals (k ∷ kinds) (Some v ∷ locals) few sized =
-    let rest = locals-behind-length decimals kinds locals few sized.1 in
+locals-after-length : (decimals : ℕ) (kinds : List Kind) (locals : List (Option Value)) → decimals ≤ 6 → AreLocalsSized locals → length (after_space (local_words decimals kinds locals)) ≤ 32 * length kinds
+locals-after-length decimals [] locals few sized = omega arith
+locals-after-length decimals (k ∷ kinds) [] few sized = omega arith
+locals-after-length decimals (k ∷ kinds) (None ∷ locals) few sized =
+    let rest = locals-after-length decimals kinds locals few sized in
+    omega (arith, length-append (codes " " ++ codes "?") (after_space (local_words decimals kinds locals)))
+locals-after-length decimals (k ∷ kinds) (Some v ∷ locals) few sized =
+    let rest = locals-after-length decimals kinds locals few sized.1 in
     let text = value_text decimals k v in
-    omega (arith, bool-length decimals k v few sized.0, length-append (codes " " ++ text) (behind_space (local_words decimals kinds locals)), length-append (codes " ") text)
+    omega (arith, bool-length decimals k v few sized.0, length-append (codes " " ++ text) (after_space (local_words decimals kinds locals)), length-append (codes " ") text)
 
-part-length : (decimals : ℕ) (kinds : List Kind) (locals : Option (List (Option Value))) → decimals ≤ 6 → AreLocalsSized (unwrap_or locals []) → length (behind_space (locals_part decimals kinds locals)) ≤ 6 + 32 * length kinds
+part-length : (decimals : ℕ) (kinds : List Kind) (locals : Option (List (Option Value))) → decimals ≤ 6 → AreLocalsSized (unwrap_or locals []) → length (after_space (locals_part decimals kinds locals)) ≤ 6 + 32 * length kinds
 part-length decimals kinds None few sized = omega arith
 part-length decimals kinds (Some locals) few sized =
-    let rest = locals-behind-length decimals kinds locals few sized in
-    omega (arith, length-append (codes " " ++ codes "#locs") (behind_space (local_words decimals kinds locals)))
+    let rest = locals-after-length decimals kinds locals few sized in
+    omega (arith, length-append (codes " " ++ codes "#locs") (after_space (local_words decimals kinds locals)))
 
-spaced-length : (words : List (List ℕ)) → length (spaced words) ≤ length (behind_space words)
+spaced-length : (words : List (List ℕ)) → length (spaced words) ≤ length (after_space words)
 spaced-length [] = omega arith
-spaced-length (w ∷ ws) = omega (arith, length-append w (behind_space ws), length-append (codes " " ++ w) (behind_space ws), length-append (codes " ") w)
+spaced-length (w ∷ ws) = omega (arith, length-append w (after_space ws), length-append (codes " " ++ w) (after_space ws), length-append (codes " ") w)
 
 line-fits : LineFits
 line-fits decimals kinds values few sized =
-    omega (arith, behind-length decimals kinds values few sized, (words-few decimals kinds values).1, spaced-length (value_words decimals kinds values), length-append (spaced (value_words decimals kinds values)) (10 ∷ []))
+    omega (arith, after-length decimals kinds values few sized, (words-few decimals kinds values).1, spaced-length (value_words decimals kinds values), length-append (spaced (value_words decimals kinds values)) (10 ∷ []))
 
 -- ---- the end line
 
@@ -156,16 +156,16 @@ refusal-length fault.OutOfRange = omega arith
 refusal-length fault.TooLong = omega arith
 
 -- one word, two, and three
-one-word : (a : List ℕ) → length (behind_space (a ∷ [])) ≡ 1 + length a
+one-word : (a : List ℕ) → length (after_space (a ∷ [])) ≡ 1 + length a
 one-word a = length-append (codes " " ++ a) [] ∙ let e = length-append (codes " ") a in omega arith
 
-two-words : (a b : List ℕ) → length (behind_space (a ∷ b ∷ [])) ≡ 2 + length a + length b
-two-words a b = length-append (codes " " ++ a) (behind_space (b ∷ [])) ∙ let e = length-append (codes " ") a in let rest = one-word b in omega arith
+two-words : (a b : List ℕ) → length (after_space (a ∷ b ∷ [])) ≡ 2 + length a + length b
+two-words a b = length-append (codes " " ++ a) (after_space (b ∷ [])) ∙ let e = length-append (codes " ") a in let rest = one-word b in omega arith
 
-three-words : (a b c : List ℕ) → length (behind_space (a ∷ b ∷ c ∷ [])) ≡ 3 + length a + length b + length c
-three-words a b c = length-append (codes " " ++ a) (behind_space (b ∷ c ∷ [])) ∙ let e = length-append (codes " ") a in let rest = two-words b c in omega arith
+three-words : (a b c : List ℕ) → length (after_space (a ∷ b ∷ c ∷ [])) ≡ 3 + length a + length b + length c
+three-words a b c = length-append (codes " " ++ a) (after_space (b ∷ c ∷ [])) ∙ let e = length-append (codes " ") a in let rest = two-words b c in omega arith
 
-end-length : (e : End) (names : List (List ℕ)) → IsEndSized e → length (behind_space (end_words e names)) ≤ 64 + sum_by (λ name. length name) names
+end-length : (e : End) (names : List (List ℕ)) → IsEndSized e → length (after_space (end_words e names)) ≤ 64 + sum_by (λ name. length name) names
 end-length end.Normal names sized = omega arith
 end-length end.Limit names sized = omega arith
 end-length end.Oracle names sized = omega arith
@@ -183,11 +183,11 @@ step-fits decimals step number kinds outputs inputs locals e names few small tin
     let first = line (codes "#step " ++ decimal step) in
     let values = line (spaced (step_words decimals kinds outputs inputs locals)) in
     let before = before_space (value_words decimals kinds outputs) in
-    let behind = behind_space (value_words decimals (drop (length outputs) kinds) inputs) in
-    let part = behind_space (locals_part decimals (drop (length outputs + length inputs) kinds) locals) in
+    let after = after_space (value_words decimals (drop (length outputs) kinds) inputs) in
+    let part = after_space (locals_part decimals (drop (length outputs + length inputs) kinds) locals) in
     let words = end_words e names in
     let last = decimal number in
-    let layout : length values ≡ length (before ++ codes "#outs" ++ behind ++ part ++ 10 ∷ []) = ap (λ (text : List ℕ). length text) (step_lays_out decimals kinds outputs inputs locals) in
+    let layout : length values ≡ length (before ++ codes "#outs" ++ after ++ part ++ 10 ∷ []) = ap (λ (text : List ℕ). length text) (step_lays_out decimals kinds outputs inputs locals) in
     let one : length first ≤ 27 = omega (arith, number-length step small, length-append (codes "#step " ++ decimal step) (10 ∷ []), length-append (codes "#step ") (decimal step)) in
     let two : length values ≤ 12 + 32 * length kinds =
     omega (
@@ -196,21 +196,21 @@ step-fits decimals step number kinds outputs inputs locals e names few small tin
       before-length decimals kinds outputs few outputs_sized,
       (words-few decimals kinds outputs).0,
       (words-few decimals kinds outputs).1,
-      behind-length decimals (drop (length outputs) kinds) inputs few inputs_sized,
+      after-length decimals (drop (length outputs) kinds) inputs few inputs_sized,
       (words-few decimals (drop (length outputs) kinds) inputs).0,
       (words-few decimals (drop (length outputs) kinds) inputs).1,
       length-drop (length outputs) kinds,
       length-drop (length outputs + length inputs) kinds,
       part-length decimals (drop (length outputs + length inputs) kinds) locals few locals_sized,
-      length-append (before ++ codes "#outs" ++ behind ++ part) (10 ∷ []),
-      length-append (before ++ codes "#outs" ++ behind) part,
-      length-append (before ++ codes "#outs") behind,
+      length-append (before ++ codes "#outs" ++ after ++ part) (10 ∷ []),
+      length-append (before ++ codes "#outs" ++ after) part,
+      length-append (before ++ codes "#outs") after,
       length-append before (codes "#outs"),
     ) in
-    let all : behind_space (words ++ last ∷ []) ≡ behind_space words ++ behind_space (last ∷ []) = behind-append words (last ∷ []) in
-    let count : length (behind_space (words ++ last ∷ [])) ≤ 85 + sum_by (λ name. length name) names =
-    omega (arith, ap (λ (text : List ℕ). length text) all, end-length e names end_sized, one-word last, number-length number tiny, length-append (behind_space words) (behind_space (last ∷ []))) in
-    omega (arith, one, two, count, length-append first values, length-append (codes "#end" ++ behind_space (words ++ last ∷ [])) (10 ∷ []), length-append (codes "#end") (behind_space (words ++ last ∷ [])))
+    let all : after_space (words ++ last ∷ []) ≡ after_space words ++ after_space (last ∷ []) = after-append words (last ∷ []) in
+    let count : length (after_space (words ++ last ∷ [])) ≤ 85 + sum_by (λ name. length name) names =
+    omega (arith, ap (λ (text : List ℕ). length text) all, end-length e names end_sized, one-word last, number-length number tiny, length-append (after_space words) (after_space (last ∷ []))) in
+    omega (arith, one, two, count, length-append first values, length-append (codes "#end" ++ after_space (words ++ last ∷ [])) (10 ∷ []), length-append (codes "#end") (after_space (words ++ last ∷ [])))
 
 pub room_is_enough : RoomIsEnough
 room_is_enough = (header-fits, line-fits, step-fits)

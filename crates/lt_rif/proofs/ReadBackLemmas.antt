@@ -18,7 +18,7 @@ use Rattle.lt_rif.specs.Trace.{DeclaredVariable, declared_text, header_text, kin
 use Rattle.lt_rif.specs.Word.{is_blank, class_of}
 use Rattle.lt_rif.specs.declared.slot.Slot.{Slot}
 use Rattle.lt_rif.specs.declared.word.WordClass.TheVariants as class
-use Rattle.lt_rif.specs.inner.Spaced.{before_space, behind_space}
+use Rattle.lt_rif.specs.inner.Spaced.{before_space, after_space}
 use Rattle.lt_rif.proofs.ReadingLemmas.{neither}
 use Rattle.lt_rif.proofs.SpellingLemmas.{either, spelling_is_read}
 use Rattle.lt_rif.proofs.TraceLemmas.{step_lays_out}
@@ -49,7 +49,7 @@ head-text : (words : List (List ℕ)) → fields_text (head_fields words) ≡ be
 head-text [] = refl
 head-text (w ∷ words) = ap (λ (t : List ℕ). (w ++ codes " ") ++ t) (head-text words)
 
-tail-text : (w : List ℕ) (words : List (List ℕ)) (last : ℕ) (rest : List ℕ) → behind_space (w ∷ words) ++ last ∷ rest ≡ 32 ∷ (fields_text (tail_fields (w ∷ words) last) ++ rest)
+tail-text : (w : List ℕ) (words : List (List ℕ)) (last : ℕ) (rest : List ℕ) → after_space (w ∷ words) ++ last ∷ rest ≡ 32 ∷ (fields_text (tail_fields (w ∷ words) last) ++ rest)
 tail-text w [] last rest =
     ap (λ (t : List ℕ). 32 ∷ t)
     (ap (λ (t : List ℕ). t ++ last ∷ rest) (append-nil w)
@@ -58,7 +58,7 @@ tail-text w [] last rest =
 tail-text w (v ∷ words) last rest =
     let fields = fields_text (tail_fields (v ∷ words) last) in
     ap (λ (t : List ℕ). 32 ∷ t)
-    (append_assoc w (behind_space (v ∷ words)) (last ∷ rest)
+    (append_assoc w (after_space (v ∷ words)) (last ∷ rest)
     ∙ ap (λ (t : List ℕ). w ++ t) (tail-text v words last rest)
     ∙ sym (append_assoc w (32 ∷ []) (fields ++ rest))
     ∙ sym (append_assoc (w ++ 32 ∷ []) fields rest))
@@ -70,11 +70,11 @@ gap-append (x ∷ xs) ys = ap (λ (t : List ℕ). filler_text x ++ t) (gap-appen
 gap-fields : (gap : List Filler) (fields : List Field) → 0 < length fields → fields_text (with_gap gap fields) ≡ gap_text gap ++ fields_text fields
 gap-fields gap [] some = absurd (omega arith)
 gap-fields gap (f ∷ fields) some =
-    let behind = f.blank ∷ [] in
-    ap (λ (t : List ℕ). ((t ++ f.word) ++ behind) ++ fields_text fields) (gap-append gap f.gap)
-    ∙ ap (λ (t : List ℕ). (t ++ behind) ++ fields_text fields) (append_assoc (gap_text gap) (gap_text f.gap) f.word)
-    ∙ ap (λ (t : List ℕ). t ++ fields_text fields) (append_assoc (gap_text gap) (gap_text f.gap ++ f.word) behind)
-    ∙ append_assoc (gap_text gap) ((gap_text f.gap ++ f.word) ++ behind) (fields_text fields)
+    let after = f.blank ∷ [] in
+    ap (λ (t : List ℕ). ((t ++ f.word) ++ after) ++ fields_text fields) (gap-append gap f.gap)
+    ∙ ap (λ (t : List ℕ). (t ++ after) ++ fields_text fields) (append_assoc (gap_text gap) (gap_text f.gap) f.word)
+    ∙ ap (λ (t : List ℕ). t ++ fields_text fields) (append_assoc (gap_text gap) (gap_text f.gap ++ f.word) after)
+    ∙ append_assoc (gap_text gap) ((gap_text f.gap ++ f.word) ++ after) (fields_text fields)
 
 fields-append : (xs ys : List Field) → fields_text (xs ++ ys) ≡ fields_text xs ++ fields_text ys
 fields-append [] ys = refl
@@ -93,11 +93,11 @@ writes-gap decimals (slot ∷ slots) gap (f ∷ fields) (v ∷ values) are write
     (record { gap = fillers-append gap f.gap are is.gap; word = is.word; class = is.class; blank = is.blank }, writes.1, writes.2)
 writes-gap decimals slots gap fields values are writes = absurd writes
 
-writes-append : (decimals : ℕ) (first : List Slot) (slots : List Slot) (front fields : List Field) (start values : List Value) → Writes decimals first front start → Writes decimals slots fields values
-    → Writes decimals (first ++ slots) (front ++ fields) (start ++ values)
+writes-append : (decimals : ℕ) (first : List Slot) (slots : List Slot) (prefix fields : List Field) (start values : List Value) → Writes decimals first prefix start → Writes decimals slots fields values
+    → Writes decimals (first ++ slots) (prefix ++ fields) (start ++ values)
 writes-append decimals [] slots [] fields [] values h k = k
-writes-append decimals (s ∷ first) slots (f ∷ front) fields (v ∷ start) values h k = (h.0, h.1, writes-append decimals first slots front fields start values h.2 k)
-writes-append decimals first slots front fields start values h k = absurd h
+writes-append decimals (s ∷ first) slots (f ∷ prefix) fields (v ∷ start) values h k = (h.0, h.1, writes-append decimals first slots prefix fields start values h.2 k)
+writes-append decimals first slots prefix fields start values h k = absurd h
 
 writes-head : (decimals : ℕ) (slots : List Slot) (values : List Value) → decimals ≤ 6 → HoldAll slots values → Writes decimals slots (head_fields (value_words decimals (kinds_of slots) values)) values
 writes-head decimals [] [] few holds = tt
@@ -121,18 +121,18 @@ writes-tail decimals last (slot ∷ next ∷ slots) (v ∷ []) few is holds = ab
 
 -- ---- kinds
 
-words-front : (decimals : ℕ) (slots : List Slot) (values : List Value) (more : List Kind) → HoldAll slots values → value_words decimals (kinds_of slots ++ more) values ≡ value_words decimals (kinds_of slots) values
-words-front decimals [] [] [] holds = refl
-words-front decimals [] [] (k ∷ more) holds = refl
-words-front decimals (slot ∷ slots) (v ∷ values) more holds = ap (λ (ws : List (List ℕ)). value_text decimals slot.kind v ∷ ws) (words-front decimals slots values more holds.1)
-words-front decimals [] (v ∷ values) more holds = absurd holds
-words-front decimals (slot ∷ slots) [] more holds = absurd holds
+words-prefix : (decimals : ℕ) (slots : List Slot) (values : List Value) (more : List Kind) → HoldAll slots values → value_words decimals (kinds_of slots ++ more) values ≡ value_words decimals (kinds_of slots) values
+words-prefix decimals [] [] [] holds = refl
+words-prefix decimals [] [] (k ∷ more) holds = refl
+words-prefix decimals (slot ∷ slots) (v ∷ values) more holds = ap (λ (ws : List (List ℕ)). value_text decimals slot.kind v ∷ ws) (words-prefix decimals slots values more holds.1)
+words-prefix decimals [] (v ∷ values) more holds = absurd holds
+words-prefix decimals (slot ∷ slots) [] more holds = absurd holds
 
-kinds-behind : (slots : List Slot) (values : List Value) (more : List Kind) → HoldAll slots values → drop (length values) (kinds_of slots ++ more) ≡ more
-kinds-behind [] [] more holds = refl
-kinds-behind (slot ∷ slots) (v ∷ values) more holds = kinds-behind slots values more holds.1
-kinds-behind [] (v ∷ values) more holds = absurd holds
-kinds-behind (slot ∷ slots) [] more holds = absurd holds
+kinds-after : (slots : List Slot) (values : List Value) (more : List Kind) → HoldAll slots values → drop (length values) (kinds_of slots ++ more) ≡ more
+kinds-after [] [] more holds = refl
+kinds-after (slot ∷ slots) (v ∷ values) more holds = kinds-after slots values more holds.1
+kinds-after [] (v ∷ values) more holds = absurd holds
+kinds-after (slot ∷ slots) [] more holds = absurd holds
 
 kept-append : (first slots : List Slot) (start values : List Value) → HoldAll first start → kept (first ++ slots) (start ++ values) ≡ kept first start ++ kept slots values
 kept-append [] slots [] values holds = refl
@@ -181,22 +181,22 @@ value-none decimals k (value.Bool true) sized = refl
 value-none decimals k (value.Bool false) sized = refl
 value-none decimals k (value.Num raw) sized = text-none _ raw sized
 
-locals-none : (decimals : ℕ) (kinds : List Kind) (locals : List (Option Value)) → AreLocalsSized locals → list_any (λ b. b == 10) (behind_space (local_words decimals kinds locals)) ≡ false
+locals-none : (decimals : ℕ) (kinds : List Kind) (locals : List (Option Value)) → AreLocalsSized locals → list_any (λ b. b == 10) (after_space (local_words decimals kinds locals)) ≡ false
 locals-none decimals [] locals sized = refl
 locals-none decimals (k ∷ kinds) [] sized = refl
 locals-none decimals (k ∷ kinds) (None ∷ locals) sized = locals-none decimals kinds locals sized
 locals-none decimals (k ∷ kinds) (Some v ∷ locals) sized =
-    none-append (codes " " ++ value_text decimals k v) (behind_space (local_words decimals kinds locals)) (value-none decimals k v sized.0) (locals-none decimals kinds locals sized.1)
+    none-append (codes " " ++ value_text decimals k v) (after_space (local_words decimals kinds locals)) (value-none decimals k v sized.0) (locals-none decimals kinds locals sized.1)
 
 -- a first word, and what stands after a space
-word-then : (w : List ℕ) (words : List (List ℕ)) → list_any is_blank w ≡ false → before_first is_blank (w ++ behind_space words) ≡ w
+word-then : (w : List ℕ) (words : List (List ℕ)) → list_any is_blank w ≡ false → before_first is_blank (w ++ after_space words) ≡ w
 word-then w [] none = ap (before_first is_blank) (append-nil w) ∙ (part-none is_blank w none).0
 word-then w (v ∷ words) none =
-    ap (λ (t : List ℕ). before_first is_blank (w ++ t)) (append_assoc (codes " ") v (behind_space words))
-    ∙ (part-at is_blank w 32 (v ++ behind_space words) none refl).0
+    ap (λ (t : List ℕ). before_first is_blank (w ++ t)) (append_assoc (codes " ") v (after_space words))
+    ∙ (part-at is_blank w 32 (v ++ after_space words) none refl).0
 
 -- the part of the locals, as a comment
-locals-comment : (decimals : ℕ) (kinds : List Kind) (locals : List (Option Value)) → AreLocalsSized locals → IsFiller (comment (codes "#locs" ++ behind_space (local_words decimals kinds locals)))
+locals-comment : (decimals : ℕ) (kinds : List Kind) (locals : List (Option Value)) → AreLocalsSized locals → IsFiller (comment (codes "#locs" ++ after_space (local_words decimals kinds locals)))
 unfolding class_of
 locals-comment decimals kinds locals sized =
     (ap class_of (word-then (codes "#locs") (local_words decimals kinds locals) refl), locals-none decimals kinds locals sized)
@@ -207,12 +207,12 @@ pub record Tail (decimals : ℕ) (kinds : List Kind) (locals : Option (List (Opt
   pub parts : List Filler
   pub is_blank_byte : is_blank blank ≡ true
   pub are : AreFillers parts
-  pub text : behind_space (locals_part decimals kinds locals) ++ 10 ∷ [] ≡ blank ∷ gap_text parts
+  pub text : after_space (locals_part decimals kinds locals) ++ 10 ∷ [] ≡ blank ∷ gap_text parts
 
 tail-of : (decimals : ℕ) (kinds : List Kind) (locals : Option (List (Option Value))) → AreLocalsSized (unwrap_or locals []) → Tail decimals kinds locals
 tail-of decimals kinds None sized = record { blank = 10; parts = []; is_blank_byte = refl; are = tt; text = refl }
 tail-of decimals kinds (Some locals) sized =
-    let text = codes "#locs" ++ behind_space (local_words decimals kinds locals) in
+    let text = codes "#locs" ++ after_space (local_words decimals kinds locals) in
     record {
       blank = 32;
       parts = comment text ∷ [];
@@ -232,22 +232,22 @@ gap-some gap (f ∷ fields) some = omega arith
 
 -- the text of a step, with inputs ..
 step-inputs : (first words : List (List ℕ)) (w part begins : List ℕ) (blank : ℕ) (rest : List ℕ) (gap : List Filler) → part ++ 10 ∷ [] ≡ blank ∷ rest → begins ≡ gap_text gap
-    → begins ++ (before_space first ++ codes "#outs" ++ behind_space (w ∷ words) ++ part ++ 10 ∷ [])
+    → begins ++ (before_space first ++ codes "#outs" ++ after_space (w ∷ words) ++ part ++ 10 ∷ [])
     ≡ fields_text (with_gap gap (head_fields first ++ with_gap (outs 32 ∷ []) (tail_fields (w ∷ words) blank))) ++ rest
 step-inputs first words w part begins blank rest gap ends begin =
     let before = before_space first in
     let mark = codes "#outs" in
     let mark_space = gap_text (outs 32 ∷ []) in
-    let behind = behind_space (w ∷ words) in
+    let after = after_space (w ∷ words) in
     let tail = tail_fields (w ∷ words) blank in
     let text = fields_text tail in
     let marked = with_gap (outs 32 ∷ []) tail in
     let all = head_fields first ++ marked in
     let some : 0 < length all = omega (arith, length-append (head_fields first) marked, gap-some (outs 32 ∷ []) tail (tail-some w words blank)) in
-    let left : before ++ mark ++ behind ++ part ++ 10 ∷ [] ≡ before ++ (mark_space ++ (text ++ rest)) =
-    append_assoc (before ++ mark ++ behind) part (10 ∷ [])
-    ∙ ap (λ (t : List ℕ). (before ++ mark ++ behind) ++ t) ends
-    ∙ append_assoc (before ++ mark) behind (blank ∷ rest)
+    let left : before ++ mark ++ after ++ part ++ 10 ∷ [] ≡ before ++ (mark_space ++ (text ++ rest)) =
+    append_assoc (before ++ mark ++ after) part (10 ∷ [])
+    ∙ ap (λ (t : List ℕ). (before ++ mark ++ after) ++ t) ends
+    ∙ append_assoc (before ++ mark) after (blank ∷ rest)
     ∙ ap (λ (t : List ℕ). (before ++ mark) ++ t) (tail-text w words blank rest)
     ∙ append_assoc before mark (32 ∷ (text ++ rest)) in
     let right : fields_text (with_gap gap all) ≡ gap_text gap ++ (before ++ (mark_space ++ text)) =
@@ -256,7 +256,7 @@ step-inputs first words w part begins blank rest gap ends begin =
     (fields-append (head_fields first) marked
     ∙ ap (λ (t : List ℕ). t ++ fields_text marked) (head-text first)
     ∙ ap (λ (t : List ℕ). before ++ t) (gap-fields (outs 32 ∷ []) tail (tail-some w words blank))) in
-    ap (λ (t : List ℕ). t ++ (before ++ mark ++ behind ++ part ++ 10 ∷ [])) begin
+    ap (λ (t : List ℕ). t ++ (before ++ mark ++ after ++ part ++ 10 ∷ [])) begin
     ∙ ap (λ (t : List ℕ). gap_text gap ++ t) left
     ∙ sym (ap (λ (t : List ℕ). t ++ rest) right
     ∙ append_assoc (gap_text gap) (before ++ (mark_space ++ text)) rest
@@ -281,27 +281,27 @@ step-outputs w words part begins gap begin =
     ∙ sym (ap (λ (t : List ℕ). t ++ (mark ++ (part ++ 10 ∷ []))) right ∙ append_assoc (gap_text gap) before (mark ++ (part ++ 10 ∷ [])))
 
 -- what is read of a step
-record StepRead (decimals place : ℕ) (slots : List Slot) (values : List Value) (front text rest : List ℕ) (closed : Bool) : Type 0 where
+record StepRead (decimals place : ℕ) (slots : List Slot) (values : List Value) (prefix text rest : List ℕ) (closed : Bool) : Type 0 where
   count : ℕ
-  behind : List Filler
-  are : AreFillers behind
-  short : length (gap_text behind) ≤ length text
-  is_read : reply_of decimals slots (record { place = place; bytes = (front ++ text) ++ rest; is_closed = closed }) ≡ whole values (record { place = place + count; bytes = gap_text behind ++ rest; is_closed = closed })
+  after : List Filler
+  are : AreFillers after
+  short : length (gap_text after) ≤ length text
+  is_read : reply_of decimals slots (record { place = place; bytes = (prefix ++ text) ++ rest; is_closed = closed }) ≡ whole values (record { place = place + count; bytes = gap_text after ++ rest; is_closed = closed })
 
 -- a text that begins with fields, of which the first has more before it
-read-from : (decimals place : ℕ) (slots : List Slot) (values : List Value) (gap : List Filler) (fields : List Field) (front text rest : List ℕ) (behind : List Filler) (closed : Bool)
-    → Writes decimals slots (with_gap gap fields) values → 0 < length fields → front ++ text ≡ fields_text (with_gap gap fields) ++ gap_text behind → length front ≤ length (gap_text gap) → AreFillers behind → length (front ++ text) ≤ longest
-    → StepRead decimals place slots (kept slots values) front text rest closed
-read-from decimals place slots values gap fields front text rest behind closed writes some is before are short =
+read-from : (decimals place : ℕ) (slots : List Slot) (values : List Value) (gap : List Filler) (fields : List Field) (prefix text rest : List ℕ) (after : List Filler) (closed : Bool)
+    → Writes decimals slots (with_gap gap fields) values → 0 < length fields → prefix ++ text ≡ fields_text (with_gap gap fields) ++ gap_text after → length prefix ≤ length (gap_text gap) → AreFillers after → length (prefix ++ text) ≤ longest
+    → StepRead decimals place slots (kept slots values) prefix text rest closed
+read-from decimals place slots values gap fields prefix text rest after closed writes some is before are short =
     let read = fields_text (with_gap gap fields) in
-    let left = gap_text behind in
-    let count : length (front ++ text) ≡ length read + length left = ap (λ (t : List ℕ). length t) is ∙ length-append read left in
+    let left = gap_text after in
+    let count : length (prefix ++ text) ≡ length read + length left = ap (λ (t : List ℕ). length t) is ∙ length-append read left in
     let long : length read ≡ length (gap_text gap) + length (fields_text fields) = ap (λ (t : List ℕ). length t) (gap-fields gap fields some) ∙ length-append (gap_text gap) (fields_text fields) in
     record {
       count = length read;
-      behind = behind;
+      after = after;
       are = are;
-      short = omega (arith, length-append front text);
+      short = omega (arith, length-append prefix text);
       is_read =
           ap (λ (bs : List ℕ). reply_of decimals slots (record { place = place; bytes = bs; is_closed = closed })) (ap (λ (t : List ℕ). t ++ rest) is ∙ append_assoc read left rest)
           ∙ spelling_is_read decimals place slots (with_gap gap fields) values (left ++ rest) closed writes (omega arith);
@@ -311,7 +311,7 @@ read-from decimals place slots values gap fields front text rest behind closed w
 words-read : (decimals step place : ℕ) (outputs_slots inputs_slots : List Slot) (outputs inputs : List Value) (kinds : List Kind) (locals : Option (List (Option Value))) (before : List Filler) (rest : List ℕ) (closed : Bool)
     → decimals ≤ 6 → step < 2 ^ 64 → HoldAll outputs_slots outputs → HoldAll inputs_slots inputs → AreLocalsSized (unwrap_or locals []) → AreFillers before → 0 < length (outputs_slots ++ inputs_slots) → (text : List ℕ)
     → text ≡ line (codes "#step " ++ decimal step)
-    ++ (before_space (value_words decimals (kinds_of outputs_slots) outputs) ++ codes "#outs" ++ behind_space (value_words decimals (kinds_of inputs_slots) inputs) ++ behind_space (locals_part decimals kinds locals) ++ 10 ∷ [])
+    ++ (before_space (value_words decimals (kinds_of outputs_slots) outputs) ++ codes "#outs" ++ after_space (value_words decimals (kinds_of inputs_slots) inputs) ++ after_space (locals_part decimals kinds locals) ++ 10 ∷ [])
     → length (gap_text before ++ text) ≤ longest → StepRead decimals place (outputs_slots ++ inputs_slots) (kept (outputs_slots ++ inputs_slots) (outputs ++ inputs)) (gap_text before) text rest closed
 words-read decimals step place outputs_slots (slot ∷ slots) outputs (v ∷ values) kinds locals before rest closed few small outputs_hold inputs_hold sized are some text is short =
     let first = value_words decimals (kinds_of outputs_slots) outputs in
@@ -323,15 +323,15 @@ words-read decimals step place outputs_slots (slot ∷ slots) outputs (v ∷ val
     let gap = before ++ start in
     let marked = with_gap (outs 32 ∷ []) (tail_fields (w ∷ words) tail.blank) in
     let fields = head_fields first ++ marked in
-    let behind = before_space first ++ codes "#outs" ++ behind_space (w ∷ words) ++ behind_space (locals_part decimals kinds locals) ++ 10 ∷ [] in
-    let front : gap_text before ++ begins ≡ gap_text gap = sym (gap-append before start ∙ ap (λ (t : List ℕ). gap_text before ++ t) (append-nil begins)) in
+    let after = before_space first ++ codes "#outs" ++ after_space (w ∷ words) ++ after_space (locals_part decimals kinds locals) ++ 10 ∷ [] in
+    let prefix : gap_text before ++ begins ≡ gap_text gap = sym (gap-append before start ∙ ap (λ (t : List ℕ). gap_text before ++ t) (append-nil begins)) in
     read-from decimals place (outputs_slots ++ slot ∷ slots) (outputs ++ v ∷ values) gap fields (gap_text before) text rest tail.parts closed
     (writes-gap decimals (outputs_slots ++ slot ∷ slots) gap fields (outputs ++ v ∷ values) (fillers-append before start are (step-comment step small, tt))
     (writes-append decimals outputs_slots (slot ∷ slots) (head_fields first) marked outputs (v ∷ values) (writes-head decimals outputs_slots outputs few outputs_hold)
     (writes-gap decimals (slot ∷ slots) (outs 32 ∷ []) (tail_fields (w ∷ words) tail.blank) (v ∷ values) (refl, tt) (writes-tail decimals tail.blank (slot ∷ slots) (v ∷ values) few tail.is_blank_byte inputs_hold))))
     (omega (arith, length-append (head_fields first) marked, gap-some (outs 32 ∷ []) (tail_fields (w ∷ words) tail.blank) (tail-some w words tail.blank)))
-    (ap (λ (t : List ℕ). gap_text before ++ t) is ∙ sym (append_assoc (gap_text before) begins behind) ∙ step-inputs first words w (behind_space (locals_part decimals kinds locals)) (gap_text before ++ begins) tail.blank (gap_text tail.parts) gap tail.text front)
-    (omega (arith, ap (λ (t : List ℕ). length t) front, length-append (gap_text before) begins)) tail.are short
+    (ap (λ (t : List ℕ). gap_text before ++ t) is ∙ sym (append_assoc (gap_text before) begins after) ∙ step-inputs first words w (after_space (locals_part decimals kinds locals)) (gap_text before ++ begins) tail.blank (gap_text tail.parts) gap tail.text prefix)
+    (omega (arith, ap (λ (t : List ℕ). length t) prefix, length-append (gap_text before) begins)) tail.are short
 words-read decimals step place (slot ∷ slots) [] (v ∷ values) [] kinds locals before rest closed few small outputs_hold inputs_hold sized are some text is short =
     let words = value_words decimals (kinds_of slots) values in
     let w = value_text decimals slot.kind v in
@@ -339,18 +339,18 @@ words-read decimals step place (slot ∷ slots) [] (v ∷ values) [] kinds local
     let begins = line (codes "#step " ++ decimal step) in
     let start = comment (codes "#step " ++ decimal step) ∷ [] in
     let gap = before ++ start in
-    let part = behind_space (locals_part decimals kinds locals) in
+    let part = after_space (locals_part decimals kinds locals) in
     let fields = head_fields (w ∷ words) ++ [] in
-    let behind = before_space (w ∷ words) ++ codes "#outs" ++ [] ++ part ++ 10 ∷ [] in
-    let front : gap_text before ++ begins ≡ gap_text gap = sym (gap-append before start ∙ ap (λ (t : List ℕ). gap_text before ++ t) (append-nil begins)) in
+    let after = before_space (w ∷ words) ++ codes "#outs" ++ [] ++ part ++ 10 ∷ [] in
+    let prefix : gap_text before ++ begins ≡ gap_text gap = sym (gap-append before start ∙ ap (λ (t : List ℕ). gap_text before ++ t) (append-nil begins)) in
     let left : codes "#outs" ++ (part ++ 10 ∷ []) ≡ gap_text (outs tail.blank ∷ tail.parts) = ap (λ (t : List ℕ). codes "#outs" ++ t) tail.text in
     read-from decimals place ((slot ∷ slots) ++ []) ((v ∷ values) ++ []) gap fields (gap_text before) text rest (outs tail.blank ∷ tail.parts) closed
     (writes-gap decimals ((slot ∷ slots) ++ []) gap fields ((v ∷ values) ++ []) (fillers-append before start are (step-comment step small, tt))
     (writes-append decimals (slot ∷ slots) [] (head_fields (w ∷ words)) [] (v ∷ values) [] (writes-head decimals (slot ∷ slots) (v ∷ values) few outputs_hold) tt))
     (omega arith)
-    (ap (λ (t : List ℕ). gap_text before ++ t) is ∙ sym (append_assoc (gap_text before) begins behind) ∙ step-outputs w words part (gap_text before ++ begins) gap front
+    (ap (λ (t : List ℕ). gap_text before ++ t) is ∙ sym (append_assoc (gap_text before) begins after) ∙ step-outputs w words part (gap_text before ++ begins) gap prefix
     ∙ ap (λ (t : List ℕ). fields_text (with_gap gap fields) ++ t) left)
-    (omega (arith, ap (λ (t : List ℕ). length t) front, length-append (gap_text before) begins)) (tail.is_blank_byte, tail.are) short
+    (omega (arith, ap (λ (t : List ℕ). length t) prefix, length-append (gap_text before) begins)) (tail.is_blank_byte, tail.are) short
 words-read decimals step place [] [] outputs [] kinds locals before rest closed few small outputs_hold inputs_hold sized are some text is short = absurd (omega arith)
 words-read decimals step place (slot ∷ slots) [] [] [] kinds locals before rest closed few small outputs_hold inputs_hold sized are some text is short = absurd outputs_hold
 words-read decimals step place outputs_slots [] outputs (v ∷ values) kinds locals before rest closed few small outputs_hold inputs_hold sized are some text is short = absurd inputs_hold
@@ -369,21 +369,21 @@ step-read decimals place outputs_slots inputs_slots step kinds before rest close
     let local_kinds = drop (length outputs + length inputs) all in
     let split : all ≡ kinds_of outputs_slots ++ (kinds_of inputs_slots ++ kinds) = append_assoc (kinds_of outputs_slots) (kinds_of inputs_slots) kinds in
     let first : value_words decimals all outputs ≡ value_words decimals (kinds_of outputs_slots) outputs =
-    ap (λ (ks : List Kind). value_words decimals ks outputs) split ∙ words-front decimals outputs_slots outputs (kinds_of inputs_slots ++ kinds) is.outputs in
+    ap (λ (ks : List Kind). value_words decimals ks outputs) split ∙ words-prefix decimals outputs_slots outputs (kinds_of inputs_slots ++ kinds) is.outputs in
     let second : value_words decimals (drop (length outputs) all) inputs ≡ value_words decimals (kinds_of inputs_slots) inputs =
     ap (λ (ks : List Kind). value_words decimals (drop (length outputs) ks) inputs) split
-    ∙ ap (λ (ks : List Kind). value_words decimals ks inputs) (kinds-behind outputs_slots outputs (kinds_of inputs_slots ++ kinds) is.outputs)
-    ∙ words-front decimals inputs_slots inputs kinds is.inputs in
-    let layout : text ≡ begins ++ (before_space (value_words decimals (kinds_of outputs_slots) outputs) ++ codes "#outs" ++ behind_space (value_words decimals (kinds_of inputs_slots) inputs) ++ behind_space (locals_part decimals local_kinds step.locals) ++ 10 ∷ []) =
+    ∙ ap (λ (ks : List Kind). value_words decimals ks inputs) (kinds-after outputs_slots outputs (kinds_of inputs_slots ++ kinds) is.outputs)
+    ∙ words-prefix decimals inputs_slots inputs kinds is.inputs in
+    let layout : text ≡ begins ++ (before_space (value_words decimals (kinds_of outputs_slots) outputs) ++ codes "#outs" ++ after_space (value_words decimals (kinds_of inputs_slots) inputs) ++ after_space (locals_part decimals local_kinds step.locals) ++ 10 ∷ []) =
     ap (λ (t : List ℕ). begins ++ t) (step_lays_out decimals all outputs inputs step.locals)
-    ∙ (λ i. begins ++ (before_space (first i) ++ codes "#outs" ++ behind_space (second i) ++ behind_space (locals_part decimals local_kinds step.locals) ++ 10 ∷ [])) in
+    ∙ (λ i. begins ++ (before_space (first i) ++ codes "#outs" ++ after_space (second i) ++ after_space (locals_part decimals local_kinds step.locals) ++ 10 ∷ [])) in
     words-read decimals step.number place outputs_slots inputs_slots outputs inputs local_kinds step.locals before rest closed few is.number is.outputs is.inputs is.locals are some text layout short
 
 pub step_reads_back : StepReadsBack
 step_reads_back decimals place outputs_slots inputs_slots step kinds before rest closed few some is are short =
     let read = step-read decimals place outputs_slots inputs_slots step kinds before rest closed few some is are short in
-    let left : Stream = record { place = place + read.count; bytes = gap_text read.behind ++ rest; is_closed = closed } in
-    (read.count, read.behind, read.are, read.short, read.is_read ∙ ap (λ (vs : List Value). whole vs left) (kept-append outputs_slots inputs_slots step.outputs step.inputs is.outputs))
+    let left : Stream = record { place = place + read.count; bytes = gap_text read.after ++ rest; is_closed = closed } in
+    (read.count, read.after, read.are, read.short, read.is_read ∙ ap (λ (vs : List Value). whole vs left) (kept-append outputs_slots inputs_slots step.outputs step.inputs is.outputs))
 
 -- ---- steps, one after another
 
@@ -399,7 +399,7 @@ steps-read decimals outputs_slots inputs_slots kinds (step ∷ steps) place befo
     let more = flat_map (text_of_step decimals outputs_slots inputs_slots kinds) steps in
     let tiny = steps_are.1 in
     let read = step-read decimals place outputs_slots inputs_slots step kinds before (more ++ rest) closed few some steps_are.0 are (omega (arith, length-append (gap_text before) text)) in
-    let left : Stream = record { place = place + read.count; bytes = gap_text read.behind ++ (more ++ rest); is_closed = closed } in
+    let left : Stream = record { place = place + read.count; bytes = gap_text read.after ++ (more ++ rest); is_closed = closed } in
     let bytes : gap_text before ++ ((text ++ more) ++ rest) ≡ (gap_text before ++ text) ++ (more ++ rest) =
     ap (λ (t : List ℕ). gap_text before ++ t) (append_assoc text more rest) ∙ sym (append_assoc (gap_text before) text (more ++ rest)) in
     let is : reply_of decimals slots (record { place = place; bytes = gap_text before ++ ((text ++ more) ++ rest); is_closed = closed }) ≡ whole (kept slots (step.outputs ++ step.inputs)) left =
@@ -407,7 +407,7 @@ steps-read decimals outputs_slots inputs_slots kinds (step ∷ steps) place befo
     let read_short = read.short in
     subst (λ (r : Reply). HaveValues (reply_then r (replies_of (length steps) decimals slots)) (map (values_of_step outputs_slots inputs_slots) (step ∷ steps))) (sym is) (
       kept-append outputs_slots inputs_slots step.outputs step.inputs (steps_are.0).outputs,
-      steps-read decimals outputs_slots inputs_slots kinds steps (place + read.count) read.behind rest closed few some steps_are.2 read.are (omega arith),
+      steps-read decimals outputs_slots inputs_slots kinds steps (place + read.count) read.after rest closed few some steps_are.2 read.are (omega arith),
     )
 
 -- ---- the header

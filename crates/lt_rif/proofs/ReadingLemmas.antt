@@ -31,7 +31,7 @@ full_in closed r text (b ∷ bs) full =
     (λ e. rw (lt-ltb longest (r.taken + length text + 1) (omega arith)) refl)
     (λ e. full_in closed r (text ++ b ∷ []) bs (omega (arith, length-append text (b ∷ []))))
 
--- with as many bytes as may be taken, a reader finds that its reply is too long
+-- the same of a reader
 full_found : (slots : List Slot) (r : Begun) (text bytes : List ℕ) (closed : Bool) → 0 < length slots → longest ≤ r.taken + length text
     → found slots None r text bytes closed ≡ malformed fault.TooLong r.place
 full_found [] r text bytes closed some full = absurd (omega arith)
@@ -141,12 +141,12 @@ unfolding answer
 blank_more d new b r values some blank small e room is =
     let text : new.word.items ≡ [] = effect_text (after_word (begun d) d.word.items (b == 10)) d new e in
     let slots : new.slots ≡ d.slots = effect_slots (after_word (begun d) d.word.items (b == 10)) d new e in
-    let behind : (bytes : List ℕ) (closed : Bool) → found d.slots.items None (begun new) [] bytes closed ≡ found r.slots r.refusal r.begun r.text bytes closed =
+    let after : (bytes : List ℕ) (closed : Bool) → found d.slots.items None (begun new) [] bytes closed ≡ found r.slots r.refusal r.begun r.text bytes closed =
     λ bytes closed. sym (same_found r (record { slots = d.slots.items; begun = begun new; text = []; refusal = None }) bytes closed (is ∙ (cc))) in (
       λ bytes closed. blank_found d.slots.items (begun d) d.word.items bytes b closed some small blank
           ∙ effect_more (after_word (begun d) d.word.items (b == 10)) d new _ _ e
-          ∙ behind bytes closed,
-      sym (behind [] false) ∙ needs_found d.slots.items (begun new) [] some (omega arith),
+          ∙ after bytes closed,
+      sym (after [] false) ∙ needs_found d.slots.items (begun new) [] some (omega arith),
     )
 
 -- a blank after which the reply is too long
@@ -235,8 +235,8 @@ none_closing d old new values none was empty is =
     rw was (none_found d.slots.items (begun d) d.word.items [] true none ∙ cc, is ∙ cc)
 
 -- a chunk at a place of a piece, and what stands after it
-pub chunk_front : (piece : List ℕ) (used m : ℕ) → drop used piece ≡ take (used + m - used) (drop used piece) ++ drop (used + m) piece
-chunk_front piece used m =
+pub chunk_prefix : (piece : List ℕ) (used m : ℕ) → drop used piece ≡ take (used + m - used) (drop used piece) ++ drop (used + m) piece
+chunk_prefix piece used m =
     let count : used + m - used ≡ m = omega arith in
     rw (count, ← drop-drop m used piece) (sym (take-append-drop m (drop used piece)))
 
@@ -251,11 +251,11 @@ pub whole_fed : (d : Draft) (old mid new : Reading) (piece : List ℕ) (used : �
     → drop used piece ≡ chunk ++ drop (used + m) piece → old.slots ≡ d.slots.items → old.begun.decimals ≡ d.decimals → mid ≡ open_at d → n ≡ length chunk
     → FedTells (open_at d) chunk (fed.Whole n) new values
     → FedTells old piece (fed.Whole (used + m)) new values
-whole_fed d old mid new piece used chunk m n values within same front slots decimals is all told =
+whole_fed d old mid new piece used chunk m n values within same prefix slots decimals is all told =
     let t : FedTells (open_at d) chunk (fed.Whole (length chunk)) new values = subst (λ (k : ℕ). FedTells (open_at d) chunk (fed.Whole k) new values) all told in (
       within,
       λ bytes closed. same bytes closed
-          ∙ ap (λ (xs : List ℕ). answer mid (xs ++ bytes) closed) front
+          ∙ ap (λ (xs : List ℕ). answer mid (xs ++ bytes) closed) prefix
           ∙ ap (λ (r : Reading). answer r ((chunk ++ drop (used + m) piece) ++ bytes) closed) is
           ∙ ap (λ (xs : List ℕ). answer (open_at d) xs closed) (append_assoc chunk (drop (used + m) piece) bytes)
           ∙ t.1 (drop (used + m) piece ++ bytes) closed
@@ -269,9 +269,9 @@ pub malformed_fed : (d : Draft) (old mid new : Reading) (piece : List ℕ) (used
     → drop used piece ≡ chunk ++ drop (used + m) piece → mid ≡ open_at d
     → FedTells (open_at d) chunk (fed.Malformed f place) new values
     → FedTells old piece (fed.Malformed f place) new values
-malformed_fed d old mid new piece used chunk m f place values same front is told = (
+malformed_fed d old mid new piece used chunk m f place values same prefix is told = (
   λ bytes closed. same bytes closed
-      ∙ ap (λ (xs : List ℕ). answer mid (xs ++ bytes) closed) front
+      ∙ ap (λ (xs : List ℕ). answer mid (xs ++ bytes) closed) prefix
       ∙ ap (λ (r : Reading). answer r ((chunk ++ drop (used + m) piece) ++ bytes) closed) is
       ∙ ap (λ (xs : List ℕ). answer (open_at d) xs closed) (append_assoc chunk (drop (used + m) piece) bytes)
       ∙ told.0 (drop (used + m) piece ++ bytes) closed,
@@ -279,14 +279,14 @@ malformed_fed d old mid new piece used chunk m f place values same front is told
 )
 
 -- what a chunk leaves of a piece
-pub same_behind : (d : Draft) (old mid new : Reading) (piece : List ℕ) (used : ℕ) (chunk : List ℕ) (m : ℕ) (values : List Value)
+pub same_after : (d : Draft) (old mid new : Reading) (piece : List ℕ) (used : ℕ) (chunk : List ℕ) (m : ℕ) (values : List Value)
     → ((bytes : List ℕ) (closed : Bool) → answer old (piece ++ bytes) closed ≡ answer mid (drop used piece ++ bytes) closed)
     → drop used piece ≡ chunk ++ drop (used + m) piece → mid ≡ open_at d
     → FedTells (open_at d) chunk fed.More new values
     → (bytes : List ℕ) (closed : Bool) → answer old (piece ++ bytes) closed ≡ answer new (drop (used + m) piece ++ bytes) closed
-same_behind d old mid new piece used chunk m values same front is told bytes closed =
+same_after d old mid new piece used chunk m values same prefix is told bytes closed =
     same bytes closed
-    ∙ ap (λ (xs : List ℕ). answer mid (xs ++ bytes) closed) front
+    ∙ ap (λ (xs : List ℕ). answer mid (xs ++ bytes) closed) prefix
     ∙ ap (λ (r : Reading). answer r ((chunk ++ drop (used + m) piece) ++ bytes) closed) is
     ∙ ap (λ (xs : List ℕ). answer (open_at d) xs closed) (append_assoc chunk (drop (used + m) piece) bytes)
     ∙ told.0 (drop (used + m) piece ++ bytes) closed
@@ -325,7 +325,7 @@ unfolding answer
 refused_at_end d old new f values some small seen was is =
     (rw (was, end_found d.slots.items (begun d) d.word.items some small, seen) refl, λ bytes closed. refused_answer new (record { fault = f; place = d.place + d.taken }) bytes closed is)
 
--- slots are left after a value
+-- slots are left behind a value
 left_stop : (r : Begun) (text : List ℕ) (left : List Slot) (values : List Value) (taken : ℕ) (s : Stream) → 0 < length left → stop (filled r text left values) taken s ≡ short taken
 left_stop r text [] values taken s some = absurd (omega arith)
 left_stop r text (slot ∷ left) values taken s some = refl

@@ -13,7 +13,7 @@ use Rattle.lt_rif.specs.Judgement.{bounded_raw}
 use Rattle.lt_rif.specs.Number.{is_digits, is_exponent, is_mark, number_of, whole_part, decimal_part, exponent_part, places_right, places_left, real_numerator, real_written}
 use Rattle.lt_rif.specs.declared.fault.ValueFault.TheVariants as fault
 use Rattle.lt_rif.specs.declared.number.Scaled.{Scaled}
-use Rattle.lt_rif.specs.inner.Decimal.{behind_mark, digits_written, rounded_quotient, IsMove, IsScaled}
+use Rattle.lt_rif.specs.inner.Decimal.{after_mark, digits_written, rounded_quotient, IsMove, IsScaled}
 use Rattle.lt_rif.proofs.NumberLemmas.{position-none, ten-positive, ten-rising}
 
 -- ---- digits
@@ -73,21 +73,21 @@ moves-of number (Some i) right left e h = record {
   left_few = h.4;
 }
 
-pub moves-behind : (number : List ℕ) (exponent : Option (List ℕ)) (right left : ℕ) → exponent ≡ behind_mark number → IsMove exponent (Some (right, left)) → Moves number right left
-moves-behind number exponent right left e h = moves-of number (position is_mark number) right left refl (subst (λ (x : Option (List ℕ)). IsMove x (Some (right, left))) e h)
+pub moves-after : (number : List ℕ) (exponent : Option (List ℕ)) (right left : ℕ) → exponent ≡ after_mark number → IsMove exponent (Some (right, left)) → Moves number right left
+moves-after number exponent right left e h = moves-of number (position is_mark number) right left refl (subst (λ (x : Option (List ℕ)). IsMove x (Some (right, left))) e h)
 
 -- ---- the parts
 
-pub scaled-parts : (number whole decimals : List ℕ) (exponent : Option (List ℕ)) (before behind right left : ℕ)
-    → whole ≡ whole_part number → decimals ≡ decimal_part number → exponent ≡ behind_mark number
-    → Some before ≡ digits_written 0 18 whole → Some behind ≡ digits_written 0 18 decimals → 1 ≤ length whole + length decimals
-    → before < 10 ^ length whole → behind < 10 ^ length decimals
+pub scaled-parts : (number whole decimals : List ℕ) (exponent : Option (List ℕ)) (before after right left : ℕ)
+    → whole ≡ whole_part number → decimals ≡ decimal_part number → exponent ≡ after_mark number
+    → Some before ≡ digits_written 0 18 whole → Some after ≡ digits_written 0 18 decimals → 1 ≤ length whole + length decimals
+    → before < 10 ^ length whole → after < 10 ^ length decimals
     → IsMove exponent (Some (right, left))
-    → IsScaled number (Some (record { size = before * 10 ^ length decimals + behind; right = right; left = length decimals + left }))
-scaled-parts number whole decimals exponent before behind right left w d e b h some small tiny moves =
+    → IsScaled number (Some (record { size = before * 10 ^ length decimals + after; right = right; left = length decimals + left }))
+scaled-parts number whole decimals exponent before after right left w d e b h some small tiny moves =
     let first = digits-some 0 18 whole before b in
-    let second = digits-some 0 18 decimals behind h in
-    let move = moves-behind number exponent right left e moves in
+    let second = digits-some 0 18 decimals after h in
+    let move = moves-after number exponent right left e moves in
     let few = digits-few 0 18 whole first.0 in
     let less = digits-few 0 18 decimals second.0 in
     let whole_most = ten-rising (length whole) 18 few in
@@ -117,11 +117,11 @@ nearest-signed true (suc n) d some = refl
 -- what a real's word writes
 pub real-is : (decimals : ℕ) (word number : List ℕ) (negative : Bool) (scaled : Scaled) → negative ≡ starts_with_minus word → number ≡ without_leading_sign word → IsScaled number (Some scaled)
     → real_written decimals word ≡ Some (with_sign negative (rounded_quotient (scaled.size * 10 ^ (scaled.right + decimals)) (10 ^ scaled.left)))
-real-is decimals word number negative scaled minus behind is =
+real-is decimals word number negative scaled minus after is =
     let power = pow-add 10 scaled.right decimals in
     let numerator : real_numerator number * 10 ^ decimals ≡ scaled.size * 10 ^ (scaled.right + decimals) = rw (is.1, power) (omega arith) in
     let denominator = is.2 in
-    rw (← behind, ← minus, is.0, numerator, denominator) (ap (λ (z : ℤ). Some z) (nearest-signed negative (scaled.size * 10 ^ (scaled.right + decimals)) (10 ^ scaled.left) (ten-positive scaled.left)))
+    rw (← after, ← minus, is.0, numerator, denominator) (ap (λ (z : ℤ). Some z) (nearest-signed negative (scaled.size * 10 ^ (scaled.right + decimals)) (10 ^ scaled.left) (ten-positive scaled.left)))
 
 size-signed : (negative : Bool) (n : ℕ) → unsigned_abs (with_sign negative n) ≡ n
 size-signed false n = refl

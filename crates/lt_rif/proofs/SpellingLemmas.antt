@@ -29,62 +29,62 @@ pub either : {P : Type 0} (b : Bool) → (b ≡ true → P) → (b ≡ false →
 either true first second = first refl
 either false first second = second refl
 
--- the front of a text up to its first blank
-front-blank : (b : ℕ) (text : List ℕ) → is_blank b ≡ true → before_first is_blank (b ∷ text) ≡ []
-front-blank b text e = grind (arith, common_steps)
+-- the prefix of a text up to its first blank
+prefix-blank : (b : ℕ) (text : List ℕ) → is_blank b ≡ true → before_first is_blank (b ∷ text) ≡ []
+prefix-blank b text e = grind (arith, common_steps)
 
-front-other : (b : ℕ) (text : List ℕ) → is_blank b ≡ false → before_first is_blank (b ∷ text) ≡ b ∷ before_first is_blank text
-front-other b text e = grind (arith, common_steps)
+prefix-other : (b : ℕ) (text : List ℕ) → is_blank b ≡ false → before_first is_blank (b ∷ text) ≡ b ∷ before_first is_blank text
+prefix-other b text e = grind (arith, common_steps)
 
 -- ---- comments
 
 -- within a comment, up to the end of its line
-comment-rest : (closed : Bool) (decimals : ℕ) (slots : List Slot) (values : List Value) (place : ℕ) (text : List ℕ) (taken : ℕ) (front bytes : List ℕ)
-    → list_any (λ b. b == 10) text ≡ false → taken + length front + length text + 1 ≤ longest
-    → reply_in closed (at decimals slots values place true taken) (words_of front (text ++ 10 ∷ bytes))
-    ≡ reply_in closed (at decimals slots values place false (taken + length front + length text + 1)) (words_of [] bytes)
-comment-rest closed decimals slots values place [] taken front bytes none short =
-    word-on closed (at decimals slots values place true taken) front 10 bytes refl (omega arith)
-    ∙ ap (λ (n : ℕ). reply_in closed (at decimals slots values place false n) (words_of [] bytes)) {x = taken + length front + 1} {y = taken + length front + 0 + 1} (omega arith)
-comment-rest closed decimals slots values place (b ∷ text) taken front bytes none short =
+comment-rest : (closed : Bool) (decimals : ℕ) (slots : List Slot) (values : List Value) (place : ℕ) (text : List ℕ) (taken : ℕ) (prefix bytes : List ℕ)
+    → list_any (λ b. b == 10) text ≡ false → taken + length prefix + length text + 1 ≤ longest
+    → reply_in closed (at decimals slots values place true taken) (words_of prefix (text ++ 10 ∷ bytes))
+    ≡ reply_in closed (at decimals slots values place false (taken + length prefix + length text + 1)) (words_of [] bytes)
+comment-rest closed decimals slots values place [] taken prefix bytes none short =
+    word-on closed (at decimals slots values place true taken) prefix 10 bytes refl (omega arith)
+    ∙ ap (λ (n : ℕ). reply_in closed (at decimals slots values place false n) (words_of [] bytes)) {x = taken + length prefix + 1} {y = taken + length prefix + 0 + 1} (omega arith)
+comment-rest closed decimals slots values place (b ∷ text) taken prefix bytes none short =
     let split = neither (b == 10) (list_any (λ c. c == 10) text) none in
     either (is_blank b)
     (λ e.
-    word-on closed (at decimals slots values place true taken) front b (text ++ 10 ∷ bytes) e (omega arith)
-    ∙ ap (λ (x : Bool). reply_in closed (at decimals slots values place (not x) (taken + length front + 1)) (words_of [] (text ++ 10 ∷ bytes))) split.0
-    ∙ comment-rest closed decimals slots values place text (taken + length front + 1) [] bytes split.1 (omega arith)
-    ∙ ap (λ (n : ℕ). reply_in closed (at decimals slots values place false n) (words_of [] bytes)) {x = taken + length front + 1 + 0 + length text + 1} {y = taken + length front + length (b ∷ text) + 1} (omega arith))
+    word-on closed (at decimals slots values place true taken) prefix b (text ++ 10 ∷ bytes) e (omega arith)
+    ∙ ap (λ (x : Bool). reply_in closed (at decimals slots values place (not x) (taken + length prefix + 1)) (words_of [] (text ++ 10 ∷ bytes))) split.0
+    ∙ comment-rest closed decimals slots values place text (taken + length prefix + 1) [] bytes split.1 (omega arith)
+    ∙ ap (λ (n : ℕ). reply_in closed (at decimals slots values place false n) (words_of [] bytes)) {x = taken + length prefix + 1 + 0 + length text + 1} {y = taken + length prefix + length (b ∷ text) + 1} (omega arith))
     (λ e.
-    let longer = length-append front (b ∷ []) in
-    rw e (comment-rest closed decimals slots values place text taken (front ++ b ∷ []) bytes split.1 (omega arith))
-    ∙ ap (λ (n : ℕ). reply_in closed (at decimals slots values place false n) (words_of [] bytes)) {x = taken + length (front ++ b ∷ []) + length text + 1} {y = taken + length front + length (b ∷ text) + 1} (omega arith))
+    let longer = length-append prefix (b ∷ []) in
+    rw e (comment-rest closed decimals slots values place text taken (prefix ++ b ∷ []) bytes split.1 (omega arith))
+    ∙ ap (λ (n : ℕ). reply_in closed (at decimals slots values place false n) (words_of [] bytes)) {x = taken + length (prefix ++ b ∷ []) + length text + 1} {y = taken + length prefix + length (b ∷ text) + 1} (omega arith))
 
 -- its first word, and what stands after that
-comment-first : (closed : Bool) (decimals : ℕ) (slots : List Slot) (values : List Value) (place : ℕ) (text : List ℕ) (taken : ℕ) (front bytes : List ℕ)
-    → class_of (front ++ before_first is_blank text) ≡ class.Comment → list_any (λ b. b == 10) text ≡ false → taken + length front + length text + 1 ≤ longest
-    → reply_in closed (at decimals slots values place false taken) (words_of front (text ++ 10 ∷ bytes))
-    ≡ reply_in closed (at decimals slots values place false (taken + length front + length text + 1)) (words_of [] bytes)
-comment-first closed decimals slots values place [] taken front bytes means none short =
-    let whole_word : class_of front ≡ class.Comment = ap class_of (sym (append-nil front)) ∙ means in
-    word-on closed (at decimals slots values place false taken) front 10 bytes refl (omega arith)
-    ∙ ap (λ (m : WordClass). go_on (with_class (at decimals slots values place false taken) front true m) (record { place = place + taken + length front + 1; bytes = bytes; is_closed = closed }) (λ q. reply_in closed q (words_of [] bytes))) whole_word
-    ∙ ap (λ (n : ℕ). reply_in closed (at decimals slots values place false n) (words_of [] bytes)) {x = taken + length front + 1} {y = taken + length front + 0 + 1} (omega arith)
-comment-first closed decimals slots values place (b ∷ text) taken front bytes means none short =
+comment-first : (closed : Bool) (decimals : ℕ) (slots : List Slot) (values : List Value) (place : ℕ) (text : List ℕ) (taken : ℕ) (prefix bytes : List ℕ)
+    → class_of (prefix ++ before_first is_blank text) ≡ class.Comment → list_any (λ b. b == 10) text ≡ false → taken + length prefix + length text + 1 ≤ longest
+    → reply_in closed (at decimals slots values place false taken) (words_of prefix (text ++ 10 ∷ bytes))
+    ≡ reply_in closed (at decimals slots values place false (taken + length prefix + length text + 1)) (words_of [] bytes)
+comment-first closed decimals slots values place [] taken prefix bytes means none short =
+    let whole_word : class_of prefix ≡ class.Comment = ap class_of (sym (append-nil prefix)) ∙ means in
+    word-on closed (at decimals slots values place false taken) prefix 10 bytes refl (omega arith)
+    ∙ ap (λ (m : WordClass). go_on (with_class (at decimals slots values place false taken) prefix true m) (record { place = place + taken + length prefix + 1; bytes = bytes; is_closed = closed }) (λ q. reply_in closed q (words_of [] bytes))) whole_word
+    ∙ ap (λ (n : ℕ). reply_in closed (at decimals slots values place false n) (words_of [] bytes)) {x = taken + length prefix + 1} {y = taken + length prefix + 0 + 1} (omega arith)
+comment-first closed decimals slots values place (b ∷ text) taken prefix bytes means none short =
     let split = neither (b == 10) (list_any (λ c. c == 10) text) none in
     either (is_blank b)
     (λ e.
-    let whole_word : class_of front ≡ class.Comment = ap class_of (sym (append-nil front) ∙ ap (λ (t : List ℕ). front ++ t) (sym (front-blank b text e))) ∙ means in
-    word-on closed (at decimals slots values place false taken) front b (text ++ 10 ∷ bytes) e (omega arith)
-    ∙ ap (λ (m : WordClass). go_on (with_class (at decimals slots values place false taken) front (b == 10) m) (record { place = place + taken + length front + 1; bytes = text ++ 10 ∷ bytes; is_closed = closed }) (λ q. reply_in closed q (words_of [] (text ++ 10 ∷ bytes)))) whole_word
-    ∙ ap (λ (x : Bool). reply_in closed (at decimals slots values place (not x) (taken + length front + 1)) (words_of [] (text ++ 10 ∷ bytes))) split.0
-    ∙ comment-rest closed decimals slots values place text (taken + length front + 1) [] bytes split.1 (omega arith)
-    ∙ ap (λ (n : ℕ). reply_in closed (at decimals slots values place false n) (words_of [] bytes)) {x = taken + length front + 1 + 0 + length text + 1} {y = taken + length front + length (b ∷ text) + 1} (omega arith))
+    let whole_word : class_of prefix ≡ class.Comment = ap class_of (sym (append-nil prefix) ∙ ap (λ (t : List ℕ). prefix ++ t) (sym (prefix-blank b text e))) ∙ means in
+    word-on closed (at decimals slots values place false taken) prefix b (text ++ 10 ∷ bytes) e (omega arith)
+    ∙ ap (λ (m : WordClass). go_on (with_class (at decimals slots values place false taken) prefix (b == 10) m) (record { place = place + taken + length prefix + 1; bytes = text ++ 10 ∷ bytes; is_closed = closed }) (λ q. reply_in closed q (words_of [] (text ++ 10 ∷ bytes)))) whole_word
+    ∙ ap (λ (x : Bool). reply_in closed (at decimals slots values place (not x) (taken + length prefix + 1)) (words_of [] (text ++ 10 ∷ bytes))) split.0
+    ∙ comment-rest closed decimals slots values place text (taken + length prefix + 1) [] bytes split.1 (omega arith)
+    ∙ ap (λ (n : ℕ). reply_in closed (at decimals slots values place false n) (words_of [] bytes)) {x = taken + length prefix + 1 + 0 + length text + 1} {y = taken + length prefix + length (b ∷ text) + 1} (omega arith))
     (λ e.
-    let longer = length-append front (b ∷ []) in
-    let means_still : class_of ((front ++ b ∷ []) ++ before_first is_blank text) ≡ class.Comment =
-    ap class_of (append_assoc front (b ∷ []) (before_first is_blank text) ∙ ap (λ (t : List ℕ). front ++ t) (sym (front-other b text e))) ∙ means in
-    rw e (comment-first closed decimals slots values place text taken (front ++ b ∷ []) bytes means_still split.1 (omega arith))
-    ∙ ap (λ (n : ℕ). reply_in closed (at decimals slots values place false n) (words_of [] bytes)) {x = taken + length (front ++ b ∷ []) + length text + 1} {y = taken + length front + length (b ∷ text) + 1} (omega arith))
+    let longer = length-append prefix (b ∷ []) in
+    let means_still : class_of ((prefix ++ b ∷ []) ++ before_first is_blank text) ≡ class.Comment =
+    ap class_of (append_assoc prefix (b ∷ []) (before_first is_blank text) ∙ ap (λ (t : List ℕ). prefix ++ t) (sym (prefix-other b text e))) ∙ means in
+    rw e (comment-first closed decimals slots values place text taken (prefix ++ b ∷ []) bytes means_still split.1 (omega arith))
+    ∙ ap (λ (n : ℕ). reply_in closed (at decimals slots values place false n) (words_of [] bytes)) {x = taken + length (prefix ++ b ∷ []) + length text + 1} {y = taken + length prefix + length (b ∷ text) + 1} (omega arith))
 
 -- ---- what stands between values
 
@@ -128,15 +128,15 @@ field-read closed decimals slot slots values place taken f v bytes is judges sho
     let before = taken + length gap in
     let longer = length-append (gap ++ f.word) (f.blank ∷ []) in
     let long = length-append gap f.word in
-    let behind : Stream = record { place = place + before + length f.word + 1; bytes = bytes; is_closed = closed } in
+    let after : Stream = record { place = place + before + length f.word + 1; bytes = bytes; is_closed = closed } in
     let start = at decimals (slot ∷ slots) values place false before in
     ap (λ (t : List ℕ). reply_in closed (at decimals (slot ∷ slots) values place false taken) (words_of [] t))
     (append_assoc (gap ++ f.word) (f.blank ∷ []) bytes ∙ append_assoc gap f.word (f.blank ∷ bytes))
     ∙ gap-passed closed decimals (slot ∷ slots) values place f.gap taken (f.word ++ f.blank ∷ bytes) is.gap (omega arith)
     ∙ ap (reply_in closed start) (words_run [] f.word (f.blank ∷ bytes) is.word)
     ∙ word-on closed start f.word f.blank bytes is.blank (omega arith)
-    ∙ ap (λ (m : WordClass). go_on (with_class start f.word (f.blank == 10) m) behind (λ q. reply_in closed q (words_of [] bytes))) is.class
-    ∙ ap (λ (j : Result Value ValueFault). go_on (with_judged start f.word slot slots j) behind (λ q. reply_in closed q (words_of [] bytes))) judges
+    ∙ ap (λ (m : WordClass). go_on (with_class start f.word (f.blank == 10) m) after (λ q. reply_in closed q (words_of [] bytes))) is.class
+    ∙ ap (λ (j : Result Value ValueFault). go_on (with_judged start f.word slot slots j) after (λ q. reply_in closed q (words_of [] bytes))) judges
 
 -- the values that are kept so far, and those that come
 with-kept : (slot : Slot) (values : List Value) (v : Value) (more : List Value) → with_value values slot v ++ more ≡ values ++ (if slot.keep then v ∷ more else more)
@@ -164,9 +164,9 @@ fields-read closed decimals place slot (next ∷ slots) values taken f (g ∷ fi
     let longer = length-append (gap ++ f.word) (f.blank ∷ []) in
     let long = length-append gap f.word in
     let all = length-append (field_text f) (fields_text (g ∷ fields)) in
-    let behind = fields_text (g ∷ fields) ++ rest in
+    let after = fields_text (g ∷ fields) ++ rest in
     ap (λ (t : List ℕ). reply_in closed (at decimals (slot ∷ next ∷ slots) values place false taken) (words_of [] t)) (append_assoc (field_text f) (fields_text (g ∷ fields)) rest)
-    ∙ field-read closed decimals slot (next ∷ slots) values place taken f v behind writes.0 writes.1 (omega arith)
+    ∙ field-read closed decimals slot (next ∷ slots) values place taken f v after writes.0 writes.1 (omega arith)
     ∙ fields-read closed decimals place next slots (with_value values slot v) (taken + length gap + length f.word + 1) g fields w written rest writes.2 (omega arith)
     ∙ (λ i. whole (with-kept slot values v (kept (next ∷ slots) (w ∷ written)) i)
     (record { place = let e : place + (taken + length gap + length f.word + 1) + length (fields_text (g ∷ fields)) ≡ place + taken + length (fields_text (f ∷ g ∷ fields)) = omega arith in e i; bytes = rest; is_closed = closed }))

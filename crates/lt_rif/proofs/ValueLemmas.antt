@@ -26,7 +26,7 @@ use Rattle.lt_rif.specs.Word.{is_blank, class_of}
 use Rattle.lt_rif.specs.declared.number.Scaled.{Scaled}
 use Rattle.lt_rif.specs.declared.slot.Slot.{Slot}
 use Rattle.lt_rif.specs.declared.word.WordClass.TheVariants as class
-use Rattle.lt_rif.specs.inner.Decimal.{behind_mark, rounded_quotient, IsScaled}
+use Rattle.lt_rif.specs.inner.Decimal.{after_mark, rounded_quotient, IsScaled}
 use Rattle.lt_rif.proofs.EnoughLemmas.{length-last_digits}
 use Rattle.lt_rif.proofs.NumberLemmas.{quotient-whole}
 use Rattle.lt_rif.proofs.RealLemmas.{scaled-parts, real-is}
@@ -49,9 +49,9 @@ digits-are least most_of ds all few many = rw (all, le-leb least (length ds) few
 
 -- an int
 int-back : (size : ℕ) (word : List ℕ) (negative : Bool) → size ≤ most_raw → starts_with_minus word ≡ negative → without_leading_sign word ≡ size_text 0 size → int_written word ≡ Some (with_sign negative size)
-int-back size word negative small minus behind =
+int-back size word negative small minus after =
     let one : size / 10 ^ 0 ≡ size = div-one size in
-    let digits_is : without_leading_sign word ≡ decimal size = behind ∙ append-nil (decimal (size / 10 ^ 0)) ∙ ap decimal one in
+    let digits_is : without_leading_sign word ≡ decimal size = after ∙ append-nil (decimal (size / 10 ^ 0)) ∙ ap decimal one in
     let digits = digits_decimal own size (omega arith) in
     let some = decimal_nonempty size (omega arith) in
     let few = length-decimal-le 13 size (omega arith) (omega arith) (omega arith) in
@@ -59,7 +59,7 @@ int-back size word negative small minus behind =
 
 -- a real
 real-back : (k size : ℕ) (word : List ℕ) (negative : Bool) → k ≤ 6 → size ≤ most_raw → starts_with_minus word ≡ negative → without_leading_sign word ≡ size_text k size → real_written k word ≡ Some (with_sign negative size)
-real-back k size word negative few small minus behind =
+real-back k size word negative few small minus after =
     let number = size_text k size in
     let whole = size / 10 ^ k in
     let least = div-le_self size (10 ^ k) in
@@ -70,16 +70,16 @@ real-back k size word negative few small minus behind =
     let some = decimal_nonempty whole fits in
     let short = length-decimal-le 13 whole (omega arith) (omega arith) fits in
     let count = length-last_digits k size in
-    let behind_digits = digits-last_digits k size in
+    let after_digits = digits-last_digits k size in
     let before_is : decimal whole ≡ whole_part number = sym (ap (before_first is_point) mark.0 ∙ text.before) in
-    let behind_is : last_digits k size ≡ decimal_part number = sym (ap (after_first is_point) mark.0 ∙ text.behind) in
-    let no_exponent : None ≡ behind_mark number = sym (ap (option_map (λ _. after_first is_mark number)) mark.2) in
+    let behind_is : last_digits k size ≡ decimal_part number = sym (ap (after_first is_point) mark.0 ∙ text.after) in
+    let no_exponent : None ≡ after_mark number = sym (ap (option_map (λ _. after_first is_mark number)) mark.2) in
     let before_digits : Some (number_of (decimal whole)) ≡ (if is_digits 0 18 (decimal whole) then Some (number_of (decimal whole)) else None) = rw (digits-are 0 18 (decimal whole) digits (omega arith) (omega arith)) refl in
-    let decimals_digits : Some (number_of (last_digits k size)) ≡ (if is_digits 0 18 (last_digits k size) then Some (number_of (last_digits k size)) else None) = rw (digits-are 0 18 (last_digits k size) behind_digits (omega arith) (omega arith)) refl in
+    let decimals_digits : Some (number_of (last_digits k size)) ≡ (if is_digits 0 18 (last_digits k size) then Some (number_of (last_digits k size)) else None) = rw (digits-are 0 18 (last_digits k size) after_digits (omega arith) (omega arith)) refl in
     let scaled : Scaled = record { size = number_of (decimal whole) * 10 ^ length (last_digits k size) + number_of (last_digits k size); right = 0; left = length (last_digits k size) + 0 } in
     let is : IsScaled number (Some scaled) =
     scaled-parts number (decimal whole) (last_digits k size) None (number_of (decimal whole)) (number_of (last_digits k size)) 0 0 before_is behind_is no_exponent before_digits decimals_digits (omega arith)
-    (digits_value_short own (decimal whole) (length (decimal whole)) digits (omega arith)) (digits_value_short own (last_digits k size) (length (last_digits k size)) behind_digits (omega arith)) refl in
+    (digits_value_short own (decimal whole) (length (decimal whole)) digits (omega arith)) (digits_value_short own (last_digits k size) (length (last_digits k size)) after_digits (omega arith)) refl in
     let value = digits_value-decimal own whole fits in
     let last = number-last_digits k size in
     let size_is : scaled.size ≡ size = rw (count, value, last) (div-add-mod' size (10 ^ k)) in
@@ -89,7 +89,7 @@ real-back k size word negative few small minus behind =
     ∙ ap (λ (n : ℕ). rounded_quotient (size * 10 ^ (0 + k)) (10 ^ n)) left_is
     ∙ quotient-whole size (0 + k) (0 + k) (omega arith)
     ∙ (let none : 0 + k - (0 + k) ≡ 0 = omega arith in rw none (omega arith)) in
-    real-is k word number negative scaled (sym minus) (sym behind) is ∙ ap (λ (n : ℕ). Some (with_sign negative n)) quotient
+    real-is k word number negative scaled (sym minus) (sym after) is ∙ ap (λ (n : ℕ). Some (with_sign negative n)) quotient
 
 -- ---- values
 

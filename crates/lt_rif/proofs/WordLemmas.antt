@@ -74,8 +74,8 @@ split-last p n some =
     let q = n / (p * 10) in
     let small = mod_below n (p * 10) (omega arith) in
     let whole = div-add-mod' n (p * 10) in
-    let front : n / 10 ≡ q * p + r / 10 = omega arith in
-    (sym (ap (λ (m : ℕ). m % p) front ∙ mod-mul-add q p (r / 10) (omega arith)), omega arith)
+    let prefix : n / 10 ≡ q * p + r / 10 = omega arith in
+    (sym (ap (λ (m : ℕ). m % p) prefix ∙ mod-mul-add q p (r / 10) (omega arith)), omega arith)
 
 value-last_digits : (v k n : ℕ) → digits_value_after 10 v (last_digits k n) ≡ v * 10 ^ k + n % 10 ^ k
 value-last_digits v zero n = omega arith
@@ -84,7 +84,7 @@ value-last_digits v (suc k) n =
     let some = one-le-pow k 10 (omega arith) in
     let power = pow-suc 10 k in
     let split = split-last p n (omega arith) in
-    let front = split.0 in
+    let prefix = split.0 in
     let last = split.1 in
     let before = value-last_digits v k (n / 10) in
     let digit = value-last n in
@@ -95,7 +95,7 @@ number-last_digits k n = value-last_digits 0 k n ∙ omega arith
 
 -- ---- where a byte is
 
--- one byte more in front
+-- one byte more in prefix
 part-step : (p : ℕ → Bool) (x : ℕ) (ys : List ℕ) → p x ≡ false → (before_first p (x ∷ ys) ≡ x ∷ before_first p ys) × (after_first p (x ∷ ys) ≡ after_first p ys)
 part-step p x ys e = grind (arith, common_steps)
 
@@ -130,7 +130,7 @@ part-none p xs none =
 -- what stands before the point and after it, and that no other byte is in it
 pub record IsText (k size : ℕ) (text : List ℕ) : Type 0 where
   pub before : before_first is_point text ≡ decimal (size / 10 ^ k)
-  pub behind : after_first is_point text ≡ last_digits k size
+  pub after : after_first is_point text ≡ last_digits k size
   pub mark : list_any is_mark text ≡ false
   pub blank : list_any is_blank text ≡ false
   pub begins : (48 ≤ get_or text 0 0) × (get_or text 0 0 ≤ 57)
@@ -142,9 +142,9 @@ without p fails point ds zero n h = rw (append-nil ds) (no-digit p fails ds h)
 without p fails point ds (suc k) n h =
     rw (list_any-append p ds (46 ∷ last_digits (suc k) n), no-digit p fails ds h, point) (no-digit p fails (last_digits (suc k) n) (digits-last_digits (suc k) n))
 
-begins-front : (xs ys : List ℕ) → 0 < length xs → get_or (xs ++ ys) 0 0 ≡ get_or xs 0 0
-begins-front [] ys some = absurd (omega arith)
-begins-front (x ∷ xs) ys some = refl
+begins-prefix : (xs ys : List ℕ) → 0 < length xs → get_or (xs ++ ys) 0 0 ≡ get_or xs 0 0
+begins-prefix [] ys some = absurd (omega arith)
+begins-prefix (x ∷ xs) ys some = refl
 
 begins-digit : (xs : List ℕ) → IsTrue (all_ascii_digits xs) → 0 < length xs → (48 ≤ get_or xs 0 0) × (get_or xs 0 0 ≤ 57)
 begins-digit [] h some = absurd (omega arith)
@@ -165,9 +165,9 @@ size-is k size small =
     let begins = begins-digit (decimal whole) digits nonempty in
     record {
       before = part.0;
-      behind = part.1;
+      after = part.1;
       mark = without is_mark mark-digit refl (decimal whole) k size digits;
       blank = without is_blank blank-digit refl (decimal whole) k size digits;
-      begins = rw (begins-front (decimal whole) (decimals_text k size) nonempty) begins;
+      begins = rw (begins-prefix (decimal whole) (decimals_text k size) nonempty) begins;
       some = omega (arith, length-append (decimal whole) (decimals_text k size));
     }

@@ -33,7 +33,7 @@ left_of piece (fed.Whole n) rest = drop n piece ++ rest
 left_of piece fed.More rest = rest
 left_of piece (fed.Malformed f place) rest = rest
 
--- Calls in turn. The piece of each stands at the front of the bytes that those before it left.
+-- Calls in turn. The piece of each stands at the prefix of the bytes that those before it left.
 abbrev pub Feeds : Reading → List ℕ → List Call → Type 0
 Feeds r bytes [] = Unit {0}
 Feeds r bytes (call ∷ calls) = (rest : List ℕ) × IsCall r call × (bytes ≡ call.piece ++ rest) × Feeds call.after (left_of call.piece call.fed rest) calls

@@ -60,9 +60,9 @@ StepReadsBack =
     decimals ≤ most_decimals → 0 < length (outputs_slots ++ inputs_slots) → IsStep outputs_slots inputs_slots step → AreFillers before →
     (let text = text_of_step decimals outputs_slots inputs_slots kinds step in
     length (gap_text before ++ text) ≤ longest →
-    (count : ℕ) × (behind : List Filler) × AreFillers behind × (length (gap_text behind) ≤ length text)
+    (count : ℕ) × (after : List Filler) × AreFillers after × (length (gap_text after) ≤ length text)
     × (reply_of decimals (outputs_slots ++ inputs_slots) (record { place = place; bytes = (gap_text before ++ text) ++ rest; is_closed = closed })
-    ≡ whole (values_of_step outputs_slots inputs_slots step) (record { place = place + count; bytes = gap_text behind ++ rest; is_closed = closed })))
+    ≡ whole (values_of_step outputs_slots inputs_slots step) (record { place = place + count; bytes = gap_text after ++ rest; is_closed = closed })))
 
 -- ---- whole traces
 

@@ -108,9 +108,9 @@ abbrev pub reply_in : Bool → Begun → Words → Reply
 reply_in closed r (last text) =
     if nat_le longest (r.taken + length text) then malformed fault.TooLong r.place
     else (if closed then stop (after_word r text true) (r.taken + length text) (record { place = r.place + r.taken + length text; bytes = []; is_closed = true }) else needs)
-reply_in closed r (word text blank behind ws) =
+reply_in closed r (word text blank after ws) =
     if nat_lt longest (r.taken + length text + 1) then malformed fault.TooLong r.place
-    else go_on (after_word r text (blank == 10)) (record { place = r.place + r.taken + length text + 1; bytes = behind; is_closed = closed }) (λ r. reply_in closed r ws)
+    else go_on (after_word r text (blank == 10)) (record { place = r.place + r.taken + length text + 1; bytes = after; is_closed = closed }) (λ r. reply_in closed r ws)
 
 -- a reply of which no byte has come
 abbrev pub beginning : ℕ → List Slot → ℕ → Begun

@@ -152,6 +152,18 @@ end_words (end.Ended w taken) names = codes "ended" ∷ who_text w ∷ []
 end_words (end.Device w) names = codes "device" ∷ who_text w ∷ []
 end_words (end.Budget need) names = codes "budget" ∷ decimal need ∷ []
 
+-- the number of the step at hand, where so many steps were put out
+abbrev pub step_at_hand : ℕ → ℕ
+step_at_hand steps = steps + 1
+
+-- the number of the end line of a run that ended so, where so many steps were put out: that of the last step where it is
+-- over, at its limit or judged, and else that of the step at hand
+abbrev pub end_number : End → ℕ → ℕ
+end_number end.Normal steps = steps
+end_number end.Limit steps = steps
+end_number end.Oracle steps = steps
+end_number _ steps = step_at_hand steps
+
 -- the end line, with its number
 abbrev pub end_text : End → List (List ℕ) → ℕ → List ℕ
 end_text e names number = line (spaced (codes "#end" ∷ (end_words e names ++ decimal number ∷ [])))

@@ -14,7 +14,7 @@ pub data Words : Type 0 where
   -- what stands after the last blank
   last : (text : List ℕ) → Words
   -- a word, the blank after it, the bytes after that, and the words of these
-  word : (text : List ℕ) (blank : ℕ) (behind : List ℕ) → Words → Words
+  word : (text : List ℕ) (blank : ℕ) (after : List ℕ) → Words → Words
 
 -- the words of a text without blanks and the bytes after it
 abbrev pub words_of : List ℕ → List ℕ → Words

@@ -32,7 +32,8 @@ pub fn rounded(size: u128, right: u32, left: u32) -> Option<u128>
     requires size { size < 10 ^ 36 }
     requires right { right ≤ 2000 }
     requires left { left ≤ 2000 }
-    ensures { MatchOption result (most_raw < rounded_quotient (size * 10 ^ right) (10 ^ left)) (λ r. r ≡ rounded_quotient (size * 10 ^ right) (10 ^ left)) }
+    ensures { MatchOption result (most_raw < rounded_quotient (size * 10 ^ right) (10 ^ left)) (λ r.
+        r ≡ rounded_quotient (size * 10 ^ right) (10 ^ left)) }
 {
     if right >= left {
         enlarged(size, right - left)

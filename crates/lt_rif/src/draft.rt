@@ -100,7 +100,8 @@ impl Draft {
     pub fn add(&mut self, value: Value, keep: bool)
         requires { self.old.filled < vec_len self.old.slots }
         ensures decimals { self.new.decimals ≡ self.old.decimals }
-        ensures values { self.new.values.items ≡ (if keep then self.old.values.items ++ value ∷ [] else self.old.values.items) }
+        ensures values { self.new.values.items ≡
+            (if keep then self.old.values.items ++ value ∷ [] else self.old.values.items) }
         ensures filled { self.new.filled ≡ self.old.filled + 1 }
         ensures slots { self.new.slots ≡ self.old.slots }
         ensures comment { self.new.is_comment ≡ self.old.is_comment }
@@ -137,7 +138,8 @@ impl Draft {
     /// What the word is, where a blank or the end of the stream stands after it.
     pub fn look(&self, ends_line: bool) -> Look
         requires open { self.now.filled < vec_len self.now.slots }
-        ensures { after_word (begun self.now) self.now.word.items ends_line ≡ looked self.now result }
+        ensures { after_word (begun self.now) self.now.word.items ends_line ≡
+            looked self.now result }
     {
         if self.is_comment {
             return Look::Pass {
@@ -156,7 +158,8 @@ impl Draft {
     // What the word of a value is.
     fn look_at_value(&self) -> Look
         requires open { self.now.filled < vec_len self.now.slots }
-        ensures { with_word (begun self.now) self.now.word.items (begun self.now).slots ≡ looked self.now result }
+        ensures { with_word (begun self.now) self.now.word.items (begun self.now).slots ≡
+            looked self.now result }
     {
         let slot = self.slots[self.filled];
         match judge(slot, &self.word, self.decimals) {
@@ -172,7 +175,8 @@ impl Draft {
     pub fn end_word(&mut self, ends_line: bool) -> Effect
         requires room { self.old.taken + vec_len self.old.word < longest }
         requires open { self.old.filled < vec_len self.old.slots }
-        ensures effect { HasEffect (after_word (begun self.old) self.old.word.items ends_line) self.old result self.new }
+        ensures effect { HasEffect (after_word (begun self.old) self.old.word.items ends_line)
+            self.old result self.new }
         ensures left { result ≡ Effect.More → self.new.filled < vec_len self.new.slots }
         ensures slots { self.new.slots ≡ self.old.slots }
         ensures decimals { self.new.decimals ≡ self.old.decimals }

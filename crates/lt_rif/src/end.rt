@@ -1,5 +1,8 @@
 //! How a run ends.
 
+ghost use Rattle.std.specs.Prelude.{◌≡◌, ◌-◌, ◌<◌, ◌^◌};
+ghost use Rattle.lt_rif.specs.Trace.{end_number, step_at_hand};
+
 use crate::fault::ValueFault;
 use lt_num::Arith;
 
@@ -59,4 +62,33 @@ pub enum End {
     Budget {
         need: u128,
     },
+}
+
+impl End {
+    /// The number of the end line of a run that ended so, of which so many steps were put out: that of the last step where
+    /// the run is over, at its limit or judged, and else that of the step at hand.
+    pub fn number(self, steps: u64) -> u64
+        requires { steps < 2 ^ 64 - 1 }
+        ensures { result ≡ end_number self steps }
+    {
+        match self {
+            End::Normal | End::Limit | End::Oracle => steps,
+            End::Deadlock
+            | End::Raise { .. }
+            | End::Fault(_)
+            | End::TooLarge
+            | End::Malformed { .. }
+            | End::Ended { .. }
+            | End::Device(_)
+            | End::Budget { .. } => step_at_hand(steps),
+        }
+    }
+}
+
+/// The number of the step at hand, where so many steps were put out.
+pub fn step_at_hand(steps: u64) -> u64
+    requires { steps < 2 ^ 64 - 1 }
+    ensures { result ≡ step_at_hand steps }
+{
+    steps + 1
 }

@@ -9,6 +9,7 @@ mod declared;
 mod draft;
 mod end;
 mod end_line;
+mod end_words;
 mod fault;
 mod judgement;
 mod laws;
@@ -22,8 +23,9 @@ mod writing;
 
 pub use declared::Declared;
 pub use draft::LONGEST;
-pub use end::{End, Who};
-pub use end_line::{exception_name, fault_word, refusal_word, who_word, write_end};
+pub use end::{End, Who, step_at_hand};
+pub use end_line::write_end;
+pub use end_words::{EndWords, who_word};
 pub use fault::ValueFault;
 pub use laws::{
     cuts_change_nothing, next_reply_is_at_hand, replies_grow, room_is_enough, spelling_is_read,

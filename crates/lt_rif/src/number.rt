@@ -7,7 +7,7 @@ ghost use Rattle.std.specs.Str.Parse.{starts_with_minus, without_leading_sign};
 ghost use Rattle.lt_num.specs.Rounding.{with_sign};
 ghost use Rattle.lt_num.specs.Bounds.{most_decimals};
 ghost use Rattle.lt_rif.specs.Judgement.{bounded_raw};
-ghost use Rattle.lt_rif.specs.inner.Decimal.{behind_mark, IsMove, IsScaled};
+ghost use Rattle.lt_rif.specs.inner.Decimal.{after_mark, IsMove, IsScaled};
 ghost use Rattle.lt_rif.specs.Number.{is_mark, is_point, raw_written, truth_written, int_written, real_written};
 
 use crate::decimal::{MOST, digits_of, rounded};
@@ -93,11 +93,11 @@ fn scaled_of(number: &[u8]) -> Option<Scaled>
         return None;
     }
     let before = digits_of(whole, 0, MOST_DIGITS)?;
-    let behind = digits_of(decimals, 0, MOST_DIGITS)?;
+    let after = digits_of(decimals, 0, MOST_DIGITS)?;
     let (right, left) = places_of(exponent)?;
     let places = decimals.len() as u32;
     Some(Scaled {
-        size: u128::from(before) * 10u128.pow(places) + u128::from(behind),
+        size: u128::from(before) * 10u128.pow(places) + u128::from(after),
         right,
         left: places + left,
     })
@@ -118,11 +118,11 @@ fn places_of(exponent: Option<&[u8]>) -> Option<(u32, u32)>
 // Whether a minus stands first, and what stands after a sign.
 fn split_sign(word: &[u8]) -> (bool, &[u8])
     ensures minus { result.0 ≡ starts_with_minus word.now }
-    ensures behind { result.1.now ≡ without_leading_sign word.now }
+    ensures after { result.1.now ≡ without_leading_sign word.now }
 {
     match word {
-        [b'-', behind @ ..] => (true, behind),
-        [b'+', behind @ ..] => (false, behind),
+        [b'-', after @ ..] => (true, after),
+        [b'+', after @ ..] => (false, after),
         _ => (false, word),
     }
 }
@@ -130,7 +130,7 @@ fn split_sign(word: &[u8]) -> (bool, &[u8])
 // What stands before the mark of an exponent, and what stands after it, where there is one.
 fn split_at_mark(number: &[u8]) -> (&[u8], Option<&[u8]>)
     ensures before { result.0.now ≡ before_first is_mark number.now }
-    ensures behind { option_copied result.1 ≡ behind_mark number.now }
+    ensures after { option_copied result.1 ≡ after_mark number.now }
 {
     match mark_in(number) {
         Some(mark) => (&number[..mark], Some(&number[mark + 1..])),
@@ -150,7 +150,7 @@ fn mark_in(number: &[u8]) -> Option<usize>
 // What stands before the point, and what stands after it.
 fn split_at_point(mantissa: &[u8]) -> (&[u8], &[u8])
     ensures before { result.0.now ≡ before_first is_point mantissa.now }
-    ensures behind { result.1.now ≡ after_first is_point mantissa.now }
+    ensures after { result.1.now ≡ after_first is_point mantissa.now }
 {
     match point_in(mantissa) {
         Some(point) => (&mantissa[..point], &mantissa[point + 1..]),

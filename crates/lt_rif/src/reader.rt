@@ -59,7 +59,8 @@ pub struct Reader {
     ghost no_bytes: { vec_len draft.slots ≡ 0 → draft.taken + vec_len draft.word ≡ 0 },
     ghost few_values: { vec_len values ≤ vec_len draft.slots },
     ghost is_short: { refusal ≡ None → draft.taken + vec_len draft.word < longest },
-    ghost has_slot: { refusal ≡ None → 0 < vec_len draft.slots → draft.filled < vec_len draft.slots },
+    ghost has_slot: { refusal ≡ None → 0 < vec_len draft.slots →
+        draft.filled < vec_len draft.slots },
 }
 
 impl Reader {
@@ -115,7 +116,8 @@ impl Reader {
     /// [`Fed::Malformed`] each further call answers the same.
     pub fn feed(&mut self, piece: &[u8]) -> Fed
         requires { given (reading self.old) + length piece.now < 2 ^ 63 }
-        ensures tells { FedTells (reading self.old) piece.now result (reading self.new) (values_of self.new) }
+        ensures tells { FedTells (reading self.old) piece.now result (reading self.new)
+            (values_of self.new) }
         ensures moves { FedMoves (reading self.old) piece.now result (reading self.new) }
         ensures keeps { FedKeeps result (values_of self.old) (values_of self.new) }
         ensures slots { (reading self.new).slots ≡ (reading self.old).slots }
@@ -148,7 +150,8 @@ impl Reader {
     /// answers each further call answers the same.
     pub fn finish(&mut self) -> Closing
         requires { given (reading self.old) < 2 ^ 63 }
-        ensures tells { ClosingTells (reading self.old) result (reading self.new) (values_of self.new) }
+        ensures tells { ClosingTells (reading self.old) result (reading self.new)
+            (values_of self.new) }
         ensures moves { ClosingMoves (reading self.old) result (reading self.new) }
         ensures keeps { ClosingKeeps result (values_of self.old) (values_of self.new) }
         ensures slots { (reading self.new).slots ≡ (reading self.old).slots }
@@ -177,7 +180,8 @@ impl Reader {
     fn skip_reply(&mut self)
         requires none { vec_len self.old.draft.slots ≡ 0 }
         requires goes_on { self.old.refusal ≡ None }
-        ensures begins { reading self.new ≡ between self.old.draft.decimals self.old.draft.slots.items self.old.draft.place }
+        ensures begins { reading self.new ≡
+            between self.old.draft.decimals self.old.draft.slots.items self.old.draft.place }
         ensures values { values_of self.new ≡ [] }
     {
         let place = self.draft.place;
@@ -189,8 +193,10 @@ impl Reader {
         requires goes_on { self.old.refusal ≡ None }
         requires some { 0 < vec_len self.old.draft.slots }
         requires place { given (reading self.old) < 2 ^ 63 }
-        requires ends { after_word (begun self.old.draft) self.old.draft.word.items true ≡ filled_with self.old.draft value keep }
-        ensures tells { ClosingTells (open_at self.old.draft) result (reading self.new) (values_of self.new) }
+        requires ends { after_word (begun self.old.draft) self.old.draft.word.items true ≡
+            filled_with self.old.draft value keep }
+        ensures tells { ClosingTells (open_at self.old.draft) result (reading self.new)
+            (values_of self.new) }
         ensures moves { ClosingMoves (open_at self.old.draft) result (reading self.new) }
         ensures keeps { ClosingKeeps result (values_of self.old) (values_of self.new) }
         ensures slots { self.new.draft.slots ≡ self.old.draft.slots }
@@ -212,7 +218,8 @@ impl Reader {
         requires some { 0 < vec_len self.old.draft.slots }
         requires place { given (reading self.old) + length chunk.now < 2 ^ 63 }
         requires chunk { IsChunk chunk.now }
-        ensures tells { FedTells (open_at self.old.draft) chunk.now result (reading self.new) (values_of self.new) }
+        ensures tells { FedTells (open_at self.old.draft) chunk.now result (reading self.new)
+            (values_of self.new) }
         ensures moves { FedMoves (open_at self.old.draft) chunk.now result (reading self.new) }
         ensures keeps { FedKeeps result (values_of self.old) (values_of self.new) }
         ensures slots { self.new.draft.slots ≡ self.old.draft.slots }
@@ -233,7 +240,8 @@ impl Reader {
         requires some { 0 < vec_len self.old.draft.slots }
         requires begins { 0 < length run.now }
         requires run { list_any is_blank run.now ≡ false }
-        ensures tells { FedTells (open_at self.old.draft) run.now result (reading self.new) (values_of self.new) }
+        ensures tells { FedTells (open_at self.old.draft) run.now result (reading self.new)
+            (values_of self.new) }
         ensures moves { FedMoves (open_at self.old.draft) run.now result (reading self.new) }
         ensures keeps { FedKeeps result (values_of self.old) (values_of self.new) }
         ensures slots { self.new.draft.slots ≡ self.old.draft.slots }
@@ -254,7 +262,8 @@ impl Reader {
         requires some { 0 < vec_len self.old.draft.slots }
         requires blank { is_blank byte ≡ true }
         requires place { given (reading self.old) + 1 < 2 ^ 63 }
-        ensures tells { FedTells (open_at self.old.draft) (byte ∷ []) result (reading self.new) (values_of self.new) }
+        ensures tells { FedTells (open_at self.old.draft) (byte ∷ []) result (reading self.new)
+            (values_of self.new) }
         ensures moves { FedMoves (open_at self.old.draft) (byte ∷ []) result (reading self.new) }
         ensures keeps { FedKeeps result (values_of self.old) (values_of self.new) }
         ensures slots { self.new.draft.slots ≡ self.old.draft.slots }

@@ -6,10 +6,10 @@ ghost use Rattle.std.specs.Option.{option_copied, option_map};
 ghost use Rattle.lt_num.specs.Bounds.{most_decimals};
 ghost use Rattle.lt_rif.specs.Room.{AddsText, HasRoom, room_for};
 ghost use Rattle.lt_rif.specs.Trace.{declared_variable, declared_text, header_text, kind_text, line_text, locals_header, locals_part, step_text};
-ghost use Rattle.lt_rif.specs.inner.Spaced.{behind_space, step_layout};
+ghost use Rattle.lt_rif.specs.inner.Spaced.{after_space, step_layout};
 
 use crate::declared::Declared;
-use crate::values::{append_before_space, append_behind_space, append_locals, append_spaced};
+use crate::values::{append_after_space, append_before_space, append_locals, append_spaced};
 use crate::writing::{append, append_number};
 use lt_num::{Kind, Value};
 
@@ -32,8 +32,12 @@ pub fn write_header(
     inputs: &[Declared],
     locals: Option<&[Declared]>,
 )
-    requires { HasRoom into.old (header_text seed (map declared_variable outputs.now) (map declared_variable inputs.now) (option_map (map declared_variable) (option_copied locals))) }
-    ensures { AddsText into.old into.new (header_text seed (map declared_variable outputs.now) (map declared_variable inputs.now) (option_map (map declared_variable) (option_copied locals.entry))) }
+    requires { HasRoom into.old
+        (header_text seed (map declared_variable outputs.now) (map declared_variable inputs.now)
+        (option_map (map declared_variable) (option_copied locals))) }
+    ensures { AddsText into.old into.new
+        (header_text seed (map declared_variable outputs.now) (map declared_variable inputs.now)
+        (option_map (map declared_variable) (option_copied locals.entry))) }
 {
     append(into, b"#seed ");
     append_number(into, seed);
@@ -47,8 +51,10 @@ pub fn write_header(
 
 // Appends the line of the locals, where they are written.
 fn append_locals_header(into: &mut Vec<u8>, locals: Option<&[Declared]>)
-    requires { HasRoom into.old (locals_header (option_map (map declared_variable) (option_copied locals))) }
-    ensures { AddsText into.old into.new (locals_header (option_map (map declared_variable) (option_copied locals.entry))) }
+    requires { HasRoom into.old
+        (locals_header (option_map (map declared_variable) (option_copied locals))) }
+    ensures { AddsText into.old into.new
+        (locals_header (option_map (map declared_variable) (option_copied locals.entry))) }
 {
     if let Some(locals) = locals {
         append(into, b"#locals");
@@ -60,7 +66,8 @@ fn append_locals_header(into: &mut Vec<u8>, locals: Option<&[Declared]>)
 // Appends a space, a quoted name and a kind for each variable.
 fn append_declared(into: &mut Vec<u8>, variables: &[Declared])
     requires { HasRoom into.old (flat_map declared_text (map declared_variable variables.now)) }
-    ensures { AddsText into.old into.new (flat_map declared_text (map declared_variable variables.now)) }
+    ensures { AddsText into.old into.new
+        (flat_map declared_text (map declared_variable variables.now)) }
 {
     let mut variables = variables;
     while let [variable, more @ ..] = variables {
@@ -96,8 +103,10 @@ pub fn write_step(
     decimals: u32,
 )
     requires decimals { decimals ≤ most_decimals }
-    requires room { HasRoom into.old (step_text decimals step kinds.now x.now y.now (option_copied locals)) }
-    ensures { AddsText into.old into.new (step_text decimals step kinds.now x.now y.now (option_copied locals.entry)) }
+    requires room { HasRoom into.old
+        (step_text decimals step kinds.now x.now y.now (option_copied locals)) }
+    ensures { AddsText into.old into.new
+        (step_text decimals step kinds.now x.now y.now (option_copied locals.entry)) }
 {
     append(into, b"#step ");
     append_number(into, step);
@@ -115,16 +124,18 @@ fn append_step_values(
     decimals: u32,
 )
     requires decimals { decimals ≤ most_decimals }
-    requires room { HasRoom into.old (step_layout decimals kinds.now x.now y.now (option_copied locals)) }
-    ensures { AddsText into.old into.new (step_layout decimals kinds.now x.now y.now (option_copied locals.entry)) }
+    requires room { HasRoom into.old
+        (step_layout decimals kinds.now x.now y.now (option_copied locals)) }
+    ensures { AddsText into.old into.new
+        (step_layout decimals kinds.now x.now y.now (option_copied locals.entry)) }
 {
     append_before_space(into, x, kinds, decimals);
     append(into, b"#outs");
-    append_behind_space(into, y, kinds_behind(kinds, x.len()), decimals);
+    append_after_space(into, y, kinds_after(kinds, x.len()), decimals);
     append_locals_part(
         into,
         locals,
-        kinds_behind(kinds_behind(kinds, x.len()), y.len()),
+        kinds_after(kinds_after(kinds, x.len()), y.len()),
         decimals,
     );
     append(into, b"\n");
@@ -132,7 +143,7 @@ fn append_step_values(
 
 // The kinds after the first so many.
 #[tactic(auto, using(std::proofs::lemmas::List::drop_all))]
-fn kinds_behind(kinds: &[Kind], count: usize) -> &[Kind]
+fn kinds_after(kinds: &[Kind], count: usize) -> &[Kind]
     ensures { result.now ≡ drop count kinds.now }
 {
     if count < kinds.len() {
@@ -150,8 +161,10 @@ fn append_locals_part(
     decimals: u32,
 )
     requires decimals { decimals ≤ most_decimals }
-    requires room { HasRoom into.old (behind_space (locals_part decimals kinds.now (option_copied locals))) }
-    ensures { AddsText into.old into.new (behind_space (locals_part decimals kinds.now (option_copied locals.entry))) }
+    requires room { HasRoom into.old
+        (after_space (locals_part decimals kinds.now (option_copied locals))) }
+    ensures { AddsText into.old into.new
+        (after_space (locals_part decimals kinds.now (option_copied locals.entry))) }
 {
     if let Some(locals) = locals {
         append(into, b" #locs");

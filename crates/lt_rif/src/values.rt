@@ -5,7 +5,7 @@ ghost use Rattle.lt_num.specs.Bounds.{most_decimals};
 ghost use Rattle.lt_rif.specs.Enough.{AreSized, IsSized};
 ghost use Rattle.lt_rif.specs.Room.{AddsText, HasRoom};
 ghost use Rattle.lt_rif.specs.Trace.{decimals_of, local_text, local_words, spaced, value_text, value_words};
-ghost use Rattle.lt_rif.specs.inner.Spaced.{before_space, behind_space};
+ghost use Rattle.lt_rif.specs.inner.Spaced.{before_space, after_space};
 
 use crate::writing::append;
 use lt_num::{Fixed, Kind, Value, print};
@@ -30,10 +30,10 @@ pub fn append_before_space(into: &mut Vec<u8>, values: &[Value], kinds: &[Kind],
 }
 
 /// Appends the words of values of these kinds, with a space before each.
-pub fn append_behind_space(into: &mut Vec<u8>, values: &[Value], kinds: &[Kind], decimals: u32)
+pub fn append_after_space(into: &mut Vec<u8>, values: &[Value], kinds: &[Kind], decimals: u32)
     requires decimals { decimals ≤ most_decimals }
-    requires room { HasRoom into.old (behind_space (value_words decimals kinds.now values.now)) }
-    ensures { AddsText into.old into.new (behind_space (value_words decimals kinds.now values.now)) }
+    requires room { HasRoom into.old (after_space (value_words decimals kinds.now values.now)) }
+    ensures { AddsText into.old into.new (after_space (value_words decimals kinds.now values.now)) }
 {
     let mut kinds = kinds;
     let mut values = values;
@@ -61,14 +61,14 @@ pub fn append_spaced(into: &mut Vec<u8>, values: &[Value], kinds: &[Kind], decim
         return;
     };
     append_value(into, *value, *kind, decimals);
-    append_behind_space(into, more_values, more_kinds, decimals);
+    append_after_space(into, more_values, more_kinds, decimals);
 }
 
 /// Appends the words of locals of these kinds, with a space before each.
 pub fn append_locals(into: &mut Vec<u8>, locals: &[Option<Value>], kinds: &[Kind], decimals: u32)
     requires decimals { decimals ≤ most_decimals }
-    requires room { HasRoom into.old (behind_space (local_words decimals kinds.now locals.now)) }
-    ensures { AddsText into.old into.new (behind_space (local_words decimals kinds.now locals.now)) }
+    requires room { HasRoom into.old (after_space (local_words decimals kinds.now locals.now)) }
+    ensures { AddsText into.old into.new (after_space (local_words decimals kinds.now locals.now)) }
 {
     let mut kinds = kinds;
     let mut locals = locals;

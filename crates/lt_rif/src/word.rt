@@ -25,7 +25,7 @@ pub fn is_blank(byte: u8) -> bool
     byte == b'\t' || byte == b'\n' || byte == b'\r' || byte == b' '
 }
 
-/// How many bytes a chunk at the front takes: a blank, or a run of bytes that aren't blank.
+/// How many bytes a chunk at the prefix takes: a blank, or a run of bytes that aren't blank.
 pub fn length_of_chunk(bytes: &[u8]) -> usize
     requires { 0 < length bytes.now }
     ensures within { result ≤ length bytes.now }

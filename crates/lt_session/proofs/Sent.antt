@@ -6,21 +6,23 @@ use Rattle.lt_io.specs.Causes.{Rose, WhereTold}
 use Rattle.lt_rif.specs.declared.end.Who.{Who}
 use Rattle.lt_rif.specs.declared.end.Who.TheVariants as who
 use Rattle.lt_loop.specs.Play.{Piece}
-use Rattle.lt_loop.specs.Standing.{Standing}
+use Rattle.lt_loop.specs.CoreState.{CoreState}
 use Rattle.lt_loop.specs.declared.event.Destination.TheVariants as destination
 use Rattle.lt_drive.specs.Drive as drive
-use Rattle.lt_drive.specs.Drive.{Course, IsDriven}
-use Rattle.lt_drive.specs.Outside as driving
-use Rattle.lt_drive.specs.Outside.{Happens, Link, Received, is_fault_of, text_to}
-use Rattle.lt_drive.specs.declared.driven.Driven.{Driven}
-use Rattle.lt_drive.specs.declared.driven.Driven.TheVariants as driven
-use Rattle.lt_session.specs.Programs.{Programs}
+use Rattle.lt_drive.specs.Drive.{Continuation, IsDriven}
+use Rattle.lt_drive.specs.Interaction.{Interaction, Received, is_fault_of, text_to}
+use Rattle.lt_io.specs.Link.{Link}
+use Rattle.lt_io.specs.Programs.{Programs}
+use Rattle.lt_loop.specs.InputSource.{InputSource}
+use Rattle.lt_session.specs.Session.{Closes, IsPlayed, Opens}
+use Rattle.lt_io.specs.Outside.{Links, Outside, linked}
+use Rattle.lt_drive.specs.declared.drive_end.DriveEnd.{DriveEnd}
+use Rattle.lt_drive.specs.declared.drive_end.DriveEnd.TheVariants as drive_end
 use Rattle.lt_session.specs.Sent as sent
 use Rattle.lt_session.specs.Sent.{AreGiven, AreSent, IsFaulty, SidesGetTheirPieces}
-use Rattle.lt_session.specs.Session.{Closes, IsPlayed, Opens, Origin, Outside, between}
 use Rattle.lt_session.specs.Session as session
-use Rattle.lt_session.specs.declared.played.Played.{Played}
-use Rattle.lt_session.specs.declared.played.Played.TheVariants as played
+use Rattle.lt_session.specs.declared.session_end.SessionEnd.{SessionEnd}
+use Rattle.lt_session.specs.declared.session_end.SessionEnd.TheVariants as session_end
 use Rattle.lt_session.specs.Told.{Gives, GivesBeside, IsFirstOf}
 use Rattle.lt_session.proofs.Links.{faultless, first_of, leaves_behind, left_beside, left_by, opened_closed}
 
@@ -29,8 +31,8 @@ where_told : {A : Type 0} (o : Option A) (P : A → Type 0) → ((x : A) → o �
 where_told None P holds = tt
 where_told (Some x) P holds = holds x refl
 
--- where each link was sent what is for it, both leave that behind
-pub both_sent : (controller oracle : Origin) (old p q r new : Programs) (c c' o o' : Link) (ps : List Piece) → Opens controller old p c → Opens oracle p q o → Closes controller q r c' → Closes oracle r new o' →
+-- where each link was sent what is for it, both leave that after
+pub both_sent : (controller oracle : InputSource) (old p q r new : Programs) (c c' o o' : Link) (ps : List Piece) → Opens controller old p c → Opens oracle p q o → Closes controller q r c' → Closes oracle r new o' →
     Appends c.sent c'.sent (text_to destination.Controller ps) → Appends o.sent o'.sent (text_to destination.Oracle ps) → AreSent controller oracle ps c'.faults o'.faults old new
 both_sent controller oracle old p q r new c c' o o' ps opens opened closes closed sent sent_later =
     where_told old.closed _ (λ before told.
@@ -45,36 +47,36 @@ faulty_by true before now none rose = omega (arith, none)
 faulty_by false before now none same = same ∙ none
 
 -- the pieces that were given out in a run that was driven
-given : {State : Type 0} (k : Course) (old new : driving.Outside) (core : Standing State) (how : Driven) → IsDriven k old new core how →
-    (received : Received) × (ps : List Piece) × (fault : Option Who) × (trace : Bool) × AreGiven k received ps fault how × Happens old new received ps fault trace
-given k old new core _ (drive.ended received ps e whole happens put over) = (received, ps, None, false, sent.whole ps e whole, happens)
-given k old new core _ (drive.failed received ps w gives happens put over) = (received, ps, Some w, false, sent.failed ps w gives, happens)
-given k old new core _ (drive.starved received ps begins happens put over) = (received, ps, None, false, sent.starved ps begins, happens)
-given k old new core _ (drive.untraced received fault before kind front rest gives to some happens put) =
-    (received, _, fault, true, sent.untraced before fault kind front rest gives to some, happens)
+given : {State : Type 0} (k : Continuation) (old new : Outside Links) (core : CoreState State) (how : DriveEnd) → IsDriven k old new core how →
+    (received : Received) × (ps : List Piece) × (fault : Option Who) × (trace : Bool) × AreGiven k received ps fault how × Interaction old new received ps fault trace
+given k old new core _ (drive.ended received ps e whole interaction put over) = (received, ps, None, false, sent.whole ps e whole, interaction)
+given k old new core _ (drive.failed received ps w gives interaction put over) = (received, ps, Some w, false, sent.failed ps w gives, interaction)
+given k old new core _ (drive.starved received ps begins interaction put over) = (received, ps, None, false, sent.starved ps begins, interaction)
+given k old new core _ (drive.untraced received fault before kind prefix rest gives to some interaction put) =
+    (received, _, fault, true, sent.untraced before fault kind prefix rest gives to some, interaction)
 
-module _ {State : Type 0} (k : Course) (controller oracle : Origin) (old new : Outside) (core : Standing State) (d : Driven) where
-  got_by : (how : Played) → IsPlayed k controller oracle old new core how → how ≡ played.Driven d →
+module _ {State : Type 0} (k : Continuation) (controller oracle : InputSource) (old new : Outside Programs) (core : CoreState State) (d : DriveEnd) where
+  got_by : (how : SessionEnd) → IsPlayed k controller oracle old new core how → how ≡ session_end.Driven d →
       (received : Received) × (ps : List Piece) × (fault : Option Who) × (m : ℕ) × (n : ℕ) × AreGiven k received ps fault d
-      × ((x : List ℕ) → Gives controller old.programs x → IsFirstOf received.controller x) × ((x : List ℕ) → GivesBeside controller oracle old.programs x → IsFirstOf received.oracle x)
+      × ((x : List ℕ) → Gives controller old.inputs x → IsFirstOf received.controller x) × ((x : List ℕ) → GivesBeside controller oracle old.inputs x → IsFirstOf received.oracle x)
       × Appends old.trace.written new.trace.written (text_to destination.Trace ps)
-      × IsFaulty who.Controller fault m × IsFaulty who.Oracle fault n × AreSent controller oracle ps m n old.programs new.programs
+      × IsFaulty who.Controller fault m × IsFaulty who.Oracle fault n × AreSent controller oracle ps m n old.inputs new.inputs
   got_by _ (session.driven c c' o o' p q r how opens opened drove closes closed) is =
       let how_is : how ≡ d = cc is in
-      let all = given k (between c o old.trace) (between c' o' new.trace) core how drove in
-      let happens = all.5 in (
+      let all = given k (linked c o old.trace) (linked c' o' new.trace) core how drove in
+      let interaction = all.5 in (
         all.0,
         all.1,
         all.2,
         c'.faults,
         o'.faults,
-        subst (λ (x : Driven). AreGiven k all.0 all.1 all.2 x) how_is all.4,
-        (λ x gives. first_of c.left c'.left x all.0.controller (left_by controller old.programs p c x opens gives) happens.controller),
-        (λ x gives. first_of o.left o'.left x all.0.oracle (left_beside controller oracle old.programs p q c o x opens opened gives) happens.oracle),
-        happens.gives destination.Trace,
-        faulty_by (is_fault_of who.Controller all.2) c.faults c'.faults (faultless controller old.programs p c opens) (happens.blames destination.Controller),
-        faulty_by (is_fault_of who.Oracle all.2) o.faults o'.faults (faultless oracle p q o opened) (happens.blames destination.Oracle),
-        both_sent controller oracle old.programs p q r new.programs c c' o o' all.1 opens opened closes closed (happens.gives destination.Controller) (happens.gives destination.Oracle),
+        subst (λ (x : DriveEnd). AreGiven k all.0 all.1 all.2 x) how_is all.4,
+        (λ x gives. first_of c.left c'.left x all.0.controller (left_by controller old.inputs p c x opens gives) interaction.controller),
+        (λ x gives. first_of o.left o'.left x all.0.oracle (left_beside controller oracle old.inputs p q c o x opens opened gives) interaction.oracle),
+        interaction.gives destination.Trace,
+        faulty_by (is_fault_of who.Controller all.2) c.faults c'.faults (faultless controller old.inputs p c opens) (interaction.blames destination.Controller),
+        faulty_by (is_fault_of who.Oracle all.2) o.faults o'.faults (faultless oracle p q o opened) (interaction.blames destination.Oracle),
+        both_sent controller oracle old.inputs p q r new.inputs c c' o o' all.1 opens opened closes closed (interaction.gives destination.Controller) (interaction.gives destination.Oracle),
       )
   got_by _ (session.no_controller command why unstarted trace_is) is = absurd (cc is)
   got_by _ (session.no_oracle command l p q why opens unstarted closes trace_is) is = absurd (cc is)
@@ -82,4 +84,4 @@ module _ {State : Type 0} (k : Course) (controller oracle : Origin) (old new : O
   got_by _ (session.memory_later l p q opens same closes trace_is) is = absurd (cc is)
 
 pub got : {State : Type 0} → SidesGetTheirPieces State
-got k controller oracle old new core how plays = got_by k controller oracle old new core how (played.Driven how) plays refl
+got k controller oracle old new core how plays = got_by k controller oracle old new core how (session_end.Driven how) plays refl

@@ -11,7 +11,7 @@ use Rattle.lt_loop.specs.Plan.{Plan}
 use Rattle.lt_loop.specs.Play.{Made, Play, controller_asked, controller_read, controller_reply, ends, holds, instant_made, made_by, oracle_asked, oracle_read, play_from, stepped}
 use Rattle.lt_loop.specs.Scene.{verdict_slots}
 use Rattle.lt_loop.specs.Side.{Rest, side_answer, side_stream}
-use Rattle.lt_loop.specs.Standing.{Standing, at_hand, behind_step, resume, resume_in}
+use Rattle.lt_loop.specs.CoreState.{CoreState, at_hand, after_step, resume, resume_in}
 use Rattle.lt_loop.specs.declared.event.Wants.TheVariants as wants
 use Rattle.lt_loop.specs.declared.machine.ScenarioEnd.{ScenarioEnd}
 use Rattle.lt_loop.specs.declared.machine.ScenarioEnd.TheVariants as scenario_end
@@ -79,24 +79,24 @@ module _ {State : Type 0} where
   played_from rules plan zero k m y c o = λ w e. cc e
   played_from rules plan (suc left) k m y c o = instant_on rules plan k (rules.instant m y) (play_from rules plan left (k + 1)) c o (λ n z s t. played_from rules plan left (k + 1) n z s t)
 
-  behind_on : (s : Standing State) (y : List Value) (c o : Stream) → IsUnbroken (behind_step s y c o)
-  behind_on s y c o = played_from s.rules s.plan s.left (s.written + 1 + 1) s.machine y c o
+  after_on : (s : CoreState State) (y : List Value) (c o : Stream) → IsUnbroken (after_step s y c o)
+  after_on s y c o = played_from s.rules s.plan s.left (s.written + 1 + 1) s.machine y c o
 
-  from_on : (s : Standing State) (c o : Rest) → IsUnbroken (resume_in phase.Ready s c o)
+  from_on : (s : CoreState State) (c o : Rest) → IsUnbroken (resume_in phase.Ready s c o)
   from_on s c o = played_from s.rules s.plan s.left (s.written + 1) s.machine s.inputs (side_stream s.controller c) (side_stream s.oracle o)
 
-  resumed_in : (p : Phase) (s : Standing State) (c o : Rest) → (Waits p s → ⊥) → IsUnbroken (resume_in p s c o)
+  resumed_in : (p : Phase) (s : CoreState State) (c o : Rest) → (Waits p s → ⊥) → IsUnbroken (resume_in p s c o)
   resumed_in phase.Fresh s c o turn = from_on s c o
   resumed_in phase.Ready s c o turn = from_on s c o
-  resumed_in phase.Made s c o turn = controller_asked_on s.plan (at_hand s) s.plan.controller (behind_step s) (side_stream s.controller c) (side_stream s.oracle o) (behind_on s)
-  resumed_in phase.Controller s c o turn = controller_read_on s.plan (at_hand s) (behind_step s) (side_answer s.controller c) (side_stream s.oracle o) (behind_on s)
+  resumed_in phase.Made s c o turn = controller_asked_on s.plan (at_hand s) s.plan.controller (after_step s) (side_stream s.controller c) (side_stream s.oracle o) (after_on s)
+  resumed_in phase.Controller s c o turn = controller_read_on s.plan (at_hand s) (after_step s) (side_answer s.controller c) (side_stream s.oracle o) (after_on s)
   resumed_in phase.Answered s c o turn =
-      oracle_asked_on s.plan (at_hand s) s.inputs (behind_step s s.inputs (side_stream s.controller c)) (side_stream s.oracle o) (behind_on s s.inputs (side_stream s.controller c))
+      oracle_asked_on s.plan (at_hand s) s.inputs (after_step s s.inputs (side_stream s.controller c)) (side_stream s.oracle o) (after_on s s.inputs (side_stream s.controller c))
   resumed_in phase.Oracle s c o turn =
-      oracle_read_on s.plan (at_hand s) s.inputs (behind_step s s.inputs (side_stream s.controller c)) (side_answer s.oracle o) (behind_on s s.inputs (side_stream s.controller c))
+      oracle_read_on s.plan (at_hand s) s.inputs (after_step s s.inputs (side_stream s.controller c)) (side_answer s.oracle o) (after_on s s.inputs (side_stream s.controller c))
   resumed_in (phase.Over e) s c o turn = absurd (turn tt)
-  resumed_in phase.Starved s c o turn = absurd (turn tt)
+  resumed_in phase.OutOfMemory s c o turn = absurd (turn tt)
 
   -- from a core on that wants a turn, no play ends by the fault of a side
-  pub turns_unbroken : (s : Standing State) → WantsTell s wants.Turn → (c o : Rest) → IsUnbroken (resume s c o)
+  pub turns_unbroken : (s : CoreState State) → WantsTell s wants.Turn → (c o : Rest) → IsUnbroken (resume s c o)
   turns_unbroken s turn c o = resumed_in s.phase s c o turn

@@ -1,6 +1,4 @@
 -- A reader of what a run with programs beside it does goes from here to Session.
--- the programs that may be started, and what starting and finishing one does
-pub mod Programs
 -- the sides of a run, how a run with programs is played, and how that ends
 pub mod Session
 -- the sides that the code is given

@@ -3,46 +3,47 @@ use Rattle.std.specs.Prelude.{◌≡◌, ℕ, ◌<◌, ◌+◌, List, [], ◌∷
 use Rattle.std.specs.Io.KnownBytes.{Appends}
 use Rattle.std.specs.declared.option.Option.{Option}
 use Rattle.lt_io.specs.Causes.{WhereTold}
-use Rattle.lt_io.specs.Spawning.{Closed}
+use Rattle.lt_io.specs.Programs.{Closed, Programs}
+use Rattle.lt_drive.specs.Interaction.{Received, is_fault_of, piece, text_to}
+use Rattle.lt_loop.specs.InputSource.{InputSource, from_program}
+use Rattle.lt_session.specs.Session.{IsPlayed}
+use Rattle.lt_io.specs.Outside.{Outside}
 use Rattle.lt_rif.specs.declared.end.End.{End}
 use Rattle.lt_rif.specs.declared.end.End.TheVariants as end
 use Rattle.lt_rif.specs.declared.end.Who.{Who}
 use Rattle.lt_rif.specs.declared.end.Who.TheVariants as who
 use Rattle.lt_loop.specs.Play.{Piece, destination_of, step_count}
-use Rattle.lt_loop.specs.Standing.{Standing}
+use Rattle.lt_loop.specs.CoreState.{CoreState}
 use Rattle.lt_loop.specs.declared.event.Destination.TheVariants as destination
 use Rattle.lt_loop.specs.declared.event.PieceKind.{PieceKind}
-use Rattle.lt_drive.specs.Drive.{BeginsUnended, Course, GivesOut, IsWhole, step_at_hand}
-use Rattle.lt_drive.specs.Outside.{Received, is_fault_of, piece, text_to}
-use Rattle.lt_drive.specs.declared.driven.Driven.{Driven}
-use Rattle.lt_drive.specs.declared.driven.Driven.TheVariants as driven
-use Rattle.lt_session.specs.Programs.{Programs}
-use Rattle.lt_session.specs.Session.{IsPlayed, Origin, Outside, program}
+use Rattle.lt_drive.specs.Drive.{BeginsUnended, Continuation, GivesOut, IsWhole, failed_step}
+use Rattle.lt_drive.specs.declared.drive_end.DriveEnd.{DriveEnd}
+use Rattle.lt_drive.specs.declared.drive_end.DriveEnd.TheVariants as drive_end
 use Rattle.lt_session.specs.Told.{Gives, GivesBeside, IsFirstOf}
-use Rattle.lt_session.specs.declared.played.Played.TheVariants as played
+use Rattle.lt_session.specs.declared.session_end.SessionEnd.TheVariants as session_end
 
 -- Pieces that a run gave out that ended so, where this was received, and this side failed, if one did: all of its play, or
 -- those up to what cut it. A row a way.
-pub data AreGiven (k : Course) (received : Received) : List Piece → Option Who → Driven → Type 0 where
+pub data AreGiven (k : Continuation) (received : Received) : List Piece → Option Who → DriveEnd → Type 0 where
   -- it ended by itself: they are all of its play
-  whole : (ps : List Piece) (e : End) → IsWhole k received ps e → AreGiven k received ps None (driven.Ended e)
+  whole : (ps : List Piece) (e : End) → IsWhole k received ps e → AreGiven k received ps None (drive_end.Ended e)
   -- a side failed: they are those before that, and the end line of its fault
-  failed : (ps : List Piece) (w : Who) → GivesOut k received ps (Some w) → AreGiven k received ps (Some w) (driven.Ended (end.Device w))
+  failed : (ps : List Piece) (w : Who) → GivesOut k received ps (Some w) → AreGiven k received ps (Some w) (drive_end.Ended (end.Device w))
   -- memory ran out: they are those before that
-  starved : (ps : List Piece) → BeginsUnended k received ps → AreGiven k received ps None driven.Starved
-  -- a write to the trace failed: they are those before that, and a front of the piece
-  untraced : (before : List Piece) (fault : Option Who) (kind : PieceKind) (front rest : List ℕ) →
-      GivesOut k received (before ++ piece kind (front ++ rest) ∷ []) fault → destination_of kind ≡ destination.Trace → 0 < length rest →
-      AreGiven k received (before ++ piece kind front ∷ []) fault (driven.Untraced (step_at_hand kind (k.written + step_count before)))
+  starved : (ps : List Piece) → BeginsUnended k received ps → AreGiven k received ps None drive_end.OutOfMemory
+  -- a write to the trace failed: they are those before that, and a prefix of the piece
+  untraced : (before : List Piece) (fault : Option Who) (kind : PieceKind) (prefix rest : List ℕ) →
+      GivesOut k received (before ++ piece kind (prefix ++ rest) ∷ []) fault → destination_of kind ≡ destination.Trace → 0 < length rest →
+      AreGiven k received (before ++ piece kind prefix ∷ []) fault (drive_end.TraceWriteFailed (failed_step kind (k.written + step_count before)))
 
 -- What a side leaves behind whose link was sent this text and has so many faults. Only a program leaves something.
-abbrev pub left_behind : Origin → List ℕ → ℕ → List Closed
-left_behind (program command) text faults = record { sent = Some text; faults = faults } ∷ []
+abbrev pub left_behind : InputSource → List ℕ → ℕ → List Closed
+left_behind (from_program command) text faults = record { sent = Some text; faults = faults } ∷ []
 left_behind _ text faults = []
 
 -- Where it is told what finished links leave behind, that grew by what the two sides leave, the controller first: each was
 -- sent what is for it of these pieces, and their links have so many faults.
-abbrev pub AreSent : Origin → Origin → List Piece → ℕ → ℕ → Programs → Programs → Type 0
+abbrev pub AreSent : InputSource → InputSource → List Piece → ℕ → ℕ → Programs → Programs → Type 0
 AreSent controller oracle ps m n old new =
     WhereTold old.closed (λ before. new.closed ≡
     Some ((before ++ left_behind controller (text_to destination.Controller ps) m) ++ left_behind oracle (text_to destination.Oracle ps) n))
@@ -56,11 +57,11 @@ IsFaulty w fault count = MatchBool (is_fault_of w fault) (0 < count) (count ≡ 
 -- received. A side's link has faults exactly where it was this side that failed.
 abbrev pub SidesGetTheirPieces : Type 0 → Type 0
 SidesGetTheirPieces State =
-    (k : Course) (controller oracle : Origin) (old new : Outside) (core : Standing State) (how : Driven) → IsPlayed k controller oracle old new core (played.Driven how) →
+    (k : Continuation) (controller oracle : InputSource) (old new : Outside Programs) (core : CoreState State) (how : DriveEnd) → IsPlayed k controller oracle old new core (session_end.Driven how) →
     (received : Received) × (ps : List Piece) × (fault : Option Who) × (m : ℕ) × (n : ℕ)
     × AreGiven k received ps fault how
-    × ((c : List ℕ) → Gives controller old.programs c → IsFirstOf received.controller c)
-    × ((o : List ℕ) → GivesBeside controller oracle old.programs o → IsFirstOf received.oracle o)
+    × ((c : List ℕ) → Gives controller old.inputs c → IsFirstOf received.controller c)
+    × ((o : List ℕ) → GivesBeside controller oracle old.inputs o → IsFirstOf received.oracle o)
     × Appends old.trace.written new.trace.written (text_to destination.Trace ps)
     × IsFaulty who.Controller fault m × IsFaulty who.Oracle fault n
-    × AreSent controller oracle ps m n old.programs new.programs
+    × AreSent controller oracle ps m n old.inputs new.inputs

@@ -7,13 +7,13 @@
 
 mod beside;
 mod laws;
-mod played;
 mod playing;
 mod recorded;
+mod session_end;
 mod sides;
 
 pub use laws::{blame_has_a_cause, sides_get_their_pieces, undisturbed_sessions_are_whole};
-pub use played::Played;
 pub use playing::play;
 pub use recorded::Recorded;
-pub use sides::{Sides, Source};
+pub use session_end::SessionEnd;
+pub use sides::Sides;

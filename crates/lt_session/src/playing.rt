@@ -1,19 +1,20 @@
 //! A run with the programs beside it.
 
 ghost use Rattle.std.specs.Prelude.{◌≡◌};
-ghost use Rattle.lt_loop.specs.CoreView.{standing};
+ghost use Rattle.lt_loop.specs.CoreView.{core_state};
 ghost use Rattle.lt_loop.specs.Event.{WantsTell};
-ghost use Rattle.lt_drive.specs.Drive.{course_of};
-ghost use Rattle.lt_drive.specs.Outside.{sink};
-ghost use Rattle.lt_session.specs.Session.{IsPlayed, Origin, program};
-ghost use Rattle.lt_session.specs.SidesView.{oracle_of, origin_of};
+ghost use Rattle.lt_drive.specs.Drive.{continuation_of};
+ghost use Rattle.lt_loop.specs.InputSource.{from_program, from_trace};
+ghost use Rattle.lt_session.specs.Session.{IsPlayed};
+ghost use Rattle.lt_io.specs.Outside.{beside};
+ghost use Rattle.lt_session.specs.SidesView.{inputs_of, oracle_of};
 
 use crate::beside::{Beside, give_back, play_beside};
-use crate::played::Played;
 use crate::recorded::Recorded;
-use crate::sides::{Sides, Source};
+use crate::session_end::SessionEnd;
+use crate::sides::Sides;
 use lt_io::{Sink, Spawner, StartRefusal};
-use lt_loop::{Core, Machine, Wants};
+use lt_loop::{Core, InputSource, Machine, Wants};
 use lt_rif::Who;
 use std::alloc::Global;
 
@@ -27,27 +28,25 @@ pub fn play<M: Machine, P: Spawner, S: Sink>(
     sides: Sides<'_>,
     spawner: &mut P,
     trace: &mut S,
-) -> Played
-    requires { WantsTell (standing core.old) Wants.Turn }
-    ensures played { IsPlayed (course_of (standing core.old)) (origin_of sides.entry.controller) (oracle_of sides.entry.oracle)
-        (record {
-          programs = record { coming = P.coming spawner.old; closed = P.closed spawner.old; asked = P.asked spawner.old; faults = P.faults spawner.old };
-          trace = sink (S.written trace.old) (S.faults trace.old);
-        })
-        (record {
-          programs = record { coming = P.coming spawner.new; closed = P.closed spawner.new; asked = P.asked spawner.new; faults = P.faults spawner.new };
-          trace = sink (S.written trace.new) (S.faults trace.new);
-        })
-        (standing core.new) result }
-    ensures plan { (standing core.new).plan ≡ (standing core.old).plan }
+) -> SessionEnd
+    requires { WantsTell (core_state core.old) Wants.Turn }
+    ensures played { IsPlayed (continuation_of (core_state core.old)) (inputs_of sides.entry)
+        (oracle_of sides.entry.oracle)
+        (beside (P.state spawner.old) (S.state trace.old))
+        (beside (P.state spawner.new) (S.state trace.new))
+        (core_state core.new) result }
+    ensures plan { (core_state core.new).plan ≡ (core_state core.old).plan }
 {
-    match sides.controller {
-        Source::Nobody => play_recorded(alloc, core, &[], sides.oracle, spawner, trace),
-        Source::Recorded(bytes) => {
-            play_recorded(alloc, core, bytes, sides.oracle, spawner, trace)
-        }
-        Source::Program(command) => {
-            play_program(alloc, core, command, sides.oracle, spawner, trace)
+    let Sides {
+        inputs,
+        replay,
+        oracle,
+    } = sides;
+    match inputs {
+        InputSource::Nobody => play_recorded(alloc, core, &[], oracle, spawner, trace),
+        InputSource::Trace(_) => play_recorded(alloc, core, replay, oracle, spawner, trace),
+        InputSource::Program(command) => {
+            play_program(alloc, core, command, oracle, spawner, trace)
         }
     }
 }
@@ -60,19 +59,14 @@ fn play_recorded<M: Machine, P: Spawner, S: Sink>(
     oracle: Option<&str>,
     spawner: &mut P,
     trace: &mut S,
-) -> Played
-    requires { WantsTell (standing core.old) Wants.Turn }
-    ensures played { IsPlayed (course_of (standing core.old)) (Origin.recorded bytes.now) (oracle_of oracle.entry)
-        (record {
-          programs = record { coming = P.coming spawner.old; closed = P.closed spawner.old; asked = P.asked spawner.old; faults = P.faults spawner.old };
-          trace = sink (S.written trace.old) (S.faults trace.old);
-        })
-        (record {
-          programs = record { coming = P.coming spawner.new; closed = P.closed spawner.new; asked = P.asked spawner.new; faults = P.faults spawner.new };
-          trace = sink (S.written trace.new) (S.faults trace.new);
-        })
-        (standing core.new) result }
-    ensures plan { (standing core.new).plan ≡ (standing core.old).plan }
+) -> SessionEnd
+    requires { WantsTell (core_state core.old) Wants.Turn }
+    ensures played { IsPlayed (continuation_of (core_state core.old)) (from_trace bytes.now)
+        (oracle_of oracle.entry)
+        (beside (P.state spawner.old) (S.state trace.old))
+        (beside (P.state spawner.new) (S.state trace.new))
+        (core_state core.new) result }
+    ensures plan { (core_state core.new).plan ≡ (core_state core.old).plan }
 {
     let mut link = Recorded::new(bytes);
     let Beside { played, left } = play_beside(alloc, core, &mut link, oracle, spawner, trace);
@@ -88,24 +82,19 @@ fn play_program<M: Machine, P: Spawner, S: Sink>(
     oracle: Option<&str>,
     spawner: &mut P,
     trace: &mut S,
-) -> Played
-    requires { WantsTell (standing core.old) Wants.Turn }
-    ensures played { IsPlayed (course_of (standing core.old)) (program command.now) (oracle_of oracle.entry)
-        (record {
-          programs = record { coming = P.coming spawner.old; closed = P.closed spawner.old; asked = P.asked spawner.old; faults = P.faults spawner.old };
-          trace = sink (S.written trace.old) (S.faults trace.old);
-        })
-        (record {
-          programs = record { coming = P.coming spawner.new; closed = P.closed spawner.new; asked = P.asked spawner.new; faults = P.faults spawner.new };
-          trace = sink (S.written trace.new) (S.faults trace.new);
-        })
-        (standing core.new) result }
-    ensures plan { (standing core.new).plan ≡ (standing core.old).plan }
+) -> SessionEnd
+    requires { WantsTell (core_state core.old) Wants.Turn }
+    ensures played { IsPlayed (continuation_of (core_state core.old)) (from_program command.now)
+        (oracle_of oracle.entry)
+        (beside (P.state spawner.old) (S.state trace.old))
+        (beside (P.state spawner.new) (S.state trace.new))
+        (core_state core.new) result }
+    ensures plan { (core_state core.new).plan ≡ (core_state core.old).plan }
 {
     let mut link = match spawner.start(alloc, command) {
         Ok(link) => link,
-        Err(StartRefusal::Failed) => return Played::Unstarted(Who::Controller),
-        Err(StartRefusal::Memory) => return Played::Memory,
+        Err(StartRefusal::Failed) => return SessionEnd::StartFailed(Who::Controller),
+        Err(StartRefusal::Memory) => return SessionEnd::Memory,
     };
     let Beside { played, left } = play_beside(alloc, core, &mut link, oracle, spawner, trace);
     spawner.finish(link);

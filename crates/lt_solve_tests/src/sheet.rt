@@ -68,7 +68,8 @@ impl Sheet {
 
 // Whether the parts of a shape are among so many, and its variable is one of three of its role.
 fn has_parts(shape: Shape, before: usize) -> bool
-    ensures { IsTrue result → (kinds : Kinds) → length kinds.inputs ≡ 3 → length kinds.outputs ≡ 3 → length kinds.locals ≡ 3 → IsTrue (fits kinds before shape) }
+    ensures { IsTrue result → (kinds : Kinds) → length kinds.inputs ≡ 3 → length kinds.outputs ≡ 3 →
+        length kinds.locals ≡ 3 → IsTrue (fits kinds before shape) }
 {
     match shape {
         Shape::Constant(_, _) => true,
@@ -84,7 +85,8 @@ fn has_parts(shape: Shape, before: usize) -> bool
 
 // Whether there is a variable of a role at this place, where there are three of each.
 fn is_variable(role: Role, place: u32) -> bool
-    ensures { IsTrue result → (kinds : Kinds) → length kinds.inputs ≡ 3 → length kinds.outputs ≡ 3 → length kinds.locals ≡ 3 → IsTrue (fits kinds 0 (Shape.Variable role place)) }
+    ensures { IsTrue result → (kinds : Kinds) → length kinds.inputs ≡ 3 → length kinds.outputs ≡ 3 →
+        length kinds.locals ≡ 3 → IsTrue (fits kinds 0 (Shape.Variable role place)) }
 {
     match role {
         Role::Input => place < 3,

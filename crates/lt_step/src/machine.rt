@@ -104,8 +104,11 @@ impl Machine {
     pub fn step(&mut self, alloc: Global, inputs: &[Value]) -> Outcome
         requires inputs { length inputs.now ≡ length (machine_state self.old).scene.inputs }
         requires few { IfRunning (machine_state self.old).phase (λ c. c.step ≤ most_steps) }
-        ensures steps { result ≢ Outcome.Memory → record { outcome = result; state = machine_state self.new } ≡ step_of (machine_state self.old) inputs.now }
-        ensures memory { result ≡ Outcome.Memory → IsRunning (machine_state self.old).phase × (machine_state self.new ≡ record (machine_state self.old) { phase = finished }) }
+        ensures steps { result ≢ Outcome.Memory →
+            record { outcome = result; state = machine_state self.new } ≡
+            step_of (machine_state self.old) inputs.now }
+        ensures memory { result ≡ Outcome.Memory → IsRunning (machine_state self.old).phase ×
+            (machine_state self.new ≡ record (machine_state self.old) { phase = finished }) }
     {
         if self.is_finished {
             return Outcome::Ended;
@@ -148,7 +151,8 @@ impl Machine {
     // Ends the run with this outcome.
     fn end(&mut self, outcome: Outcome) -> Outcome
         ensures outcome { result ≡ outcome }
-        ensures state { machine_state self.new ≡ record (machine_state self.old) { phase = finished } }
+        ensures state { machine_state self.new ≡
+            record (machine_state self.old) { phase = finished } }
     {
         self.is_finished = true;
         outcome

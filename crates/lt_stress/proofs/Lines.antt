@@ -1,7 +1,7 @@
 -- The lines of a text with one byte more.
 use Rattle.std.proofs.Common.{◌≡◌, ℕ, ◌==◌, Bool, true, false, List, [], ◌∷◌, ◌++◌, if◌then◌else◌, refl, ap, ◌∙◌}
 use Rattle.lt_stress.specs.Plant.{lines_from}
-use Rattle.lt_stress.specs.inner.Standing.{open_from}
+use Rattle.lt_stress.specs.inner.PlantState.{open_from}
 
 -- a byte that is no line feed ends no line
 pub lines_more : (line s : List ℕ) (b : ℕ) → (b == 10) ≡ false → lines_from line (s ++ b ∷ []) ≡ lines_from line s

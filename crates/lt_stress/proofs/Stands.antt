@@ -5,13 +5,13 @@ use Rattle.std.proofs.lemmas.Grind.{flat_map-append}
 use Rattle.std.proofs.lemmas.List.{take-append-drop, take_all, take_more}
 use Rattle.std.proofs.lemmas.List.Sums.{sum_by-append}
 use Rattle.std.specs.List.{flat_map, sum_by}
-use Rattle.lt_io.specs.Fitting.{FitsReceived, FitsSent, is_end}
+use Rattle.lt_io.specs.Link.{FitsReceived, FitsSent, is_end}
 use Rattle.lt_stress.specs.Plant.{lines_of, replies_of, reply, sum_in, sum_of}
-use Rattle.lt_stress.specs.inner.Standing.{Gives, Standing, StandsAfter, Takes, fresh, may_stand, open_from, same, stands_with}
+use Rattle.lt_stress.specs.inner.PlantState.{Gives, PlantState, StandsAfter, Takes, fresh, may_stand, open_from, same, stands_with}
 use Rattle.lt_stress.proofs.Lines.{lines_ended, lines_more, open_ended, open_more}
 
 -- a byte of a line was taken
-pub takes_byte : (p q : Standing) (b : ℕ) → (b == 10) ≡ false → q.number ≡ p.number → q.line ≡ p.line ++ b ∷ [] → q.reply ≡ p.reply → q.sum ≡ p.sum → Takes p (b ∷ []) q
+pub takes_byte : (p q : PlantState) (b : ℕ) → (b == 10) ≡ false → q.number ≡ p.number → q.line ≡ p.line ++ b ∷ [] → q.reply ≡ p.reply → q.sum ≡ p.sum → Takes p (b ∷ []) q
 takes_byte p q b other number line replies sum n s r h = record {
   number = number ∙ h.number;
   line = open_more [] s b other ∙ ap (λ (t : List ℕ). t ++ b ∷ []) h.line ∙ sym line;
@@ -20,7 +20,7 @@ takes_byte p q b other number line replies sum n s r h = record {
 }
 
 -- the end of a line was taken
-pub takes_end : (p q : Standing) → q.number ≡ p.number → q.line ≡ [] → p.reply ≡ [] → q.reply ≡ reply p.number p.line → q.sum ≡ p.sum + sum_in p.line → Takes p (10 ∷ []) q
+pub takes_end : (p q : PlantState) → q.number ≡ p.number → q.line ≡ [] → p.reply ≡ [] → q.reply ≡ reply p.number p.line → q.sum ≡ p.sum + sum_in p.line → Takes p (10 ∷ []) q
 takes_end p q number line none replies sum n s r h =
     let lines : lines_of (s ++ 10 ∷ []) ≡ lines_of s ++ open_from [] s ∷ [] = lines_ended [] s in
     record {
@@ -37,20 +37,20 @@ takes_end p q number line none replies sum n s r h =
     }
 
 -- nothing was taken
-pub takes_none : (p : Standing) → Takes p [] p
+pub takes_none : (p : PlantState) → Takes p [] p
 takes_none p n s r h = subst (λ (t : List ℕ). StandsAfter n p t r) (sym (append-nil s)) h
 
 -- bytes were taken, and then more
-pub takes_both : (p q t : Standing) (a b : List ℕ) → Takes p a q → Takes q b t → Takes p (a ++ b) t
+pub takes_both : (p q t : PlantState) (a b : List ℕ) → Takes p a q → Takes q b t → Takes p (a ++ b) t
 takes_both p q t a b first second n s r h = subst (λ (x : List ℕ). StandsAfter n t x r) (append_assoc s a b) (second n (s ++ a) r (first n s r h))
 
--- a front of the reply was given
-pub gives_front : (p q : Standing) (count : ℕ) (bytes : List ℕ) → q.number ≡ p.number → q.line ≡ p.line → bytes ≡ take count p.reply → q.reply ≡ drop count p.reply → q.sum ≡ p.sum → Gives p bytes q
-gives_front p q count bytes number line front rest sum n s r h = record {
+-- a prefix of the reply was given
+pub gives_prefix : (p q : PlantState) (count : ℕ) (bytes : List ℕ) → q.number ≡ p.number → q.line ≡ p.line → bytes ≡ take count p.reply → q.reply ≡ drop count p.reply → q.sum ≡ p.sum → Gives p bytes q
+gives_prefix p q count bytes number line prefix rest sum n s r h = record {
   number = number ∙ h.number;
   line = h.line ∙ sym line;
   replies = h.replies ∙ ap (λ (t : List ℕ). r ++ t) (sym (take-append-drop count p.reply)) ∙ sym (append_assoc r (take count p.reply) (drop count p.reply))
-      ∙ ap (λ (t : List ℕ). (r ++ t) ++ drop count p.reply) (sym front) ∙ ap (λ (t : List ℕ). (r ++ bytes) ++ t) (sym rest);
+      ∙ ap (λ (t : List ℕ). (r ++ t) ++ drop count p.reply) (sym prefix) ∙ ap (λ (t : List ℕ). (r ++ bytes) ++ t) (sym rest);
   sum = h.sum ∙ sym sum;
 }
 
@@ -77,7 +77,7 @@ same-refl (x ∷ xs) = true_both (x == x) (same xs xs) (eq-eqb x x refl) (same-r
 is-same : (xs ys : List ℕ) → xs ≡ ys → same xs ys ≡ true
 is-same xs ys e = subst (λ (t : List ℕ). same xs t ≡ true) e (same-refl xs)
 
-pub of_test : (p : Standing) (n : ℕ) (s r : List ℕ) → stands_with p n s r ≡ true → StandsAfter n p s r
+pub of_test : (p : PlantState) (n : ℕ) (s r : List ℕ) → stands_with p n s r ≡ true → StandsAfter n p s r
 of_test p n s r e =
     let a = both_true (p.number == n) (same (open_from [] s) p.line && (same (replies_of n s) (r ++ p.reply) && (sum_of s == p.sum))) e in
     let b = both_true (same (open_from [] s) p.line) (same (replies_of n s) (r ++ p.reply) && (sum_of s == p.sum)) a.1 in
@@ -89,32 +89,32 @@ of_test p n s r e =
       sum = eqb-true (sum_of s) p.sum c.1;
     }
 
-pub test_of : (p : Standing) (n : ℕ) (s r : List ℕ) → StandsAfter n p s r → stands_with p n s r ≡ true
+pub test_of : (p : PlantState) (n : ℕ) (s r : List ℕ) → StandsAfter n p s r → stands_with p n s r ≡ true
 test_of p n s r h =
     true_both (p.number == n) (same (open_from [] s) p.line && (same (replies_of n s) (r ++ p.reply) && (sum_of s == p.sum))) (eq-eqb p.number n h.number)
     (true_both (same (open_from [] s) p.line) (same (replies_of n s) (r ++ p.reply) && (sum_of s == p.sum)) (is-same (open_from [] s) p.line h.line)
     (true_both (same (replies_of n s) (r ++ p.reply)) (sum_of s == p.sum) (is-same (replies_of n s) (r ++ p.reply) h.replies) (eq-eqb (sum_of s) p.sum h.sum)))
 
 -- what fits a plant that takes bytes
-pub fits_taken : (p q : Standing) (bytes : List ℕ) → Takes p bytes q → FitsSent (may_stand p) (may_stand q) bytes
+pub fits_taken : (p q : PlantState) (bytes : List ℕ) → Takes p bytes q → FitsSent (may_stand p) (may_stand q) bytes
 fits_taken p q bytes takes s [] is_over e = absurd (cc e)
 fits_taken p q bytes takes s (n ∷ r) true e = absurd (cc e)
 fits_taken p q bytes takes s (n ∷ r) false e = test_of q n (s ++ bytes) r (takes n s r (of_test p n s r e))
 
-never_over : (p q : Standing) (s r : List ℕ) → may_stand p s r true ≡ true → may_stand q s r true ≡ true
+never_over : (p q : PlantState) (s r : List ℕ) → may_stand p s r true ≡ true → may_stand q s r true ≡ true
 never_over p q s [] e = absurd (cc e)
 never_over p q s (n ∷ r) e = absurd (cc e)
 
-given_on : (p q : Standing) (bytes : List ℕ) → Gives p bytes q → (s r : List ℕ) → may_stand p s r false ≡ true → may_stand q s (r ++ bytes) false ≡ true
+given_on : (p q : PlantState) (bytes : List ℕ) → Gives p bytes q → (s r : List ℕ) → may_stand p s r false ≡ true → may_stand q s (r ++ bytes) false ≡ true
 given_on p q bytes gives s [] e = absurd (cc e)
 given_on p q bytes gives s (n ∷ r) e = test_of q n s (r ++ bytes) (gives n s r (of_test p n s r e))
 
 -- what fits a plant that gives bytes
-fits_given : (p q : Standing) (bytes : List ℕ) → Gives p bytes q → FitsReceived (may_stand p) (may_stand q) bytes false
+fits_given : (p q : PlantState) (bytes : List ℕ) → Gives p bytes q → FitsReceived (may_stand p) (may_stand q) bytes false
 fits_given p q bytes gives = (given_on p q bytes gives, never_over p q)
 
 -- nothing fits a plant but what it was sent and gave
-pub stands_so : (p : Standing) (n : ℕ) (s r : List ℕ) (is_over : Bool) → may_stand p s (n ∷ r) is_over ≡ true → (is_over ≡ false) × StandsAfter n p s r
+pub stands_so : (p : PlantState) (n : ℕ) (s r : List ℕ) (is_over : Bool) → may_stand p s (n ∷ r) is_over ≡ true → (is_over ≡ false) × StandsAfter n p s r
 stands_so p n s r true e = absurd (cc e)
 stands_so p n s r false e = (refl, of_test p n s r e)
 
@@ -135,14 +135,14 @@ no_end : (n : ℕ) → 0 < n → is_end n ≡ false
 no_end zero some = absurd (omega arith)
 no_end (suc n) some = refl
 
-pub fits_count : (p q : Standing) (bytes : List ℕ) (n : ℕ) → 0 < n → Gives p bytes q → FitsReceived (may_stand p) (may_stand q) bytes (is_end n)
+pub fits_count : (p q : PlantState) (bytes : List ℕ) (n : ℕ) → 0 < n → Gives p bytes q → FitsReceived (may_stand p) (may_stand q) bytes (is_end n)
 fits_count p q bytes n some gives = subst (FitsReceived (may_stand p) (may_stand q) bytes) (sym (no_end n some)) (fits_given p q bytes gives)
 
 -- bytes were taken, and then one more
-pub takes_next : (p q t : Standing) (bytes : List ℕ) (i : ℕ) → i < length bytes → Takes p (take i bytes) q → Takes q (get_or bytes i 0 ∷ []) t → Takes p (take (i + 1) bytes) t
+pub takes_next : (p q t : PlantState) (bytes : List ℕ) (i : ℕ) → i < length bytes → Takes p (take i bytes) q → Takes q (get_or bytes i 0 ∷ []) t → Takes p (take (i + 1) bytes) t
 takes_next p q t bytes i some first second =
     subst (λ (x : List ℕ). Takes p x t) (sym (take_more bytes i 0 some)) (takes_both p q t (take i bytes) (get_or bytes i 0 ∷ []) first second)
 
 -- all were taken
-pub takes_all : (p q : Standing) (bytes : List ℕ) (i : ℕ) → length bytes ≤ i → Takes p (take i bytes) q → Takes p bytes q
+pub takes_all : (p q : PlantState) (bytes : List ℕ) (i : ℕ) → length bytes ≤ i → Takes p (take i bytes) q → Takes p bytes q
 takes_all p q bytes i whole first = subst (λ (x : List ℕ). Takes p x q) (take_all i bytes whole) first

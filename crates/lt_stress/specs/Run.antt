@@ -1,6 +1,6 @@
 -- The run of a number.
 use Rattle.std.specs.Prelude.{◌≡◌, ℕ, false, List, [], None, Ok, Err}
-use Rattle.lt_drive.specs.Outside.{text_to}
+use Rattle.lt_drive.specs.Interaction.{text_to}
 use Rattle.lt_drive.specs.Told.{closed}
 use Rattle.lt_loop.specs.CoreView.{stream_of}
 use Rattle.lt_loop.specs.Plan.{Plan}
@@ -9,12 +9,12 @@ use Rattle.lt_loop.specs.Side.{Rest}
 use Rattle.lt_loop.specs.declared.event.Destination.TheVariants as destination
 use Rattle.lt_loop.specs.declared.setup.Talk.TheVariants as talk
 use Rattle.lt_play.specs.Rules.{known_scene, scenario_rules}
-use Rattle.lt_prepare.specs.Prepared.{IsScenarioAnswer}
-use Rattle.lt_prepare.specs.declared.refusal.Refusal.{Refusal}
+use Rattle.lt_frontend.specs.Prepared.{IsScenarioAnswer}
+use Rattle.lt_frontend.specs.declared.refusal.Refusal.{Refusal}
 use Rattle.lt_rif.specs.declared.end.End.{End}
 use Rattle.lt_step.specs.Machine.{started}
 use Rattle.lt_term.specs.Scene.{Scene}
-use Rattle.lt_words.specs.Settings.{default_budget, default_decimals}
+use Rattle.lt_args.specs.Settings.{default_budget, default_decimals}
 use Rattle.lt_stress.specs.Plant.{replies_of, sum_of}
 use Rattle.lt_stress.specs.Scenario.{limit_of, scenario_text, variables_of}
 

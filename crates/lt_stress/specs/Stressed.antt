@@ -1,14 +1,14 @@
 -- How a large run ends.
 use Rattle.std.specs.Prelude.{◌≡◌, ◌≢◌, ◌≤◌, ℕ, List}
 use Rattle.std.specs.Io.KnownBytes.{Appends}
-use Rattle.lt_drive.specs.Outside.{Sink}
+use Rattle.lt_io.specs.Sink.{Sink}
 use Rattle.lt_io.specs.Causes.{Rose}
-use Rattle.lt_io.specs.Sending.{AppendsPart}
+use Rattle.lt_io.specs.Sending.{AppendsProperPrefix}
 use Rattle.lt_loop.specs.Machine.{most_steps}
 use Rattle.lt_loop.specs.Play.{Piece, step_count}
-use Rattle.lt_prepare.specs.declared.refusal.Refusal.{Refusal}
-use Rattle.lt_prepare.specs.declared.refusal.Unprepared.{Unprepared}
-use Rattle.lt_prepare.specs.declared.refusal.Unprepared.TheVariants as why
+use Rattle.lt_frontend.specs.declared.refusal.Refusal.{Refusal}
+use Rattle.lt_frontend.specs.declared.refusal.Unprepared.{Unprepared}
+use Rattle.lt_frontend.specs.declared.refusal.Unprepared.TheVariants as why
 use Rattle.lt_rif.specs.declared.end.End.{End}
 use Rattle.lt_rif.specs.declared.end.End.TheVariants as end
 use Rattle.lt_rif.specs.declared.end.Who.{Who}
@@ -28,10 +28,10 @@ pub data IsStressed (n : ℕ) (old new : Sink) : Stressed → Type 0 where
   -- the run ended by its limit, and its line was written ..
   done : (scene : Scene) (ps : List Piece) → IsSceneOf n scene → IsRunOf n scene ps end.Limit →
       Appends old.written new.written (stress_line n (sum_told ps)) → new.faults ≡ old.faults → IsStressed n old new stressed.Done
-  -- .. or a front of it that isn't all, where a write failed
+  -- .. or a prefix of it that isn't all, where a write failed
   cut : (scene : Scene) (ps : List Piece) → IsSceneOf n scene → IsRunOf n scene ps end.Limit →
-      AppendsPart old.written new.written (stress_line n (sum_told ps)) → Rose old.faults new.faults → IsStressed n old new stressed.Untraced
-  -- the run ended in another way, but not by the fault of a side, behind so many steps, which are no more than a machine makes
+      AppendsProperPrefix old.written new.written (stress_line n (sum_told ps)) → Rose old.faults new.faults → IsStressed n old new stressed.TraceWriteFailed
+  -- the run ended in another way, but not by the fault of a side, after so many steps, which are no more than a machine makes
   ended : (scene : Scene) (ps : List Piece) (e : End) → IsSceneOf n scene → IsRunOf n scene ps e → e ≢ end.Limit → ((w : Who) → e ≢ end.Device w) →
       step_count ps ≤ most_steps → new ≡ old → IsStressed n old new (stressed.Ended e (step_count ps))
   -- the text has no scenario, for this reason

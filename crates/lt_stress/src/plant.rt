@@ -35,8 +35,8 @@ pub struct Plant {
 }
 
 impl Plant {
-    ghost use Rattle.lt_stress.specs.inner.PlantView.{plant_standing};
-    ghost use Rattle.lt_stress.specs.inner.Standing.{Takes, fresh};
+    ghost use Rattle.lt_stress.specs.inner.PlantView.{plant_state};
+    ghost use Rattle.lt_stress.specs.inner.PlantState.{Takes, fresh};
 
     /// A plant that was sent nothing.
     ///
@@ -44,7 +44,7 @@ impl Plant {
     ///
     /// Want of memory.
     pub fn make(alloc: Global, number: u64) -> Result<Plant, AllocError>
-        ensures standing { IfOk result (λ p. plant_standing p ≡ fresh number) }
+        ensures state { IfOk result (λ p. plant_state p ≡ fresh number) }
     {
         Ok(Plant {
             number,
@@ -58,14 +58,15 @@ impl Plant {
 
     /// The sum of the numbers in all lines.
     pub fn sum(&self) -> u64
-        ensures { result ≡ (plant_standing self.now).sum }
+        ensures { result ≡ (plant_state self.now).sum }
     {
         self.sum
     }
 
     // Takes a byte that was sent.
     fn take(&mut self, byte: u8) -> Result<(), Failed>
-        ensures takes { OnOk result (Takes (plant_standing self.old) (byte ∷ []) (plant_standing self.new)) }
+        ensures takes { OnOk result (Takes (plant_state self.old) (byte ∷ [])
+            (plant_state self.new)) }
         ensures faults { self.new.faults ≡ self.old.faults }
     {
         if byte == b'\n' {
@@ -80,7 +81,7 @@ impl Plant {
 
     // Takes the end of the line at hand, and makes its reply.
     fn end_line(&mut self) -> Result<(), Failed>
-        ensures takes { OnOk result (Takes (plant_standing self.old) (10 ∷ []) (plant_standing self.new)) }
+        ensures takes { OnOk result (Takes (plant_state self.old) (10 ∷ []) (plant_state self.new)) }
         ensures faults { self.new.faults ≡ self.old.faults }
     {
         if self.given < self.reply.len() {
@@ -107,16 +108,15 @@ impl Plant {
 }
 
 impl Link for Plant {
-    ghost use Rattle.lt_stress.specs.inner.PlantView.{plant_standing};
-    ghost use Rattle.lt_stress.specs.inner.Standing.{may_stand};
+    ghost use Rattle.lt_stress.specs.inner.PlantView.{plant_state};
+    ghost use Rattle.lt_stress.specs.inner.PlantState.{may_stand};
 
-    ghost sent = { λ _. None };
-
-    ghost left = { λ _. None };
-
-    ghost faults = { λ p. p.faults };
-
-    ghost fits = { λ p. may_stand (plant_standing p) };
+    ghost state = { λ p. record {
+      sent = None;
+      left = None;
+      faults = p.faults;
+      fits = may_stand (plant_state p);
+    } };
 
     fn send(&mut self, bytes: &[u8]) -> Result<(), Failed> {
         for byte in bytes {

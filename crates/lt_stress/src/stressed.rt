@@ -1,6 +1,6 @@
 //! How a large run ends.
 
-use lt_prepare::Refusal;
+use lt_frontend::Refusal;
 use lt_rif::End;
 
 /// How a large run ends.
@@ -23,6 +23,6 @@ pub enum Stressed {
     /// Memory ran out, and nothing was written. A run that its plant broke off would be told so too.
     Memory,
 
-    /// A write failed: a front of the line was written, but not all of it.
-    Untraced,
+    /// A write failed: a prefix of the line was written, but not all of it.
+    TraceWriteFailed,
 }

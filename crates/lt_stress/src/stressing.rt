@@ -1,9 +1,8 @@
 //! Large runs.
 
 ghost use Rattle.std.specs.Prelude.{◌≡◌, ◌≤◌, ℕ, false, List, IfSome};
-ghost use Rattle.lt_drive.specs.Drive.{course_of};
-ghost use Rattle.lt_drive.specs.Outside.{sink};
-ghost use Rattle.lt_loop.specs.CoreView.{standing};
+ghost use Rattle.lt_drive.specs.Drive.{continuation_of};
+ghost use Rattle.lt_loop.specs.CoreView.{core_state};
 ghost use Rattle.lt_loop.specs.Event.{WantsTell};
 ghost use Rattle.lt_loop.specs.Machine.{most_steps};
 ghost use Rattle.lt_loop.specs.Play.{Piece};
@@ -13,24 +12,24 @@ ghost use Rattle.lt_term.specs.SceneView.{scene};
 ghost use Rattle.lt_stress.specs.Run.{IsRunOf, IsSceneOf, sum_told};
 ghost use Rattle.lt_stress.specs.Scenario.{limit_of};
 ghost use Rattle.lt_stress.specs.Stressed.{IsStressed, unprepared};
-ghost use Rattle.lt_stress.specs.inner.Made.{HasRun, IsCourseOf};
-ghost use Rattle.lt_stress.specs.inner.PlantView.{plant_standing};
-ghost use Rattle.lt_stress.specs.inner.Standing.{fresh};
+ghost use Rattle.lt_stress.specs.inner.Made.{HasRun, IsContinuationOf};
+ghost use Rattle.lt_stress.specs.inner.PlantView.{plant_state};
+ghost use Rattle.lt_stress.specs.inner.PlantState.{fresh};
 
 use crate::nowhere::Nowhere;
 use crate::plant::Plant;
 use crate::report::report;
 use crate::scenario::{limit_of, scenario_text, variables_of};
 use crate::stressed::Stressed;
-use lt_drive::{Driven, drive};
+use lt_args::{DEFAULT_BUDGET, DEFAULT_DECIMALS};
+use lt_drive::{DriveEnd, drive};
+use lt_frontend::{Unprepared, scenario_of};
 use lt_io::{Failed, Sink, put};
 use lt_loop::{Core, Setup, Talk, Wants};
 use lt_play::Player;
-use lt_prepare::{Unprepared, scenario_of};
 use lt_rif::End;
 use lt_session::Recorded;
 use lt_term::Scenario;
-use lt_words::{DEFAULT_BUDGET, DEFAULT_DECIMALS};
 use std::alloc::Global;
 
 // How a run ended, how many steps it had, and the sum of all values that it told the plant.
@@ -45,7 +44,7 @@ struct Ran {
 /// its variables, its steps and the sum of all their values. Nothing else is written.
 pub fn stress<S: Sink>(alloc: Global, number: u64, trace: &mut S) -> Stressed
     requires { number ≤ 999_999 }
-    ensures { IsStressed number (sink (S.written trace.old) (S.faults trace.old)) (sink (S.written trace.new) (S.faults trace.new)) result }
+    ensures { IsStressed number (S.state trace.old) (S.state trace.new) result }
 {
     let Ok(text) = scenario_text(alloc, variables_of(number)) else {
         return Stressed::Memory;
@@ -69,7 +68,7 @@ fn unprepared(why: Unprepared) -> Stressed
 // Runs the scenario of a number, and writes the line.
 fn run<S: Sink>(alloc: Global, number: u64, scenario: Scenario, trace: &mut S) -> Stressed
     requires { IsSceneOf number (scene scenario) }
-    ensures { IsStressed number (sink (S.written trace.old) (S.faults trace.old)) (sink (S.written trace.new) (S.faults trace.new)) result }
+    ensures { IsStressed number (S.state trace.old) (S.state trace.new) result }
 {
     let Some(ran) = play(alloc, number, scenario) else {
         return Stressed::Memory;
@@ -85,15 +84,16 @@ fn run<S: Sink>(alloc: Global, number: u64, scenario: Scenario, trace: &mut S) -
 
 // Writes the line of the run of a number, which ended by its limit and has this sum.
 fn tell<S: Sink>(alloc: Global, number: u64, sum: u64, trace: &mut S) -> Stressed
-    ensures { (s : Scene) (ps : List Piece) → IsSceneOf number s → IsRunOf number s ps End.Limit → sum ≡ sum_told ps →
-        IsStressed number (sink (S.written trace.old) (S.faults trace.old)) (sink (S.written trace.new) (S.faults trace.new)) result }
+    ensures { (s : Scene) (ps : List Piece) → IsSceneOf number s → IsRunOf number s ps End.Limit →
+        sum ≡ sum_told ps →
+        IsStressed number (S.state trace.old) (S.state trace.new) result }
 {
     let Ok(line) = report(alloc, number, sum) else {
         return Stressed::Memory;
     };
     match put(trace, &line) {
         Ok(()) => Stressed::Done,
-        Err(Failed) => Stressed::Untraced,
+        Err(Failed) => Stressed::TraceWriteFailed,
     }
 }
 
@@ -115,7 +115,13 @@ fn play(alloc: Global, number: u64, scenario: Scenario) -> Option<Ran>
 
 // What the core of the run is told.
 fn setup(number: u64) -> Setup
-    ensures { result ≡ record { seed = number; limit = limit_of number; locals = false; controller = Talk.Live; oracle = false } }
+    ensures { result ≡ record {
+      seed = number;
+      limit = limit_of number;
+      locals = false;
+      controller = Talk.Live;
+      oracle = false;
+    } }
 {
     Setup {
         seed: number,
@@ -128,22 +134,24 @@ fn setup(number: u64) -> Setup
 
 // Plays the run of a core against a plant. None where memory ran out, or a side failed.
 fn play_core(core: &mut Core<Player>, plant: &mut Plant) -> Option<Ran>
-    requires { WantsTell (standing core.old) Wants.Turn }
-    ensures { (n : ℕ) (s : Scene) → IsCourseOf n s (course_of (standing core.old)) → plant_standing plant.old ≡ fresh n →
+    requires { WantsTell (core_state core.old) Wants.Turn }
+    ensures { (n : ℕ) (s : Scene) → IsContinuationOf n s (continuation_of (core_state core.old)) →
+        plant_state plant.old ≡ fresh n →
         IfSome result (λ ran. HasRun n s ran.end ran.steps ran.sum) }
 {
     let mut nobody = Recorded::new(&[]);
     match drive(core, plant, &mut nobody, &mut Nowhere) {
-        Driven::Ended(end) => unbroken(end, core.steps(), plant.sum()),
-        Driven::Starved => None,
-        Driven::Untraced { .. } => unreachable!(),
+        DriveEnd::Ended(end) => unbroken(end, core.steps(), plant.sum()),
+        DriveEnd::OutOfMemory => None,
+        DriveEnd::TraceWriteFailed { .. } => unreachable!(),
     }
 }
 
 // A run that ended so. None where a side failed, which the plant doesn't do in a run.
 fn unbroken(end: End, steps: u64, sum: u64) -> Option<Ran>
     requires { steps ≤ most_steps }
-    ensures ran { IfSome result (λ r. (r ≡ record { end = end; steps = steps; sum = sum }) × ((w : Who) → end ≡ End.Device w → ⊥)) }
+    ensures ran { IfSome result (λ r. (r ≡ record { end = end; steps = steps; sum = sum }) ×
+        ((w : Who) → end ≡ End.Device w → ⊥)) }
     ensures few { steps ≤ most_steps }
 {
     match end {

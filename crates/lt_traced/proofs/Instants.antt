@@ -85,12 +85,12 @@ locals_own ls x (v ∷ vs) (z ∷ raws) has point =
     local_own (is_in_scope ls x) v z vs (scoped ls (suc x) (values_from 1 vs (z ∷ raws))) has.0 point.0
     (subst (λ (xs : List Value). MayBeValuesOf vs (scoped ls (suc x) xs)) (sym (values_next 0 vs z raws)) (locals_own ls (suc x) vs raws has.1 point.1))
 
--- the numbers behind them stand for values of the locals
-locals_behind : (outs vs : List Variable) (ls : Lasts) (raws : List ℤ) → HaveRanges vs → IsPointOf (ranges_in (replicate (length outs) true ++ marks_from ls 0 vs) (ranges_of_all outs ++ ranges_of_all vs)) raws
+-- the numbers after them stand for values of the locals
+locals_after : (outs vs : List Variable) (ls : Lasts) (raws : List ℤ) → HaveRanges vs → IsPointOf (ranges_in (replicate (length outs) true ++ marks_from ls 0 vs) (ranges_of_all outs ++ ranges_of_all vs)) raws
     → MayBeValuesOf vs (scoped ls 0 (values_from (length outs) vs raws))
-locals_behind [] vs ls raws has point = locals_own ls 0 vs raws has point
-locals_behind (o ∷ outs) vs ls [] has point = absurd point
-locals_behind (o ∷ outs) vs ls (z ∷ raws) has point = subst (λ (xs : List Value). MayBeValuesOf vs (scoped ls 0 xs)) (sym (values_next (length outs) vs z raws)) (locals_behind outs vs ls raws has point.1)
+locals_after [] vs ls raws has point = locals_own ls 0 vs raws has point
+locals_after (o ∷ outs) vs ls [] has point = absurd point
+locals_after (o ∷ outs) vs ls (z ∷ raws) has point = subst (λ (xs : List Value). MayBeValuesOf vs (scoped ls 0 xs)) (sym (values_next (length outs) vs z raws)) (locals_after outs vs ls raws has point.1)
 
 -- ---- the first solution
 
@@ -142,7 +142,7 @@ module _ (law : FirstSolutionIsFirst) (s : Scene) (has : HasRanges s) where
   go_own : (c : Configuration) (y : List Value) (ls : Lasts) (n : Process Expression) (o : Option (List ℤ)) → IsPoint (ranges_at s ls) o → GivesOwn s (go_instant s c y ls n o)
   go_own c y ls n None point = λ outputs locals next is. absurd (cc)
   go_own c y ls n (Some raws) point =
-      values_own s (outputs_by s raws) (scoped ls 0 (locals_by s raws)) _ (outputs_own s.outputs (marks_from ls 0 s.locals) (ranges_of_all s.locals) raws has.outputs point) (locals_behind s.outputs s.locals ls raws has.locals point) refl
+      values_own s (outputs_by s raws) (scoped ls 0 (locals_by s raws)) _ (outputs_own s.outputs (marks_from ls 0 s.locals) (ranges_of_all s.locals) raws has.outputs point) (locals_after s.outputs s.locals ls raws has.locals point) refl
 
   within_own : (over : Bool) (need : ℕ) (made : i.Instant) → GivesOwn s made → GivesOwn s (if over then i.budget need else made)
   within_own true need made own = λ outputs locals next is. absurd (cc)

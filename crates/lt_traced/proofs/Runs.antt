@@ -1,10 +1,10 @@
 -- Runs of scenarios.
 use Rattle.lt_loop.specs.CoreView.{plan_of}
 use Rattle.lt_replay.specs.Replay.{ReplaysAreTheSame}
-use Rattle.lt_replay.specs.Shown.{FrontsShowTheirRun, TracesShowTheirRun}
+use Rattle.lt_replay.specs.Shown.{PrefixesShowTheirRun, TracesShowTheirRun}
 use Rattle.lt_step.specs.Machine.{State, started}
 use Rattle.lt_play.specs.Rules.{known_scene, scenario_rules}
-use Rattle.lt_traced.specs.Traced.{ScenarioFrontsShowTheirRun, ScenarioReplaysAreTheSame, ScenarioTracesShowTheirRun, ScenariosAreTraceable, ScenariosShowTheirInstants}
+use Rattle.lt_traced.specs.Traced.{ScenarioPrefixesShowTheirRun, ScenarioReplaysAreTheSame, ScenarioTracesShowTheirRun, ScenariosAreTraceable, ScenariosShowTheirInstants}
 
 module _ (can : ScenariosAreTraceable) (shows : ScenariosShowTheirInstants) where
   pub scenario_replays_are_the_same : ReplaysAreTheSame State → ScenarioReplaysAreTheSame
@@ -17,7 +17,7 @@ module _ (can : ScenariosAreTraceable) (shows : ScenariosShowTheirInstants) wher
       law scenario_rules (plan_of (known_scene scene) setup) setup.limit (started scene setup.seed budget) c o e (can decimals node text scene run.scenario) run.limit run.served
       (shows decimals node text scene setup.seed budget setup.limit run.scenario) ends_so
 
-  pub scenario_fronts_show_their_run : FrontsShowTheirRun State → ScenarioFrontsShowTheirRun
-  scenario_fronts_show_their_run law decimals node text scene budget setup c o ps rest run begins unended =
+  pub scenario_prefixes_show_their_run : PrefixesShowTheirRun State → ScenarioPrefixesShowTheirRun
+  scenario_prefixes_show_their_run law decimals node text scene budget setup c o ps rest run begins unended =
       law scenario_rules (plan_of (known_scene scene) setup) setup.limit (started scene setup.seed budget) c o ps rest (can decimals node text scene run.scenario) run.limit run.served
       (shows decimals node text scene setup.seed budget setup.limit run.scenario) begins unended

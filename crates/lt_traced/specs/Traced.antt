@@ -9,7 +9,7 @@ use Rattle.lt_loop.specs.CoreView.{plan_of}
 use Rattle.lt_loop.specs.Machine.{most_steps}
 use Rattle.lt_loop.specs.Plan.{opening_text}
 use Rattle.lt_loop.specs.Play.{Piece, Play, Stop, ends, starves, step_count, stopped}
-use Rattle.lt_loop.specs.Run.{behind_all}
+use Rattle.lt_loop.specs.Run.{pieces_then}
 use Rattle.lt_loop.specs.Scene.{first_inputs}
 use Rattle.lt_loop.specs.Stands.{is_served}
 use Rattle.lt_loop.specs.declared.setup.Setup.{Setup}
@@ -23,7 +23,7 @@ use Rattle.lt_term.specs.Fitting.{IsValueOf}
 use Rattle.lt_term.specs.Scene.{Scene, Variable}
 use Rattle.lt_play.specs.Rules.{known_scene, scenario_rules}
 use Rattle.lt_play.specs.Run.{scenario_play}
-use Rattle.lt_prepare.specs.Prepared.{IsScenarioAnswer}
+use Rattle.lt_frontend.specs.Prepared.{IsScenarioAnswer}
 
 -- This is the scenario of a text, where reals have so many decimals, as many as may be, and this node is asked for.
 pub record IsScenarioOf (decimals : ℕ) (node : Option (List ℕ)) (text : List ℕ) (scene : Scene) : Type 0 where
@@ -106,9 +106,9 @@ ScenarioTracesShowTheirRun =
     (let run = scenario_play scene budget setup c o in
     run.stop ≡ ends e → IsTold (plan_of (known_scene scene) setup) e (shown_run scene budget setup run.pieces run.stop) run)
 
--- Where it was cut behind some pieces, before its end, the play on what they show begins with these pieces.
-abbrev pub ScenarioFrontsShowTheirRun : Type 0
-ScenarioFrontsShowTheirRun =
+-- Where it was cut after some pieces, before its end, the play on what they show begins with these pieces.
+abbrev pub ScenarioPrefixesShowTheirRun : Type 0
+ScenarioPrefixesShowTheirRun =
     (decimals : ℕ) (node : Option (List ℕ)) (text : List ℕ) (scene : Scene) (budget : ℕ) (setup : Setup) (c o : Stream) (ps : List Piece) (rest : Play) → IsRunOf decimals node text scene setup →
-    scenario_play scene budget setup c o ≡ behind_all ps rest → ((e : End) → rest ≢ stopped (ends e)) →
+    scenario_play scene budget setup c o ≡ pieces_then ps rest → ((e : End) → rest ≢ stopped (ends e)) →
     Begins (shown_run scene budget setup ps starves) ps

@@ -1,13 +1,13 @@
 //! The laws. The functions do nothing: their contracts say them.
 
-ghost use Rattle.lt_traced.specs.Traced.{InstantsGiveTheirOwn, ScenarioFrontsShowTheirRun, ScenarioReplaysAreTheSame, ScenarioTracesShowTheirRun, ScenariosAreTraceable, ScenariosShowTheirInstants};
+ghost use Rattle.lt_traced.specs.Traced.{InstantsGiveTheirOwn, ScenarioPrefixesShowTheirRun, ScenarioReplaysAreTheSame, ScenarioTracesShowTheirRun, ScenariosAreTraceable, ScenariosShowTheirInstants};
 
 use lt_formula::first_solution_is_first;
 use lt_lexer::tokens_stand_in_turn;
 use lt_macros::names_are_there;
 use lt_parser::program_is_written_as_spelled;
 use lt_play::Player;
-use lt_replay::{fronts_show_their_run, replays_are_the_same, traces_show_their_run};
+use lt_replay::{prefixes_show_their_run, replays_are_the_same, traces_show_their_run};
 
 /// The trace of every scenario can be read back: it has few variables, and no name has a line feed.
 pub fn scenarios_are_traceable()
@@ -56,10 +56,10 @@ pub fn scenario_traces_show_their_run()
 }
 
 /// So is a run of a scenario that was cut before its end.
-pub fn scenario_fronts_show_their_run()
-    ensures { ScenarioFrontsShowTheirRun }
+pub fn scenario_prefixes_show_their_run()
+    ensures { ScenarioPrefixesShowTheirRun }
 {
     scenarios_are_traceable();
     scenarios_show_their_instants();
-    fronts_show_their_run::<Player>();
+    prefixes_show_their_run::<Player>();
 }

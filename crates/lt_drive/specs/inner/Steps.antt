@@ -3,54 +3,57 @@ use Rattle.std.specs.Prelude.{◌≡◌, ◌≢◌, ℕ, ◌+◌, ◌<◌, ◌�
 use Rattle.std.specs.Io.KnownBytes.{Appends}
 use Rattle.std.specs.declared.option.Option.{Option}
 use Rattle.lt_io.specs.Causes.{Rose}
-use Rattle.lt_io.specs.Sending.{AppendsPart}
+use Rattle.lt_io.specs.Sending.{AppendsProperPrefix}
+use Rattle.lt_rif.specs.Trace.{end_number, step_at_hand}
 use Rattle.lt_rif.specs.declared.end.End.TheVariants as end
 use Rattle.lt_rif.specs.declared.end.Who.{Who}
 use Rattle.lt_rif.specs.declared.end.Who.TheVariants as who
 use Rattle.lt_loop.specs.Event.{Told, play_due, taken_of, WantsTell}
 use Rattle.lt_loop.specs.Plan.{closing_text}
 use Rattle.lt_loop.specs.Play.{Piece, Play, destination_of}
-use Rattle.lt_loop.specs.Run.{behind_all}
+use Rattle.lt_loop.specs.Run.{pieces_then}
 use Rattle.lt_loop.specs.Side.{Rest}
-use Rattle.lt_loop.specs.Standing.{Standing, resume}
+use Rattle.lt_loop.specs.CoreState.{CoreState, resume}
 use Rattle.lt_loop.specs.Work.{work_left}
 use Rattle.lt_loop.specs.declared.event.Destination.{Destination}
 use Rattle.lt_loop.specs.declared.event.Destination.TheVariants as destination
 use Rattle.lt_loop.specs.declared.event.PieceKind.{PieceKind}
 use Rattle.lt_loop.specs.declared.phase.Phase.TheVariants as phase
-use Rattle.lt_drive.specs.Drive.{Course, HasPutOut, IsDriven, IsUnended, course_of, play_on}
-use Rattle.lt_drive.specs.Outside.{Happens, Outside, Received, Sink, piece, silence}
-use Rattle.lt_drive.specs.declared.driven.Driven.{Driven}
-use Rattle.lt_drive.specs.declared.driven.Driven.TheVariants as driven
+use Rattle.lt_drive.specs.Drive.{Continuation, HasPutOut, IsDriven, IsUnended, continuation_of, play_on}
+use Rattle.lt_drive.specs.Interaction.{Interaction, Received, piece, silence}
+use Rattle.lt_io.specs.Outside.{Links, Outside}
+use Rattle.lt_io.specs.Sink.{Sink}
+use Rattle.lt_drive.specs.declared.drive_end.DriveEnd.{DriveEnd}
+use Rattle.lt_drive.specs.declared.drive_end.DriveEnd.TheVariants as drive_end
 use Rattle.lt_drive.specs.declared.progress.Progress.{Progress}
 use Rattle.lt_drive.specs.declared.progress.Progress.TheVariants as progress
 
 -- what is left of a run from an event on
-abbrev pub course_due : {State : Type 0} → Standing State → Told → Course
-course_due s e = record { plan = s.plan; written = s.written; play = play_due e (taken_of s e) s }
+abbrev pub continuation_due : {State : Type 0} → CoreState State → Told → Continuation
+continuation_due s e = record { plan = s.plan; written = s.written; play = play_due e (taken_of s e) s }
 
 -- What is left of a run was driven up to where a core stands: what was given out, and what the core will put out, is the
 -- play, unless memory ran out, and then the play isn't over.
-pub record Goes {State : Type 0} (k : Course) (old new : Outside) (core : Standing State) : Type 0 where
+pub record Goes {State : Type 0} (k : Continuation) (old new : Outside Links) (core : CoreState State) : Type 0 where
   pub received : Received
   pub pieces : List Piece
-  pub happens : Happens old new received pieces None false
+  pub interaction : Interaction old new received pieces None false
   pub counts : HasPutOut k pieces core
-  pub way : (c o : Rest) → (rest : Play) × (play_on k received c o ≡ behind_all pieces rest) × (core.phase ≢ phase.Starved → rest ≡ resume core c o) × (core.phase ≡ phase.Starved → IsUnended rest)
+  pub way : (c o : Rest) → (rest : Play) × (play_on k received c o ≡ pieces_then pieces rest) × (core.phase ≢ phase.OutOfMemory → rest ≡ resume core c o) × (core.phase ≡ phase.OutOfMemory → IsUnended rest)
 
 -- it goes on, or is over
-abbrev pub Proceeds : {State : Type 0} → Course → Outside → Outside → Standing State → Progress → Type 0
+abbrev pub Proceeds : {State : Type 0} → Continuation → Outside Links → Outside Links → CoreState State → Progress → Type 0
 Proceeds k old new core (progress.Goes w) = Goes k old new core × WantsTell core w
 Proceeds k old new core (progress.Over d) = IsDriven k old new core d
 
--- the same from a standing on: it may be over before, since memory ran out
-abbrev pub Steps : {State : Type 0} → Standing State → Outside → Outside → Standing State → Progress → Type 0
-Steps s old new core (progress.Goes w) = (s.phase ≢ phase.Starved) × Goes (course_of s) old new core × WantsTell core w
+-- the same from a state on: it may be over before, since memory ran out
+abbrev pub Steps : {State : Type 0} → CoreState State → Outside Links → Outside Links → CoreState State → Progress → Type 0
+Steps s old new core (progress.Goes w) = (s.phase ≢ phase.OutOfMemory) × Goes (continuation_of s) old new core × WantsTell core w
 Steps s old new core (progress.Over d) =
-    ((s.phase ≢ phase.Starved) × IsDriven (course_of s) old new core d) ⊎ ((s.phase ≡ phase.Starved) × (d ≡ driven.Starved) × (core ≡ s) × (new ≡ old))
+    ((s.phase ≢ phase.OutOfMemory) × IsDriven (continuation_of s) old new core d) ⊎ ((s.phase ≡ phase.OutOfMemory) × (d ≡ drive_end.OutOfMemory) × (core ≡ s) × (new ≡ old))
 
 -- where it goes on, less is left to do
-abbrev pub Falls : {State : Type 0} → Standing State → Standing State → Progress → Type 0
+abbrev pub Falls : {State : Type 0} → CoreState State → CoreState State → Progress → Type 0
 Falls s core (progress.Goes w) = work_left core < work_left s
 Falls s core (progress.Over d) = Unit {0}
 
@@ -64,23 +67,23 @@ abbrev pub is_trace : Destination → Bool
 is_trace destination.Trace = true
 is_trace _ = false
 
--- a piece could not be given to where it goes, but for a front; to the trace that is not all of it
-abbrev pub GivesPart : PieceKind → List ℕ → Outside → Outside → Type 0
+-- a piece could not be given to where it goes, but for a prefix; to the trace that is not all of it
+abbrev pub GivesPart : PieceKind → List ℕ → Outside Links → Outside Links → Type 0
 GivesPart kind text old new =
-    (front : List ℕ) × (rest : List ℕ) × (text ≡ front ++ rest) × (destination_of kind ≡ destination.Trace → 0 < length rest)
-    × Happens old new silence (piece kind front ∷ []) (side_at (destination_of kind)) (is_trace (destination_of kind))
+    (prefix : List ℕ) × (rest : List ℕ) × (text ≡ prefix ++ rest) × (destination_of kind ≡ destination.Trace → 0 < length rest)
+    × Interaction old new silence (piece kind prefix ∷ []) (side_at (destination_of kind)) (is_trace (destination_of kind))
 
 -- the end line of a side's fault
-abbrev pub fault_text : {State : Type 0} → Standing State → Who → List ℕ
-fault_text s w = closing_text s.plan (end.Device w) (s.written + 1)
+abbrev pub fault_text : {State : Type 0} → CoreState State → Who → List ℕ
+fault_text s w = closing_text s.plan (end.Device w) (end_number (end.Device w) s.written)
 
 -- a core has the plan and the steps of before
-abbrev pub StandsAs : {State : Type 0} → Standing State → Standing State → Type 0
+abbrev pub StandsAs : {State : Type 0} → CoreState State → CoreState State → Type 0
 StandsAs s core = (core.plan ≡ s.plan) × (core.written ≡ s.written)
 
 -- A run was ended by the fault of a side: its end line was written, or not all of it.
-abbrev pub Fails : {State : Type 0} → Standing State → Who → Sink → Sink → Standing State → Driven → Type 0
-Fails s w old new core (driven.Ended e) =
+abbrev pub Fails : {State : Type 0} → CoreState State → Who → Sink → Sink → CoreState State → DriveEnd → Type 0
+Fails s w old new core (drive_end.Ended e) =
     (e ≡ end.Device w) × (core.phase ≡ phase.Over e) × StandsAs s core × Appends old.written new.written (fault_text s w) × (new.faults ≡ old.faults)
-Fails s w old new core (driven.Untraced n) = (n ≡ s.written + 1) × StandsAs s core × AppendsPart old.written new.written (fault_text s w) × Rose old.faults new.faults
-Fails s w old new core driven.Starved = ⊥
+Fails s w old new core (drive_end.TraceWriteFailed n) = (n ≡ step_at_hand s.written) × StandsAs s core × AppendsProperPrefix old.written new.written (fault_text s w) × Rose old.faults new.faults
+Fails s w old new core drive_end.OutOfMemory = ⊥

@@ -7,11 +7,11 @@ use Rattle.lt_plants.specs.declared.plant.Plant.{Plant}
 use Rattle.lt_plants.specs.declared.ending.Ending.{Ending}
 use Rattle.lt_plants.specs.declared.ending.Ending.TheVariants as ending
 
--- what is due, as replies and a number, to the bytes that come behind a text
-abbrev pub due_behind : Plant → Bool → List ℕ → List ℕ → List ℕ → ℕ → Type 0
-due_behind plant last text = λ bytes replies number. IsDue plant last (input_of text bytes) replies number
+-- what is due, as replies and a number, to the bytes that come after a text
+abbrev pub due_after : Plant → Bool → List ℕ → List ℕ → List ℕ → ℕ → Type 0
+due_after plant last text = λ bytes replies number. IsDue plant last (input_of text bytes) replies number
 
--- Some replies were sent, and whatever is due now was due before behind these replies.
+-- Some replies were sent, and whatever is due now was due before after these replies.
 abbrev pub GoesOn : Option (List ℕ) → Option (List ℕ) → (List ℕ → List ℕ → ℕ → Type 0) → (List ℕ → List ℕ → ℕ → Type 0) → Type 0
 GoesOn before now due_before due_now =
     (sent : List ℕ) × Appends before now sent × ((bytes replies : List ℕ) (number : ℕ) → due_now bytes replies number → due_before bytes (sent ++ replies) number)
@@ -28,12 +28,12 @@ HasEnding before now due ending.Failed = Unit {0}
 HasEnding before now due ending.Ended = ⊥
 HasEnding before now due ending.TooMany = ⊥
 
--- how a service ends behind so many bytes, where it would end so
+-- how a service ends after so many bytes, where it would end so
 abbrev pub limited_of : ℕ → Ending → Ending
 limited_of taken ending.Failed = ending.Failed
 limited_of taken e = if nat_lt taken most_taken then e else ending.TooMany
 
--- how a service ends behind so many bytes, of which the last ones are at hand
+-- how a service ends after so many bytes, of which the last ones are at hand
 abbrev pub EndsAfter : Option (List ℕ) → Option (List ℕ) → (List ℕ → List ℕ → ℕ → Type 0) → ℕ → Ending → Type 0
 EndsAfter before now due taken ending.NoReply = (taken < most_taken) × EndsWith before now due 1
 EndsAfter before now due taken ending.TooLong = (taken < most_taken) × EndsWith before now due 2
@@ -49,10 +49,10 @@ Serves plant last left_before left before now ending.Ended =
     × ((sent : List ℕ) × Appends before now sent × IsDue plant last (input_of [] taken) sent 0)
 Serves plant last left_before left before now ending.NoReply =
     (taken : List ℕ) × Consumes left_before left taken × (length taken < most_taken)
-    × EndsWith before now (λ bytes. due_behind plant last [] (taken ++ bytes)) 1
+    × EndsWith before now (λ bytes. due_after plant last [] (taken ++ bytes)) 1
 Serves plant last left_before left before now ending.TooLong =
     (taken : List ℕ) × Consumes left_before left taken × (length taken < most_taken)
-    × EndsWith before now (λ bytes. due_behind plant last [] (taken ++ bytes)) 2
+    × EndsWith before now (λ bytes. due_after plant last [] (taken ++ bytes)) 2
 Serves plant last left_before left before now ending.TooMany =
     (taken : List ℕ) × Consumes left_before left taken × (most_taken ≤ length taken)
     × ((sent : List ℕ) × (number : ℕ) × Appends before now sent × IsDue plant last (input_of [] taken) sent number)

@@ -27,8 +27,8 @@ IsScaled number (Some scaled) =
     × (scaled.left ≤ 1017)
 
 -- what stands after the mark of an exponent, where there is one
-abbrev pub behind_mark : List ℕ → Option (List ℕ)
-behind_mark number = option_map (λ _. after_first is_mark number) (position is_mark number)
+abbrev pub after_mark : List ℕ → Option (List ℕ)
+after_mark number = option_map (λ _. after_first is_mark number) (position is_mark number)
 
 -- Where an exponent moves the point, to the right and to the left; none where it isn't one.
 abbrev pub IsMove : Option (List ℕ) → Option (ℕ × ℕ) → Type 0

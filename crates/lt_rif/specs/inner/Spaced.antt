@@ -11,14 +11,14 @@ abbrev pub before_space : List (List ℕ) → List ℕ
 before_space words = flat_map (λ word. word ++ codes " ") words
 
 -- a space before each
-abbrev pub behind_space : List (List ℕ) → List ℕ
-behind_space words = flat_map (λ word. codes " " ++ word) words
+abbrev pub after_space : List (List ℕ) → List ℕ
+after_space words = flat_map (λ word. codes " " ++ word) words
 
 -- the line of a step's values, from left to right
 abbrev pub step_layout : ℕ → List Kind → List Value → List Value → Option (List (Option Value)) → List ℕ
 step_layout decimals kinds outputs inputs locals =
     before_space (value_words decimals kinds outputs)
     ++ codes "#outs"
-    ++ behind_space (value_words decimals (drop (length outputs) kinds) inputs)
-    ++ behind_space (locals_part decimals (drop (length outputs + length inputs) kinds) locals)
+    ++ after_space (value_words decimals (drop (length outputs) kinds) inputs)
+    ++ after_space (locals_part decimals (drop (length outputs + length inputs) kinds) locals)
     ++ 10 ∷ []

@@ -1,6 +1,6 @@
 -- The run of a number as it is made.
 use Rattle.std.specs.Prelude.{◌≡◌, ◌≢◌, ◌≤◌, ℕ, List}
-use Rattle.lt_drive.specs.Drive.{Course}
+use Rattle.lt_drive.specs.Drive.{Continuation}
 use Rattle.lt_loop.specs.Machine.{most_steps}
 use Rattle.lt_loop.specs.Play.{Piece, step_count}
 use Rattle.lt_loop.specs.Side.{Rest}
@@ -11,7 +11,7 @@ use Rattle.lt_term.specs.Scene.{Scene}
 use Rattle.lt_stress.specs.Run.{IsRunOf, run_of, sum_told}
 
 -- this is the course of the run, of which nothing was put out
-pub record IsCourseOf (n : ℕ) (scene : Scene) (k : Course) : Type 0 where
+pub record IsContinuationOf (n : ℕ) (scene : Scene) (k : Continuation) : Type 0 where
   pub unwritten : k.written ≡ 0
   pub plays : (controller oracle : Rest) → k.play controller oracle ≡ run_of n scene controller oracle
 

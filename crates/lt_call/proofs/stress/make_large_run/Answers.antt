@@ -11,16 +11,12 @@ status_of-requires g c = few_steps _ _ _ c.stress-how.result c.stress-how.ensure
 pub returns-clause-stressed : goal.returns-clause-stressed
 returns-clause-stressed g c = (c.stress-how.result, c.stress-how.ensures, c.status_of.ensures)
 
-pub returns-clause-no_usage : goal.returns-clause-no_usage
-returns-clause-no_usage g c = λ kind e. never_usage c.stress-how.result kind (sym c.status_of.ensures ∙ e)
-
-pub returns-clause-no_file : goal.returns-clause-no_file
-returns-clause-no_file g c = ap (λ (s : Status). blames s File) c.status_of.ensures ∙ no_file c.stress-how.result
-
-pub returns-clause-no_program : goal.returns-clause-no_program
-returns-clause-no_program g c = λ w. ap (λ (s : Status). blames s (Program w)) c.status_of.ensures ∙ no_program _ _ _ c.stress-how.result w c.stress-how.ensures
-
-pub returns-clause-trace : goal.returns-clause-trace
-returns-clause-trace g c =
-    subst (λ (s : Status). IsCounted Trace (blames s Trace) (g.S.Sink.faults c.args.trace.now) (g.S.Sink.faults c.stress-how.new.trace)) (sym c.status_of.ensures)
-    (trace_counted _ _ _ c.stress-how.result c.stress-how.ensures)
+pub returns-clause-blames : goal.returns-clause-blames
+returns-clause-blames g c = record {
+  no_usage = λ kind e. never_usage c.stress-how.result kind (sym c.status_of.ensures ∙ e);
+  no_file = ap (λ (s : Status). blames s File) c.status_of.ensures ∙ no_file c.stress-how.result;
+  no_program = λ w. ap (λ (s : Status). blames s (Program w)) c.status_of.ensures ∙ no_program _ _ _ c.stress-how.result w c.stress-how.ensures;
+  trace =
+      subst (λ (s : Status). IsCounted Trace (blames s Trace) (g.S.Sink.state c.args.trace.now).faults (g.S.Sink.state c.stress-how.new.trace).faults) (sym c.status_of.ensures)
+      (trace_counted _ _ _ c.stress-how.result c.stress-how.ensures);
+}

@@ -1,6 +1,6 @@
 use Rattle.std.proofs.Common.{subst, sym}
 use Rattle.lt_rif.specs.declared.end.Who.{Who}
-use Rattle.lt_loop.specs.CoreView.{last_text, standing}
+use Rattle.lt_loop.specs.CoreView.{last_text, core_state}
 use Rattle.lt_loop.specs.Event.{failed}
 use Rattle.lt_loop.specs.Run.{Answer, Answers}
 use Rattle.lt_drive.proofs.Telling.{fault_told}
@@ -8,8 +8,8 @@ use Rattle.lt_drive.proofs.giving.tell_fault.Goals as goal
 
 pub returns-in-Controller : goal.returns-in-Controller
 returns-in-Controller g c =
-    let s = standing {b = g.M.Machine} c.args.core.now in
-    let new = standing {b = g.M.Machine} c.event.new.self in
+    let s = core_state {b = g.M.Machine} c.args.core.now in
+    let new = core_state {b = g.M.Machine} c.event.new.self in
     let told = c.event.ensures in
     let a : Answer = record { taken = c.event.result.taken; piece = c.event.result.piece; text = last_text {b = g.M.Machine} c.event.new.self; wanted = c.event.result.wants } in
     let answers : Answers s (failed c.args.who) a new = subst (λ (w : Who). Answers s (failed w) a new) (sym c.in-Controller.is) (record {
@@ -32,8 +32,8 @@ returns-in-Controller g c =
 
 pub returns-in-Oracle : goal.returns-in-Oracle
 returns-in-Oracle g c =
-    let s = standing {b = g.M.Machine} c.args.core.now in
-    let new = standing {b = g.M.Machine} c.event-in-Oracle.new.self in
+    let s = core_state {b = g.M.Machine} c.args.core.now in
+    let new = core_state {b = g.M.Machine} c.event-in-Oracle.new.self in
     let told = c.event-in-Oracle.ensures in
     let a : Answer = record { taken = c.event-in-Oracle.result.taken; piece = c.event-in-Oracle.result.piece; text = last_text {b = g.M.Machine} c.event-in-Oracle.new.self; wanted = c.event-in-Oracle.result.wants } in
     let answers : Answers s (failed c.args.who) a new = subst (λ (w : Who). Answers s (failed w) a new) (sym c.in-Oracle.is) (record {

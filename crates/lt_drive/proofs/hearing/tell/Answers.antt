@@ -2,35 +2,31 @@ use Rattle.std.proofs.Common.{◌+◌, ℕ, List, Some, ap, subst, sym, ◌∙�
 use Rattle.std.proofs.KnownBytes.{Keeps-refl}
 use Rattle.std.specs.declared.option.Option.{Option}
 use Rattle.lt_rif.specs.declared.end.Who.TheVariants as who
-use Rattle.lt_loop.specs.CoreView.{last_text, standing}
+use Rattle.lt_loop.specs.CoreView.{last_text, core_state}
 use Rattle.lt_loop.specs.Event.{told, play_due, steps_in, MayStarve}
-use Rattle.lt_loop.specs.Standing.{PutsOut}
+use Rattle.lt_loop.specs.CoreState.{PutsOut}
 use Rattle.lt_loop.specs.declared.event.PieceKind.{PieceKind}
-use Rattle.lt_drive.specs.Outside.{Outside, link, sink}
+use Rattle.lt_io.specs.Outside.{Links, Outside, linked}
 use Rattle.lt_drive.proofs.Sides.{asked_where_put, has_where_put, listens_where_put}
 use Rattle.lt_drive.proofs.Telling.{broken_off, fed_where_put, goes_with, goes_without}
 use Rattle.lt_drive.proofs.hearing.tell.Goals as goal
 
 pub returns-in_default-clause-proceeds : goal.returns-in_default-clause-proceeds
 returns-in_default-clause-proceeds g c =
-    let s = standing {b = g.M.Machine} c.args.core.now in
-    let new = standing {b = g.M.Machine} c.event-emits.new.self in
+    let s = core_state {b = g.M.Machine} c.args.core.now in
+    let new = core_state {b = g.M.Machine} c.event-emits.new.self in
     let text = last_text {b = g.M.Machine} c.event-emits.new.self in
     let taken = c.event-emits.result.taken in
     let put = c.event-emits.ensures in
     let out = subst (λ (p : Option PieceKind). PutsOut (play_due (told c.args.event) taken s) p text new) c.in_default.is put.out in
     let counts = put.counts ∙ ap (λ (p : Option PieceKind). s.written + steps_in p) c.in_default.is in
-    let old : Outside = record {
-      controller = link (g.C.Link.sent c.args.controller.now) (g.C.Link.left c.args.controller.now) (g.C.Link.faults c.args.controller.now) (g.C.Link.fits c.args.controller.now);
-      oracle = link (g.O.Link.sent c.args.oracle.now) (g.O.Link.left c.args.oracle.now) (g.O.Link.faults c.args.oracle.now) (g.O.Link.fits c.args.oracle.now);
-      trace = sink (g.S.Sink.written c.args.trace.now) (g.S.Sink.faults c.args.trace.now);
-    } in
+    let old : Outside Links = linked (g.C.Link.state c.args.controller.now) (g.O.Link.state c.args.oracle.now) (g.S.Sink.state c.args.trace.now) in
     (goes_without s new (told c.args.event) taken text put.taken old c.event-emits.result.wants out put.wants (λ memory. subst (MayStarve s.phase s.left) c.in_default.is (put.starves memory)) put.plan counts, put.wants)
 
 pub break_off-requires : goal.break_off-requires
 break_off-requires g c = λ w goes.
-    let s = standing {b = g.M.Machine} c.args.core.now in
-    let new = standing {b = g.M.Machine} c.event-emits.new.self in
+    let s = core_state {b = g.M.Machine} c.args.core.now in
+    let new = core_state {b = g.M.Machine} c.event-emits.new.self in
     let text = last_text {b = g.M.Machine} c.event-emits.new.self in
     let taken = c.event-emits.result.taken in
     let put = c.event-emits.ensures in
@@ -40,8 +36,8 @@ break_off-requires g c = λ w goes.
 
 pub returns-in-Ok-clause-proceeds : goal.returns-in-Ok-clause-proceeds
 returns-in-Ok-clause-proceeds g c =
-    let s = standing {b = g.M.Machine} c.args.core.now in
-    let new = standing {b = g.M.Machine} c.event-emits.new.self in
+    let s = core_state {b = g.M.Machine} c.args.core.now in
+    let new = core_state {b = g.M.Machine} c.event-emits.new.self in
     let text = last_text {b = g.M.Machine} c.event-emits.new.self in
     let taken = c.event-emits.result.taken in
     let put = c.event-emits.ensures in
@@ -50,24 +46,16 @@ returns-in-Ok-clause-proceeds g c =
     let fed = fed_where_put s new c.event-emits.result.wants c.in-Some.kind put.wants (λ memory. subst (MayStarve s.phase s.left) c.in-Some.is (put.starves memory)) in
     let counts = put.counts ∙ ap (λ (p : Option PieceKind). s.written + steps_in p) c.in-Some.is in (
       goes_with s new (told c.args.event) taken c.text.result.now put.taken c.in-Some.kind fed lent put.plan counts
-          (record {
-            controller = link (g.C.Link.sent c.args.controller.now) (g.C.Link.left c.args.controller.now) (g.C.Link.faults c.args.controller.now) (g.C.Link.fits c.args.controller.now);
-            oracle = link (g.O.Link.sent c.args.oracle.now) (g.O.Link.left c.args.oracle.now) (g.O.Link.faults c.args.oracle.now) (g.O.Link.fits c.args.oracle.now);
-            trace = sink (g.S.Sink.written c.args.trace.now) (g.S.Sink.faults c.args.trace.now);
-          })
-          (record {
-            controller = link (g.C.Link.sent c.give.new.controller) (g.C.Link.left c.give.new.controller) (g.C.Link.faults c.give.new.controller) (g.C.Link.fits c.give.new.controller);
-            oracle = link (g.O.Link.sent c.give.new.oracle) (g.O.Link.left c.give.new.oracle) (g.O.Link.faults c.give.new.oracle) (g.O.Link.fits c.give.new.oracle);
-            trace = sink (g.S.Sink.written c.give.new.trace) (g.S.Sink.faults c.give.new.trace);
-          })
+          (linked (g.C.Link.state c.args.controller.now) (g.O.Link.state c.args.oracle.now) (g.S.Sink.state c.args.trace.now))
+          (linked (g.C.Link.state c.give.new.controller) (g.O.Link.state c.give.new.oracle) (g.S.Sink.state c.give.new.trace))
           c.in-Ok.ensures.whole,
       put.wants,
     )
 
 pub returns-in-Ok-clause-no_controller : goal.returns-in-Ok-clause-no_controller
 returns-in-Ok-clause-no_controller g c = λ none.
-    let s = standing {b = g.M.Machine} c.args.core.now in
-    let new = standing {b = g.M.Machine} c.event-emits.new.self in
+    let s = core_state {b = g.M.Machine} c.args.core.now in
+    let new = core_state {b = g.M.Machine} c.event-emits.new.self in
     let text = last_text {b = g.M.Machine} c.event-emits.new.self in
     let taken = c.event-emits.result.taken in
     let put = c.event-emits.ensures in
@@ -77,20 +65,20 @@ returns-in-Ok-clause-no_controller g c = λ none.
 
 pub returns-in-Ok-clause-untold : goal.returns-in-Ok-clause-untold
 returns-in-Ok-clause-untold g c = λ none.
-    let s = standing {b = g.M.Machine} c.args.core.now in
-    let new = standing {b = g.M.Machine} c.event-emits.new.self in
+    let s = core_state {b = g.M.Machine} c.args.core.now in
+    let new = core_state {b = g.M.Machine} c.event-emits.new.self in
     let text = last_text {b = g.M.Machine} c.event-emits.new.self in
     let taken = c.event-emits.result.taken in
     let put = c.event-emits.ensures in
     let out = subst (λ (p : Option PieceKind). PutsOut (play_due (told c.args.event) taken s) p text new) c.in-Some.is put.out in
     let fed = fed_where_put s new c.event-emits.result.wants c.in-Some.kind put.wants (λ memory. subst (MayStarve s.phase s.left) c.in-Some.is (put.starves memory)) in
     let same = c.give.ensures.no_controller (λ goes. cc (asked_where_put s new (told c.args.event) taken c.in-Some.kind text who.Controller fed out goes, none)) in
-    rw same (Keeps-refl (g.C.Link.sent c.args.controller.now))
+    rw same (Keeps-refl (g.C.Link.state c.args.controller.now).sent)
 
 pub returns-in-Ok-clause-no_oracle : goal.returns-in-Ok-clause-no_oracle
 returns-in-Ok-clause-no_oracle g c = λ none.
-    let s = standing {b = g.M.Machine} c.args.core.now in
-    let new = standing {b = g.M.Machine} c.event-emits.new.self in
+    let s = core_state {b = g.M.Machine} c.args.core.now in
+    let new = core_state {b = g.M.Machine} c.event-emits.new.self in
     let text = last_text {b = g.M.Machine} c.event-emits.new.self in
     let taken = c.event-emits.result.taken in
     let put = c.event-emits.ensures in
@@ -100,8 +88,8 @@ returns-in-Ok-clause-no_oracle g c = λ none.
 
 pub returns-in-Err-clause-proceeds : goal.returns-in-Err-clause-proceeds
 returns-in-Err-clause-proceeds g c =
-    let s = standing {b = g.M.Machine} c.args.core.now in
-    let new = standing {b = g.M.Machine} c.event-emits.new.self in
+    let s = core_state {b = g.M.Machine} c.args.core.now in
+    let new = core_state {b = g.M.Machine} c.event-emits.new.self in
     let text = last_text {b = g.M.Machine} c.event-emits.new.self in
     let taken = c.event-emits.result.taken in
     let put = c.event-emits.ensures in
@@ -110,25 +98,17 @@ returns-in-Err-clause-proceeds g c =
     let fed = fed_where_put s new c.event-emits.result.wants c.in-Some.kind put.wants (λ memory. subst (MayStarve s.phase s.left) c.in-Some.is (put.starves memory)) in
     let counts = put.counts ∙ ap (λ (p : Option PieceKind). s.written + steps_in p) c.in-Some.is in
     broken_off s new (told c.args.event) taken c.text.result.now put.taken c.in-Some.kind fed lent put.plan counts
-    (record {
-      controller = link (g.C.Link.sent c.args.controller.now) (g.C.Link.left c.args.controller.now) (g.C.Link.faults c.args.controller.now) (g.C.Link.fits c.args.controller.now);
-      oracle = link (g.O.Link.sent c.args.oracle.now) (g.O.Link.left c.args.oracle.now) (g.O.Link.faults c.args.oracle.now) (g.O.Link.fits c.args.oracle.now);
-      trace = sink (g.S.Sink.written c.args.trace.now) (g.S.Sink.faults c.args.trace.now);
-    })
-    (record {
-      controller = link (g.C.Link.sent c.give.new.controller) (g.C.Link.left c.give.new.controller) (g.C.Link.faults c.give.new.controller) (g.C.Link.fits c.give.new.controller);
-      oracle = link (g.O.Link.sent c.give.new.oracle) (g.O.Link.left c.give.new.oracle) (g.O.Link.faults c.give.new.oracle) (g.O.Link.fits c.give.new.oracle);
-      trace = sink (g.S.Sink.written c.give.new.trace) (g.S.Sink.faults c.give.new.trace);
-    })
-    (sink (g.S.Sink.written c.break_off.new.trace) (g.S.Sink.faults c.break_off.new.trace)) (standing {b = g.M.Machine} c.break_off.new.core) c.break_off.result
+    (linked (g.C.Link.state c.args.controller.now) (g.O.Link.state c.args.oracle.now) (g.S.Sink.state c.args.trace.now))
+    (linked (g.C.Link.state c.give.new.controller) (g.O.Link.state c.give.new.oracle) (g.S.Sink.state c.give.new.trace))
+    (g.S.Sink.state c.break_off.new.trace) (core_state {b = g.M.Machine} c.break_off.new.core) c.break_off.result
     c.in-Err.ensures.part c.break_off.ensures.side c.break_off.ensures.traced
-    (λ goes. ap (λ x. standing {b = g.M.Machine} x) (c.break_off.ensures.same_core goes))
-    (λ goes. ap (λ x. sink (g.S.Sink.written x) (g.S.Sink.faults x)) (c.break_off.ensures.same_trace goes))
+    (λ goes. ap (λ x. core_state {b = g.M.Machine} x) (c.break_off.ensures.same_core goes))
+    (λ goes. ap (λ x. (g.S.Sink.state x)) (c.break_off.ensures.same_trace goes))
 
 pub returns-in-Err-clause-no_controller : goal.returns-in-Err-clause-no_controller
 returns-in-Err-clause-no_controller g c = λ none.
-    let s = standing {b = g.M.Machine} c.args.core.now in
-    let new = standing {b = g.M.Machine} c.event-emits.new.self in
+    let s = core_state {b = g.M.Machine} c.args.core.now in
+    let new = core_state {b = g.M.Machine} c.event-emits.new.self in
     let text = last_text {b = g.M.Machine} c.event-emits.new.self in
     let taken = c.event-emits.result.taken in
     let put = c.event-emits.ensures in
@@ -138,20 +118,20 @@ returns-in-Err-clause-no_controller g c = λ none.
 
 pub returns-in-Err-clause-untold : goal.returns-in-Err-clause-untold
 returns-in-Err-clause-untold g c = λ none.
-    let s = standing {b = g.M.Machine} c.args.core.now in
-    let new = standing {b = g.M.Machine} c.event-emits.new.self in
+    let s = core_state {b = g.M.Machine} c.args.core.now in
+    let new = core_state {b = g.M.Machine} c.event-emits.new.self in
     let text = last_text {b = g.M.Machine} c.event-emits.new.self in
     let taken = c.event-emits.result.taken in
     let put = c.event-emits.ensures in
     let out = subst (λ (p : Option PieceKind). PutsOut (play_due (told c.args.event) taken s) p text new) c.in-Some.is put.out in
     let fed = fed_where_put s new c.event-emits.result.wants c.in-Some.kind put.wants (λ memory. subst (MayStarve s.phase s.left) c.in-Some.is (put.starves memory)) in
     let same = c.give.ensures.no_controller (λ goes. cc (asked_where_put s new (told c.args.event) taken c.in-Some.kind text who.Controller fed out goes, none)) in
-    rw same (Keeps-refl (g.C.Link.sent c.args.controller.now))
+    rw same (Keeps-refl (g.C.Link.state c.args.controller.now).sent)
 
 pub returns-in-Err-clause-no_oracle : goal.returns-in-Err-clause-no_oracle
 returns-in-Err-clause-no_oracle g c = λ none.
-    let s = standing {b = g.M.Machine} c.args.core.now in
-    let new = standing {b = g.M.Machine} c.event-emits.new.self in
+    let s = core_state {b = g.M.Machine} c.args.core.now in
+    let new = core_state {b = g.M.Machine} c.event-emits.new.self in
     let text = last_text {b = g.M.Machine} c.event-emits.new.self in
     let taken = c.event-emits.result.taken in
     let put = c.event-emits.ensures in

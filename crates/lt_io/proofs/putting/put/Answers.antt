@@ -11,6 +11,6 @@ loop-written-preserved g c =
     let appends = rw all at c.in_ok-written.ensures.appends in
     record {
       short = omega (arith, within, length-drop c.loop-written.written text);
-      front = written_more (g.S.Sink.written c.args.sink.now) (g.S.Sink.written c.loop-written.sink) (g.S.Sink.written c.write.new.self) text c.loop-written.written c.in_ok-written.field-0 c.loop-written.invariant.front appends;
+      prefix = written_more (g.S.Sink.state c.args.sink.now).written (g.S.Sink.state c.loop-written.sink).written (g.S.Sink.state c.write.new.self).written text c.loop-written.written c.in_ok-written.field-0 c.loop-written.invariant.prefix appends;
       calm = c.in_ok-written.ensures.cause.calm ∙ c.loop-written.invariant.calm;
     }

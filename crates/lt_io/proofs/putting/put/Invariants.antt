@@ -6,8 +6,8 @@ use Rattle.lt_io.proofs.putting.put.Given as goal
 abbrev pub invariant-loop-written : goal.invariant-loop-written
 invariant-loop-written g l = record {
   short : l.written ≤ length l.text;
-  front : Appends (g.S.Sink.written l.fn.sink) (g.S.Sink.written l.sink) (take l.written l.text);
-  calm : g.S.Sink.faults l.sink ≡ g.S.Sink.faults l.fn.sink;
+  prefix : Appends (g.S.Sink.state l.fn.sink).written (g.S.Sink.state l.sink).written (take l.written l.text);
+  calm : (g.S.Sink.state l.sink).faults ≡ (g.S.Sink.state l.fn.sink).faults;
 }
 
 abbrev pub decreases-loop-written : goal.decreases-loop-written

@@ -1,4 +1,4 @@
--- The reply stands at the front of line feeds.
+-- The reply stands at the prefix of line feeds.
 use Rattle.lt_plants.proofs.Ways.{fed}
 use Rattle.lt_plants.proofs.serving.send_line.Goals as goal
 

@@ -2,4 +2,4 @@ use Rattle.lt_replayed.proofs.Shown as lemmas
 use Rattle.lt_replayed.proofs.laws.traces_of_calls_show_their_runs.Goals as goal
 
 pub returns : goal.returns
-returns c = lemmas.traces_of_calls_show_their_runs c.texts_have_one_scenario_answer.ensures c.scenario_traces_show_their_run.ensures c.scenario_fronts_show_their_run.ensures
+returns c = lemmas.traces_of_calls_show_their_runs c.texts_have_one_scenario_answer.ensures c.scenario_traces_show_their_run.ensures c.scenario_prefixes_show_their_run.ensures

@@ -14,5 +14,5 @@ returns c =
       | else-is_empty-via-else-is_empty w ↦ let h = eqb-false _ _ (sym c.is_empty.ensures ∙ w.if-is_empty.false) in omega arith
     ] in
     rw (c.from.ensures, c.pow.ensures, c.from-2.ensures)
-    (scaled-parts c.args.number.now c.split_at_point.result.0.now c.split_at_point.result.1.now _ c.in_ok-before.before c.in_ok-behind.behind c.in_ok-right.right c.in_ok-right.left
-    (c.split_at_point.ensures.before ∙ ap (before_first is_point) c.split_at_mark.ensures.before) (c.split_at_point.ensures.behind ∙ ap (after_first is_point) c.split_at_mark.ensures.before) c.split_at_mark.ensures.behind c.in_ok-before.ensures.value c.in_ok-behind.ensures.value some c.in_ok-before.ensures.small c.in_ok-behind.ensures.small c.in_ok-right.ensures)
+    (scaled-parts c.args.number.now c.split_at_point.result.0.now c.split_at_point.result.1.now _ c.in_ok-before.before c.in_ok-after.after c.in_ok-right.right c.in_ok-right.left
+    (c.split_at_point.ensures.before ∙ ap (before_first is_point) c.split_at_mark.ensures.before) (c.split_at_point.ensures.after ∙ ap (after_first is_point) c.split_at_mark.ensures.before) c.split_at_mark.ensures.after c.in_ok-before.ensures.value c.in_ok-after.ensures.value some c.in_ok-before.ensures.small c.in_ok-after.ensures.small c.in_ok-right.ensures)

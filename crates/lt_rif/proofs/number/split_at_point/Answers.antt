@@ -7,11 +7,11 @@ use Rattle.lt_rif.proofs.number.split_at_point.Goals as goal
 pub returns-in-Some-clause-before : goal.returns-in-Some-clause-before
 returns-in-Some-clause-before c = let h = position-some is_point c.args.mantissa.now _ c.in-Some.ensures in let e = h.0 in grind (arith, common_steps)
 
-pub returns-in-Some-clause-behind : goal.returns-in-Some-clause-behind
-returns-in-Some-clause-behind c = let h = position-some is_point c.args.mantissa.now _ c.in-Some.ensures in let e = h.0 in grind (arith, common_steps)
+pub returns-in-Some-clause-after : goal.returns-in-Some-clause-after
+returns-in-Some-clause-after c = let h = position-some is_point c.args.mantissa.now _ c.in-Some.ensures in let e = h.0 in grind (arith, common_steps)
 
 pub returns-in-None-clause-before : goal.returns-in-None-clause-before
 returns-in-None-clause-before c = let h = position-none is_point c.args.mantissa.now c.in-None.ensures in grind (arith, common_steps)
 
-pub returns-in-None-clause-behind : goal.returns-in-None-clause-behind
-returns-in-None-clause-behind c = let h = position-none is_point c.args.mantissa.now c.in-None.ensures in grind (arith, common_steps)
+pub returns-in-None-clause-after : goal.returns-in-None-clause-after
+returns-in-None-clause-after c = let h = position-none is_point c.args.mantissa.now c.in-None.ensures in grind (arith, common_steps)

@@ -1,4 +1,4 @@
--- Each way in which a run goes on behind the opening of its controller is a row of the relation.
+-- Each way in which a run goes on after the opening of its controller is a row of the relation.
 use Rattle.std.proofs.Common.{refl, ap}
 use Rattle.lt_session.specs.Session.{giving}
 use Rattle.lt_session.specs.inner.Beside as beside
@@ -13,21 +13,7 @@ pub returns-in_default-clause-plan : goal.returns-in_default-clause-plan
 returns-in_default-clause-plan g c = plan_kept _ _ _ _ _ c.drive.ensures.driven
 
 pub returns-in-Ok-clause-beside : goal.returns-in-Ok-clause-beside
-returns-in-Ok-clause-beside g c =
-    let done = c.in-Ok.ensures in
-    rw c.in-Some.is
-    (beside.driven _ _ _
-    (record {
-      first = done.starts;
-      others = done.others;
-      unsent = done.unsent;
-      tells = done.tells;
-      faultless = done.faultless;
-      asked = done.asks (λ e. cc e);
-      closed = done.none_closed;
-      faults = done.calm (λ e. cc e);
-    })
-    c.drive-driven.ensures.driven refl)
+returns-in-Ok-clause-beside g c = rw c.in-Some.is (beside.driven _ _ _ c.in-Ok.ensures.started c.drive-driven.ensures.driven refl)
 
 pub returns-in-Ok-clause-plan : goal.returns-in-Ok-clause-plan
 returns-in-Ok-clause-plan g c = plan_kept _ _ _ _ _ c.drive-driven.ensures.driven
@@ -35,26 +21,9 @@ returns-in-Ok-clause-plan g c = plan_kept _ _ _ _ _ c.drive-driven.ensures.drive
 pub returns-in-Err-Failed-clause-beside : goal.returns-in-Err-Failed-clause-beside
 returns-in-Err-Failed-clause-beside g c =
     let done = rw c.in-Err-Failed.field-0-is at c.in-Err-Failed.ensures in
-    rw c.in-Some.is
-    (beside.no_oracle c.in-Some.command.now refl
-    (record {
-      asked = done.asks (λ e. cc e);
-      rose = done.cause refl;
-      later = done.later;
-      coming = done.refused;
-      closed = done.none_closed;
-    })
-    refl refl refl)
+    rw c.in-Some.is (beside.no_oracle c.in-Some.command.now refl (done.failed refl) refl refl refl)
 
 pub returns-in-Err-Memory-clause-beside : goal.returns-in-Err-Memory-clause-beside
 returns-in-Err-Memory-clause-beside g c =
     let done = rw c.in-Err-Memory.field-0-is at c.in-Err-Memory.ensures in
-    rw c.in-Some.is
-    (beside.memory
-    (record {
-      coming = done.refused;
-      closed = done.none_closed;
-      asked = done.none_asked refl;
-      faults = done.calm (λ e. cc e);
-    })
-    refl refl refl)
+    rw c.in-Some.is (beside.memory (done.memory refl) refl refl refl)

@@ -1,4 +1,4 @@
-use Rattle.std.proofs.Common.{◌≤◌, ◌+◌, ◌-◌, ◌*◌, ◌∙◌, arith, get_or, sym}
+use Rattle.std.proofs.Common.{◌∙◌, arith, sym}
 use Rattle.lt_stress.specs.Plant.{sum_in}
 use Rattle.lt_stress.proofs.Sums.{digit_counts_in}
 use Rattle.lt_stress.proofs.numbers.sum_in.Goals as goal

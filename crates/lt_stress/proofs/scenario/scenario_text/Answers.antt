@@ -12,11 +12,11 @@ returns c =
     let clauses : List ℕ = joined (codes " and ") clause (c.args.variables - 1) in
     let before : List ℕ = codes "node stress (y: int [0;1000]) returns (" in
     let between : List ℕ = codes ": int [0;100]) =" ++ (10 ∷ [] ++ codes "assert ") in
-    let behind : List ℕ = codes " in" ++ (10 ∷ [] ++ (codes "loop { |1 + y mod 3: x1 > y mod 100 |2: { x2 < 50 |> x2 = 50 } }" ++ 10 ∷ [])) in
+    let after : List ℕ = codes " in" ++ (10 ∷ [] ++ (codes "loop { |1 + y mod 3: x1 > y mod 100 |2: { x2 < 50 |> x2 = 50 } }" ++ 10 ∷ [])) in
     let one : c.extend_from_slice.new.self.items ≡ before = c.in_ok-extend_from_slice.ensures.items ∙ ap (λ (t : List ℕ). t ++ before) c.new-text.ensures.items in
     let two : c.push_names.new.text.items ≡ before ++ names = c.in_ok-push_names.ensures ∙ ap (λ (t : List ℕ). t ++ names) one in
     let three : c.extend_from_slice-2.new.self.items ≡ (before ++ names) ++ between = c.in_ok-extend_from_slice-2.ensures.items ∙ ap (λ (t : List ℕ). t ++ between) two in
     let four : c.push_clauses.new.text.items ≡ ((before ++ names) ++ between) ++ clauses = c.in_ok-push_clauses.ensures ∙ ap (λ (t : List ℕ). t ++ clauses) three in
-    let five : c.extend_from_slice-3.new.self.items ≡ (((before ++ names) ++ between) ++ clauses) ++ behind = c.in_ok-extend_from_slice-3.ensures.items ∙ ap (λ (t : List ℕ). t ++ behind) four in
+    let five : c.extend_from_slice-3.new.self.items ≡ (((before ++ names) ++ between) ++ clauses) ++ after = c.in_ok-extend_from_slice-3.ensures.items ∙ ap (λ (t : List ℕ). t ++ after) four in
     five
     ∙ regroup before names (codes ": int [0;100]) =") (codes "assert ") clauses (codes " in") (codes "loop { |1 + y mod 3: x1 > y mod 100 |2: { x2 < 50 |> x2 = 50 } }") (10 ∷ [])

@@ -1,17 +1,17 @@
 use Rattle.std.proofs.Common.{Some, refl, ap}
-use Rattle.lt_drive.specs.Drive.{course_of}
-use Rattle.lt_loop.specs.CoreView.{standing}
+use Rattle.lt_drive.specs.Drive.{continuation_of}
+use Rattle.lt_loop.specs.CoreView.{core_state}
 use Rattle.lt_play.specs.contracts.player.PlayerMachine.TheImpl as player
-use Rattle.lt_stress.specs.inner.PlantView.{plant_standing}
-use Rattle.lt_stress.specs.inner.Standing.{may_stand}
+use Rattle.lt_stress.specs.inner.PlantView.{plant_state}
+use Rattle.lt_stress.specs.inner.PlantState.{may_stand}
 use Rattle.lt_stress.proofs.Runs.{never_untraced, ran_by, ran_so}
 use Rattle.lt_stress.proofs.stressing.play_core.Goals as goal
 
 pub returns-in-Ended : goal.returns-in-Ended
 returns-in-Ended c = λ n s course at_first.
     ran_so n s c.in-Ended.end c.steps.result c.sum.result c.unbroken.result c.unbroken.ensures.ran (λ unbroken.
-    ran_by n s (course_of (standing {b = player.ghosts} c.args.core.now)) _ _ (standing {b = player.ghosts} c.drive.new.core) course c.in-Ended.end (plant_standing c.drive.new.controller) c.steps.result c.sum.result
+    ran_by n s (continuation_of (core_state {b = player.ghosts} c.args.core.now)) _ _ (core_state {b = player.ghosts} c.drive.new.core) course c.in-Ended.end (plant_state c.drive.new.controller) c.steps.result c.sum.result
     c.in-Ended.ensures.driven (ap may_stand at_first) refl (ap Some c.new-nobody.ensures) c.steps.ensures c.unbroken.ensures.few c.sum.ensures unbroken)
 
 pub unreachable-requires : goal.unreachable-requires
-unreachable-requires c = never_untraced _ _ _ _ c.in-Untraced.step c.in-Untraced.ensures.driven refl refl
+unreachable-requires c = never_untraced _ _ _ _ c.in-TraceWriteFailed.step c.in-TraceWriteFailed.ensures.driven refl refl

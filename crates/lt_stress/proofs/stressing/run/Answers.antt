@@ -1,5 +1,4 @@
 use Rattle.std.proofs.Common.{refl, subst}
-use Rattle.lt_drive.specs.Outside.{sink}
 use Rattle.lt_term.specs.SceneView.{scene}
 use Rattle.lt_stress.specs.Run.{IsRunOf}
 use Rattle.lt_stress.specs.Stressed.{starved}
@@ -16,4 +15,4 @@ returns-in-Limit g c =
 
 pub returns-in_default-end : goal.returns-in_default-end
 returns-in_default-end g c =
-    ended_by c.args.number (sink (g.S.Sink.written c.args.trace.now) (g.S.Sink.faults c.args.trace.now)) (scene c.args.scenario) c.in-Some.ran.end c.in-Some.ran.steps c.in-Some.ran.sum c.requires c.in-Some.ensures c.in_default-end.not-Limit
+    ended_by c.args.number (g.S.Sink.state c.args.trace.now) (scene c.args.scenario) c.in-Some.ran.end c.in-Some.ran.steps c.in-Some.ran.sum c.requires c.in-Some.ensures c.in_default-end.not-Limit

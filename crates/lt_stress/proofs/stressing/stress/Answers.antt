@@ -1,7 +1,6 @@
 use Rattle.std.proofs.Common.{◌≡◌, None, Err, ℕ, List, refl, ap, subst, sym, ◌∙◌}
-use Rattle.lt_drive.specs.Outside.{sink}
-use Rattle.lt_prepare.specs.Prepared.{IfRefused, IsScenarioAnswer}
-use Rattle.lt_words.specs.Settings.{default_decimals}
+use Rattle.lt_frontend.specs.Prepared.{IfRefused, IsScenarioAnswer}
+use Rattle.lt_args.specs.Settings.{default_decimals}
 use Rattle.lt_stress.specs.Run.{IsRefusedFor}
 use Rattle.lt_stress.specs.Scenario.{scenario_text, variables_of}
 use Rattle.lt_stress.specs.Stressed.{IsStressed, starved}
@@ -17,5 +16,5 @@ returns g c =
     let text : c.deref.result.now ≡ scenario_text (variables_of c.args.number) = c.deref.ensures.value ∙ c.in-Ok.ensures ∙ ap scenario_text c.variables_of.ensures in
     let told : IfRefused c.in-Err.why (λ reason. IsRefusedFor c.args.number reason) =
     subst (λ (t : List ℕ). IfRefused c.in-Err.why (λ reason. IsScenarioAnswer default_decimals None t (Err reason))) text c.in-Err.ensures.refused in
-    let trace = sink (g.S.Sink.written c.args.trace.now) (g.S.Sink.faults c.args.trace.now) in
+    let trace = (g.S.Sink.state c.args.trace.now) in
     subst (λ (s : Stressed). IsStressed c.args.number trace trace s) (sym c.unprepared.ensures) (unprepared_by c.args.number trace c.in-Err.why told)

@@ -15,4 +15,4 @@ returns-in-Ok-put g c = λ s ps is_scene run is_sum.
 pub returns : goal.returns
 returns g c = λ s ps is_scene run is_sum.
     let text : c.deref.result.now ≡ stress_line c.args.number (sum_told ps) = c.deref.ensures.value ∙ c.in-Ok.ensures ∙ ap (stress_line c.args.number) is_sum in
-    cut s ps is_scene run (rw text at c.in-Err.ensures.front) c.in-Err.ensures.cause.failed
+    cut s ps is_scene run (rw text at c.in-Err.ensures.prefix) c.in-Err.ensures.cause.failed

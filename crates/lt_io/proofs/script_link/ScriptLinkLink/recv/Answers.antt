@@ -13,5 +13,5 @@ returns-clause-takes c =
     let is_left : c.args.self.now.left ≡ left = search rules in
     let piece : c.copy_from_slice.new.self ≡ take count left = grind (arith, common_steps) in
     let shortest : count ≡ min c.next_cut-most.result (length left) = grind (arith, common_steps) in
-    let behind : drop (link.given + count) link.bytes.items ≡ drop count left = sym (drop-drop count link.given link.bytes.items) in
-    rw (is_left, piece, behind) (piece_taken left c.args.into.now count (omega (arith, shortest)), λ z _. none_left left c.next_cut-most.result count shortest (c.next_cut-most.ensures.some c.requires) z)
+    let after : drop (link.given + count) link.bytes.items ≡ drop count left = sym (drop-drop count link.given link.bytes.items) in
+    rw (is_left, piece, after) (piece_taken left c.args.into.now count (omega (arith, shortest)), λ z _. none_left left c.next_cut-most.result count shortest (c.next_cut-most.ensures.some c.requires) z)

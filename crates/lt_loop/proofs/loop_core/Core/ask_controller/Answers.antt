@@ -1,12 +1,12 @@
 use Rattle.std.proofs.Common.{List, IsTrue, subst, sym, ◌∙◌, refl}
 use Rattle.lt_num.specs.declared.value.Value.{Value}
-use Rattle.lt_loop.specs.CoreView.{standing}
+use Rattle.lt_loop.specs.CoreView.{core_state}
 use Rattle.lt_loop.specs.Scene.{fit, input_slots}
 use Rattle.lt_loop.specs.Stands.{Stands}
 use Rattle.lt_loop.specs.WriterView.{writing}
 use Rattle.lt_loop.specs.declared.phase.Phase.{Phase}
 use Rattle.lt_loop.proofs.SlotLemmas.{nobody_fits}
-use Rattle.lt_loop.proofs.StandingLemmas.{asks_controller, replays}
+use Rattle.lt_loop.proofs.CoreStateLemmas.{asks_controller, replays}
 use Rattle.lt_loop.proofs.TextLemmas.{outputs_are}
 use Rattle.std.specs.Prelude.{Some}
 use Rattle.lt_loop.specs.Side.{side_state}
@@ -18,19 +18,19 @@ use Rattle.lt_loop.proofs.loop_core.Core.ask_controller.Goals as goal
 
 pub invariant_of-self-clause-fits : goal.invariant_of-self-clause-fits
 invariant_of-self-clause-fits g c =
-    let s = standing {b = g.M.Machine} c.args.self.now in
+    let s = core_state {b = g.M.Machine} c.args.self.now in
     subst (λ (ys : List Value). IsTrue (fit (input_slots s.plan.scene) ys)) (sym c.clear.ensures.items) (nobody_fits s.plan.controller s.plan.scene c.in-Nobody.is c.args.self.now.served)
 
 pub returns-in-Live-clause-out : goal.returns-in-Live-clause-out
 returns-in-Live-clause-out g c =
-    let s = standing {b = g.M.Machine} c.args.self.now in
+    let s = core_state {b = g.M.Machine} c.args.self.now in
     let stands = subst (λ (p : Phase). Stands p s.written s.left s.controller.reading s.oracle.reading) c.requires c.args.self.now.stands in
     asks_controller s _ c.in-Live.is stands.0.0 c.args.self.now.asks_in c.args.self.now.asks
     (c.make_line.ensures.is ∙ outputs_are s.plan (writing c.args.self.now.writer) _ _ c.args.self.now.writes c.outputs.ensures.is)
 
 pub returns-in-Replay-clause-out : goal.returns-in-Replay-clause-out
 returns-in-Replay-clause-out g c = λ fed more other.
-    let s = standing {b = g.M.Machine} c.args.self.now in
+    let s = core_state {b = g.M.Machine} c.args.self.now in
     let stands = subst (λ (p : Phase). Stands p s.written s.left s.controller.reading s.oracle.reading) c.requires c.args.self.now.stands in
     replays s more other c.in-Replay.is stands.0.0 c.args.self.now.asks_in c.args.self.now.asks ∙ c.read_controller.ensures.out fed more other
 

@@ -1,17 +1,17 @@
 use Rattle.std.proofs.Common.{◌≡◌, true, List, length, ap, subst, ◌∙◌, arith, rules}
 use Rattle.lt_num.specs.declared.value.Value.{Value}
-use Rattle.lt_loop.specs.CoreView.{standing}
+use Rattle.lt_loop.specs.CoreView.{core_state}
 use Rattle.lt_loop.specs.Stands.{HasMade, Stands}
 use Rattle.lt_loop.specs.WriterView.{writing}
 use Rattle.lt_loop.specs.declared.phase.Phase.{Phase}
 use Rattle.lt_loop.proofs.SlotLemmas.{fit_length}
-use Rattle.lt_loop.proofs.StandingLemmas.{asks_oracle}
+use Rattle.lt_loop.proofs.CoreStateLemmas.{asks_oracle}
 use Rattle.lt_loop.proofs.TextLemmas.{step_count, step_line_is}
 use Rattle.lt_loop.proofs.loop_core.Core.ask_oracle.Goals as goal
 
 pub make_step_line-requires : goal.make_step_line-requires
 make_step_line-requires g c =
-    let s = standing {b = g.M.Machine} c.args.self.now in
+    let s = core_state {b = g.M.Machine} c.args.self.now in
     let made = subst (λ (p : Phase). HasMade p s.written s.rules s.machine) c.requires c.args.self.now.made in
     let x = c.outputs.ensures.all s.written made in
     let y = fit_length s.plan.scene.inputs s.inputs c.args.self.now.fits in
@@ -21,7 +21,7 @@ make_step_line-requires g c =
 
 pub returns-clause-out : goal.returns-clause-out
 returns-clause-out g c =
-    let s = standing {b = g.M.Machine} c.args.self.now in
+    let s = core_state {b = g.M.Machine} c.args.self.now in
     let stands = subst (λ (p : Phase). Stands p s.written s.left s.controller.reading s.oracle.reading) c.requires c.args.self.now.stands in
     let has : s.plan.has_oracle ≡ true = search rules in
     asks_oracle s _ has stands.0.1 c.args.self.now.judges_in c.args.self.now.judges

@@ -1,7 +1,7 @@
 use Rattle.std.proofs.Common.{◌≤◌, length, vec_capacity, ap, subst, sym, ◌∙◌}
 use Rattle.lt_rif.specs.Reading.{reading}
 use Rattle.lt_rif.specs.declared.reader.Reader.{Reader}
-use Rattle.lt_loop.specs.CoreView.{standing}
+use Rattle.lt_loop.specs.CoreView.{core_state}
 use Rattle.lt_loop.specs.Side.{side_state}
 use Rattle.lt_loop.specs.Stands.{Stands}
 use Rattle.lt_loop.proofs.KeepingLemmas.{keeps_controller, keeps_oracle}
@@ -36,12 +36,12 @@ invariant_of-self-in-Oracle-clause-stands g c =
 
 pub returns-in-Controller-clause-same : goal.returns-in-Controller-clause-same
 returns-in-Controller-clause-same g c = λ more other.
-    keeps_controller (standing {b = g.M.Machine} c.args.self.now) (side_state c.keep.new.self) c.args.side c.args.piece.now c.keep.result more other
+    keeps_controller (core_state {b = g.M.Machine} c.args.self.now) (side_state c.keep.new.self) c.args.side c.args.piece.now c.keep.result more other
     c.in-Controller.is (ap reading c.keep.ensures.reader) c.keep.ensures.taken c.keep.ensures.kept c.keep.ensures.closed
 
 pub returns-in-Oracle-clause-same : goal.returns-in-Oracle-clause-same
 returns-in-Oracle-clause-same g c = λ more other.
-    keeps_oracle (standing {b = g.M.Machine} c.args.self.now) (side_state c.keep-in-Oracle.new.self) c.args.side c.args.piece.now c.keep-in-Oracle.result more other
+    keeps_oracle (core_state {b = g.M.Machine} c.args.self.now) (side_state c.keep-in-Oracle.new.self) c.args.side c.args.piece.now c.keep-in-Oracle.result more other
     c.in-Oracle.is (ap reading c.keep-in-Oracle.ensures.reader) c.keep-in-Oracle.ensures.taken c.keep-in-Oracle.ensures.kept c.keep-in-Oracle.ensures.closed
 
 pub returns-in-Controller-clause-controller : goal.returns-in-Controller-clause-controller
@@ -52,7 +52,7 @@ returns-in-Controller-clause-oracle g c = oracle_stays (side_state c.args.self.n
 
 pub returns-in-Controller-clause-has : goal.returns-in-Controller-clause-has
 returns-in-Controller-clause-has g c = λ wanted.
-    let s = standing {b = g.M.Machine} c.args.self.now in
+    let s = core_state {b = g.M.Machine} c.args.self.now in
     let awaited = subst (λ (w : Who). IsAwaited s w) c.in-Controller.is wanted.1 in
     controller_is_there (record s { controller = side_state c.keep.new.self }) awaited.0
     (λ empty. keeps_some s.controller (side_state c.keep.new.self) c.args.piece.now c.keep.result wanted.0 awaited.1.0 awaited.1.1 c.keep.ensures.taken c.keep.ensures.kept empty.0)
@@ -65,7 +65,7 @@ returns-in-Oracle-clause-controller g c = controller_stays (side_state c.args.se
 
 pub returns-in-Oracle-clause-has : goal.returns-in-Oracle-clause-has
 returns-in-Oracle-clause-has g c = λ wanted.
-    let s = standing {b = g.M.Machine} c.args.self.now in
+    let s = core_state {b = g.M.Machine} c.args.self.now in
     let awaited = subst (λ (w : Who). IsAwaited s w) c.in-Oracle.is wanted.1 in
     oracle_is_there (record s { oracle = side_state c.keep-in-Oracle.new.self }) awaited.0
     (λ empty. keeps_some s.oracle (side_state c.keep-in-Oracle.new.self) c.args.piece.now c.keep-in-Oracle.result wanted.0 awaited.1.0 awaited.1.1 c.keep-in-Oracle.ensures.taken c.keep-in-Oracle.ensures.kept empty.0)

@@ -4,7 +4,7 @@ use Rattle.lt_loop.specs.CoreView.{plan_of}
 use Rattle.lt_loop.specs.Scene.{Variable, first_value}
 use Rattle.lt_loop.specs.Side.{side_state}
 use Rattle.lt_loop.specs.declared.phase.Phase.TheVariants as phase
-use Rattle.lt_loop.proofs.StandingLemmas.{makes}
+use Rattle.lt_loop.proofs.CoreStateLemmas.{makes}
 use Rattle.lt_loop.proofs.loop_core.Core.make.Goals as goal
 
 pub returns-clause-play : goal.returns-clause-play

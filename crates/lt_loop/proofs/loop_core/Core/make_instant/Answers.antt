@@ -1,16 +1,17 @@
 use Rattle.std.proofs.Common.{◌≡◌, ◌-◌, suc, List, IsTrue, subst, ap, sym, ◌∙◌, arith}
 use Rattle.lt_num.specs.declared.value.Value.{Value}
-use Rattle.lt_loop.specs.CoreView.{plan_of, standing}
+use Rattle.lt_rif.specs.Trace.{end_number}
+use Rattle.lt_loop.specs.CoreView.{plan_of, core_state}
 use Rattle.lt_loop.specs.Machine.{StepTells}
 use Rattle.lt_loop.specs.Plan.{reply_slots}
 use Rattle.lt_loop.specs.Play.{ended}
 use Rattle.lt_loop.specs.Scene.{Scene, fit, input_slots}
-use Rattle.lt_loop.specs.Standing.{play_once_made}
+use Rattle.lt_loop.specs.CoreState.{play_once_made}
 use Rattle.lt_loop.specs.Stands.{is_served}
 use Rattle.lt_loop.specs.inner.Writing.{writing_of}
 use Rattle.lt_loop.specs.declared.machine.Outcome.TheVariants as outcome
 use Rattle.lt_loop.specs.declared.phase.Phase.TheVariants as phase
-use Rattle.lt_loop.proofs.StandingLemmas.{goes_on, goes_over}
+use Rattle.lt_loop.proofs.CoreStateLemmas.{goes_on, goes_over}
 use Rattle.lt_loop.specs.Kept.{Holds, Reads, adding_none}
 use Rattle.lt_loop.specs.Side.{side_state}
 use Rattle.lt_loop.proofs.HoldingLemmas.{ready_reads}
@@ -42,7 +43,7 @@ invariant_of-self-in-Memory-clause-asks g c = c.args.self.now.asks ∙ ap (λ (s
 
 pub returns-in-Values-clause-out : goal.returns-in-Values-clause-out
 returns-in-Values-clause-out g c = λ fed more other.
-    let s = standing {b = g.M.Machine} c.args.self.now in
+    let s = core_state {b = g.M.Machine} c.args.self.now in
     let next = g.M.Machine.state c.step.new.self in
     let tells = subst (λ (y : List Value). StepTells (s.rules.instant s.machine y) outcome.Values next) c.deref.ensures.value c.in-Values.ensures.tells in
     let some : s.left ≡ suc (s.left - 1) = omega arith in
@@ -52,11 +53,11 @@ returns-in-Values-clause-out g c = λ fed more other.
 
 pub returns-in-Over-clause-out : goal.returns-in-Over-clause-out
 returns-in-Over-clause-out g c = λ fed more other.
-    let s = standing {b = g.M.Machine} c.args.self.now in
+    let s = core_state {b = g.M.Machine} c.args.self.now in
     let tells = subst (λ (y : List Value). StepTells (s.rules.instant s.machine y) (outcome.Over c.in-Over.end) (g.M.Machine.state c.step.new.self)) c.deref.ensures.value c.in-Over.ensures.tells in
     let some : s.left ≡ suc (s.left - 1) = omega arith in
     goes_over s (g.M.Machine.state c.step.new.self) (s.left - 1) more other c.in-Over.end some tells
-    ∙ (λ i. ended (plan_of (sym c.in-Over.ensures.scene i) c.args.self.now.setup) (sym c.end-cause.ensures i) (sym c.number-number.ensures.is i))
+    ∙ (λ i. ended (plan_of (sym c.in-Over.ensures.scene i) c.args.self.now.setup) (sym c.end-cause.ensures i) (end_number (sym c.end-cause.ensures i) s.written))
     ∙ c.end-in-Over.ensures.out fed more other
 
 pub returns-in-Values-clause-controller : goal.returns-in-Values-clause-controller

@@ -1,7 +1,7 @@
 use Rattle.std.proofs.Common.{◌≡◌, true, List, refl, subst, sym, ◌∙◌}
 use Rattle.lt_num.specs.declared.value.Value.{Value}
 use Rattle.lt_rif.specs.Reading.{values_of}
-use Rattle.lt_loop.specs.CoreView.{standing}
+use Rattle.lt_loop.specs.CoreView.{core_state}
 use Rattle.lt_loop.specs.Kept.{Holds, Reads, adding_none}
 use Rattle.lt_loop.specs.Scene.{fit, input_slots}
 use Rattle.lt_loop.specs.Side.{side_state}
@@ -12,7 +12,7 @@ use Rattle.lt_loop.proofs.loop_core.Core.read_controller.Goals as goal
 
 pub invariant_of-self-clause-fits : goal.invariant_of-self-clause-fits
 invariant_of-self-clause-fits g c =
-    let s = standing {b = g.M.Machine} c.args.self.now in
+    let s = core_state {b = g.M.Machine} c.args.self.now in
     let values = values_of c.read.new.self.reader in
     let items : c.extend_from_slice.new.self.items ≡ values = c.extend_from_slice.ensures.items ∙ rw (c.unwrap.ensures, c.clear.ensures.items) c.values.ensures.values in
     subst (λ (ys : List Value). fit (input_slots s.plan.scene) ys ≡ true) (sym items)

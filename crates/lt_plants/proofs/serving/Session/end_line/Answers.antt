@@ -11,9 +11,9 @@ returns-in_default-clause-ends g c =
 pub returns-clause-goes : goal.returns-clause-goes
 returns-clause-goes g c =
     let some = c.in-Some.ensures.some in
-    let front : take c.in-Some.count c.reply.new.into ≡ some.0 = written some.0 c.reply.new.into _ c.in-Some.count some.1 some.2 in
+    let prefix : take c.in-Some.count c.reply.new.into ≡ some.0 = written some.0 c.reply.new.into _ c.in-Some.count some.1 some.2 in
     let short = rw c.text.ensures.text at c.text.ensures.short in
     let is_reply = rw c.text.ensures.text at some.3 in
-    let sent = rw front at c.send_line.ensures.sent in
+    let sent = rw prefix at c.send_line.ensures.sent in
     rw (c.clear.ensures, c.reply.ensures.plant)
     (where_ok c.send_line.result _ _ (λ all. line_replied c.args.self.now.playing.plant c.args.self.now.playing.last c.reply.new.playing.last c.args.self.now.line some.0 _ _ short is_reply all) sent)

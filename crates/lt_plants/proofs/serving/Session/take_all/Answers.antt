@@ -1,7 +1,7 @@
 -- Byte by byte.
 use Rattle.std.proofs.Common.{refl, ◌∙◌, ◌++◌}
 use Rattle.std.proofs.KnownBytes.{Keeps-trans}
-use Rattle.lt_plants.specs.inner.Going.{due_behind}
+use Rattle.lt_plants.specs.inner.Going.{due_after}
 use Rattle.lt_plants.proofs.Ways.{goes_on, ends_on}
 use Rattle.lt_plants.proofs.serving.Session.take_all.Goals as goal
 
@@ -11,7 +11,7 @@ loop-byte-preserved g c =
     let after = c.take.new.self in
     let way = c.loop-byte.invariant in
     record {
-      goes = goes_on _ _ _ (λ bytes. due_behind c.args.self.now.playing.plant c.args.self.now.playing.last c.args.self.now.line (c.args.piece.now ++ bytes)) before.playing.plant after.playing.plant before.playing.last after.playing.last before.line after.line c.args.piece.now c.loop-byte.byte-index _ c.loop-byte-test.true refl way.goes c.in-Ok.ensures.goes;
+      goes = goes_on _ _ _ (λ bytes. due_after c.args.self.now.playing.plant c.args.self.now.playing.last c.args.self.now.line (c.args.piece.now ++ bytes)) before.playing.plant after.playing.plant before.playing.last after.playing.last before.line after.line c.args.piece.now c.loop-byte.byte-index _ c.loop-byte-test.true refl way.goes c.in-Ok.ensures.goes;
       calm = c.in-Ok.ensures.calm (λ e. (cc)) ∙ way.calm;
       left = Keeps-trans _ _ _ way.left c.in-Ok.ensures.left;
       plant = c.in-Ok.ensures.plant ∙ way.plant;
@@ -21,4 +21,4 @@ loop-byte-preserved g c =
 pub returns-in-Err-clause-ends : goal.returns-in-Err-clause-ends
 returns-in-Err-clause-ends g c =
     let before = c.loop-byte.self in
-    ends_on c.in-Err.ending _ _ _ (λ bytes. due_behind c.args.self.now.playing.plant c.args.self.now.playing.last c.args.self.now.line (c.args.piece.now ++ bytes)) before.playing.plant before.playing.last before.line c.args.piece.now c.loop-byte.byte-index _ c.loop-byte-test.true refl c.loop-byte.invariant.goes c.in-Err.ensures.ends
+    ends_on c.in-Err.ending _ _ _ (λ bytes. due_after c.args.self.now.playing.plant c.args.self.now.playing.last c.args.self.now.line (c.args.piece.now ++ bytes)) before.playing.plant before.playing.last before.line c.args.piece.now c.loop-byte.byte-index _ c.loop-byte-test.true refl c.loop-byte.invariant.goes c.in-Err.ensures.ends

@@ -3,7 +3,7 @@ use Rattle.std.proofs.lemmas.List.{take_all}
 use Rattle.std.proofs.lemmas.Bool.{eqb-true, eqb-false}
 use Rattle.lt_rif.specs.Reading.{reading}
 use Rattle.lt_rif.specs.declared.slot.Slot.{Slot}
-use Rattle.lt_rif.proofs.ReadingLemmas.{no_refusal, refused_fed, none_fed, whole_fed, malformed_fed, same_behind, more_fed, chunk_front, chunk_length}
+use Rattle.lt_rif.proofs.ReadingLemmas.{no_refusal, refused_fed, none_fed, whole_fed, malformed_fed, same_after, more_fed, chunk_prefix, chunk_length}
 use Rattle.lt_rif.proofs.reader.Reader.feed.Goals as goal
 
 pub returns-in-Some-clause-tells : goal.returns-in-Some-clause-tells
@@ -25,13 +25,13 @@ take-requires-clause-chunk c =
 pub returns-in-Whole-clause-tells : goal.returns-in-Whole-clause-tells
 returns-in-Whole-clause-tells c =
     whole_fed c.loop-used.self.draft (reading c.args.self.now) (reading c.loop-used.self) (reading c.take.new.self) c.args.piece.now c.loop-used.used _ c.length_of_chunk-chunk.result c.in-Whole.field-0 _
-    (omega arith) c.loop-used.invariant.same (chunk_front c.args.piece.now c.loop-used.used c.length_of_chunk-chunk.result)
+    (omega arith) c.loop-used.invariant.same (chunk_prefix c.args.piece.now c.loop-used.used c.length_of_chunk-chunk.result)
     (ap (λ (v : Vec Slot Global). v.items) (sym c.loop-used.invariant.slots)) (sym c.loop-used.invariant.decimals) (rw c.loop-used.invariant.goes_on refl) (c.in-Whole.ensures.all c.in-Whole.field-0 refl) c.in-Whole.ensures.tells
 
 pub returns-in-Malformed-clause-tells : goal.returns-in-Malformed-clause-tells
 returns-in-Malformed-clause-tells c =
     malformed_fed c.loop-used.self.draft (reading c.args.self.now) (reading c.loop-used.self) (reading c.take.new.self) c.args.piece.now c.loop-used.used _ c.length_of_chunk-chunk.result c.in-Malformed.fault c.in-Malformed.place c.take.new.self.values.items
-    c.loop-used.invariant.same (chunk_front c.args.piece.now c.loop-used.used c.length_of_chunk-chunk.result) (rw c.loop-used.invariant.goes_on refl) c.in-Malformed.ensures.tells
+    c.loop-used.invariant.same (chunk_prefix c.args.piece.now c.loop-used.used c.length_of_chunk-chunk.result) (rw c.loop-used.invariant.goes_on refl) c.in-Malformed.ensures.tells
 
 pub loop-used-preserved : goal.loop-used-preserved
 loop-used-preserved c =
@@ -47,8 +47,8 @@ loop-used-preserved c =
       place = moves.0 ∙ c.loop-used.invariant.place;
       taken = omega (arith, moves.1, c.loop-used.invariant.taken);
       values = c.in-More.ensures.keeps ∙ c.loop-used.invariant.values;
-      same = same_behind c.loop-used.self.draft (reading c.args.self.now) (reading c.loop-used.self) (reading c.take.new.self) c.args.piece.now c.loop-used.used _ m c.take.new.self.values.items
-          c.loop-used.invariant.same (chunk_front c.args.piece.now c.loop-used.used m) (rw c.loop-used.invariant.goes_on refl) c.in-More.ensures.tells;
+      same = same_after c.loop-used.self.draft (reading c.args.self.now) (reading c.loop-used.self) (reading c.take.new.self) c.args.piece.now c.loop-used.used _ m c.take.new.self.values.items
+          c.loop-used.invariant.same (chunk_prefix c.args.piece.now c.loop-used.used m) (rw c.loop-used.invariant.goes_on refl) c.in-More.ensures.tells;
     }
 
 pub returns-clause-tells : goal.returns-clause-tells

@@ -1,7 +1,7 @@
 use Rattle.std.proofs.Common.{◌≡◌, ◌<◌, ◌++◌, take, drop, arith, refl, sym}
 use Rattle.std.proofs.lemmas.Grind.{common_steps}
 use Rattle.std.proofs.lemmas.List.{drop-drop, take-append-le, take_all}
-use Rattle.lt_stress.proofs.Stands.{fits_count, gives_front}
+use Rattle.lt_stress.proofs.Stands.{fits_count, gives_prefix}
 use Rattle.lt_stress.proofs.plant.PlantLink.recv.Goals as goal
 
 pub returns-clause-fitting : goal.returns-clause-fitting
@@ -10,5 +10,5 @@ returns-clause-fitting c =
     let left = drop c.args.self.now.given c.args.self.now.reply.items in
     let some : 0 < count = grind (arith, common_steps) in
     let piece : c.copy_from_slice.new.self ≡ take count left = grind (arith, common_steps) in
-    let front : take count (c.copy_from_slice.new.self ++ drop count c.args.into.now) ≡ take count left = grind (arith, common_steps, take-append-le, take_all) in
-    fits_count _ _ _ count some (gives_front _ _ count _ refl refl front (sym (drop-drop count c.args.self.now.given c.args.self.now.reply.items)) refl)
+    let prefix : take count (c.copy_from_slice.new.self ++ drop count c.args.into.now) ≡ take count left = grind (arith, common_steps, take-append-le, take_all) in
+    fits_count _ _ _ count some (gives_prefix _ _ count _ refl refl prefix (sym (drop-drop count c.args.self.now.given c.args.self.now.reply.items)) refl)

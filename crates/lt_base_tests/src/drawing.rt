@@ -1,0 +1,134 @@
+//! That words, picks and targets are those that other programs make.
+
+use crate::rows::{check, halves, numbers_of};
+use crate::subject::Subject;
+use lt_draw::{StepWords, pick, sum_of, target, word};
+use lt_num::Range;
+use std::alloc::Global;
+use std::test::Fail;
+
+// How many slots a step has.
+const SLOTS: u32 = 16_777_216;
+
+// The slot of the word that a scenario's first variable gets its target from.
+const FIRST_VARIABLE: u32 = 8_388_608;
+
+// A seed, a step and a slot, with the word that another program gave there.
+const WORDS: &str = "
+0 0 1 ==> 6411218084291373563
+0 1 0 ==> 670457862477091661
+0 1 1 ==> 945580710927154822
+0 1 64 ==> 8542392665323216598
+0 1 8388608 ==> 15939427002774378928
+0 2 8388735 ==> 17877493951084941515
+0 1000000 16777215 ==> 13760510481398817155
+1 1 0 ==> 15242382240706905632
+1 3 4194303 ==> 12666273054581543937
+4294967296 1 64 ==> 6862741670566267012
+9223372036854775808 1 0 ==> 9434840655129785195
+9223372036854775808 3 4194303 ==> 16436026582173414204
+18446744073709551615 1 0 ==> 10082901677460505370
+18446744073709551615 1000000 16777215 ==> 128566075295983809
+
+and the word after it
+0 1 0 on ==> 670457862477091661 945580710927154822
+";
+
+/// Puts the word of a seed at a step and a slot, in any of the ways to it, or the words from there on.
+pub fn put_word(found: &mut String, given: &str) -> Result<(), Fail> {
+    let (seed, place) = halves(given, " ")?;
+    let (step, slot) = halves(place, " ")?;
+    let (seed, step) = (seed.parse()?, step.parse()?);
+    let words = StepWords::new(seed, step);
+    if slot == "0 on" {
+        let mut words = words.starting_at(0);
+        let first = words.next_word();
+        write!(found, "{first} {}", words.next_word())?;
+        return Ok(());
+    }
+    let slot = slot.parse()?;
+    if slot >= SLOTS {
+        return Err(Fail::new("a slot"));
+    }
+    let at_once = word(seed, step, slot);
+    if at_once == words.word(slot) {
+        write!(found, "{at_once}")?;
+    }
+    Ok(())
+}
+
+// Weights and a word, with the place that it picks.
+const PICKS: &str = "
+0 3 1 by 0 ==> 1
+0 3 1 by 1 ==> 1
+0 3 1 by 2 ==> 1
+0 3 1 by 3 ==> 2
+0 3 1 by 4 ==> 1
+0 3 1 by 7 ==> 2
+4611686018427387904 0 4611686018427387904 by 0 ==> 0
+4611686018427387904 0 4611686018427387904 by 4611686018427387903 ==> 0
+4611686018427387904 0 4611686018427387904 by 4611686018427387904 ==> 2
+4611686018427387904 0 4611686018427387904 by 9223372036854775808 ==> 0
+4611686018427387904 0 4611686018427387904 by 18446744073709551615 ==> 2
+";
+
+/// Puts the place that a word picks among weights.
+pub fn put_pick(found: &mut String, alloc: Global, given: &str) -> Result<(), Fail> {
+    let (weights, word) = halves(given, " by ")?;
+    let word = word.parse()?;
+    let weights = numbers_of(alloc, weights)?;
+    if sum_of(&weights) > 0 {
+        write!(found, "{}", pick(&weights, word))?;
+    }
+    Ok(())
+}
+
+// The ends of a range and a word, with the number that it aims at.
+const TARGETS: &str = "
+-3 3 by 6 ==> 3
+-3 3 by 7 ==> -3
+7 7 by 18446744073709551615 ==> 7
+-1000000000000 1000000000000 by 18446744073709551615 ==> -926299671757
+-9223372036854775808 9223372036854775807 by 0 ==> -9223372036854775808
+-9223372036854775808 9223372036854775807 by 18446744073709551615 ==> 9223372036854775807
+-9223372036854775808 9223372036854775806 by 18446744073709551615 ==> -9223372036854775808
+
+a first variable, which nothing constrains, has the values that another program wrote in a trace: by a seed at each step
+0 3 by 2689535733758285068 at 1 ==> 3
+0 3 by 2689535733758285068 at 2 ==> 3
+0 3 by 2689535733758285068 at 3 ==> 0
+0 3 by 2689535733758285068 at 4 ==> 1
+0 3 by 2689535733758285068 at 5 ==> 1
+0 3 by 2689535733758285068 at 6 ==> 3
+0 3 by 2689535733758285068 at 7 ==> 0
+0 3 by 2689535733758285068 at 8 ==> 0
+0 3 by 2689535733758285068 at 9 ==> 0
+0 3 by 2689535733758285068 at 10 ==> 3
+0 3 by 2689535733758285068 at 11 ==> 2
+0 3 by 2689535733758285068 at 12 ==> 3
+-10000 10000 by 8755260454800672976 at 1 ==> 891
+-10000 10000 by 8755260454800672976 at 2 ==> -3257
+-10000 10000 by 8755260454800672976 at 3 ==> 9264
+";
+
+/// Puts the number of a range that a word aims at, or that of a seed at a step for its first variable.
+pub fn put_target(found: &mut String, given: &str) -> Result<(), Fail> {
+    let (range, drawn) = halves(given, " by ")?;
+    let (low, high) = halves(range, " ")?;
+    let (low, high) = (low.parse()?, high.parse()?);
+    let word = match drawn.split_once(" at ") {
+        Some((seed, step)) => StepWords::new(seed.parse()?, step.parse()?).word(FIRST_VARIABLE),
+        None => drawn.parse()?,
+    };
+    if low <= high {
+        write!(found, "{}", target(Range { low, high }, word))?;
+    }
+    Ok(())
+}
+
+#[test]
+fn draws_are_those_of_other_programs(rt: HostRuntime) -> Result<(), Fail> {
+    check(&rt, rt.alloc(), &Subject::Words, WORDS, 15)?;
+    check(&rt, rt.alloc(), &Subject::Picks, PICKS, 11)?;
+    check(&rt, rt.alloc(), &Subject::Targets, TARGETS, 22)
+}

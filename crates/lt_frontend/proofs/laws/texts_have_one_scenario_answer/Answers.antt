@@ -1,0 +1,12 @@
+use Rattle.lt_frontend.proofs.Scenarios.{texts_have_one_scenario_answer}
+use Rattle.lt_frontend.proofs.laws.texts_have_one_scenario_answer.Goals as goal
+
+pub returns : goal.returns
+returns c =
+    let texts = c.one_answer_belongs_to_a_text.ensures in
+    texts_have_one_scenario_answer c.well_typed_is_unrefused.ensures (record {
+      some = texts.some;
+      one_program = texts.one_program;
+      one_refusal = texts.one_refusal;
+      not_both = texts.not_both;
+    })

@@ -1,0 +1,126 @@
+-- What cores put out.
+use Rattle.std.proofs.Common.{◌≡◌, Bool, ◌+◌, ◌-◌, ◌<◌, ◌≤◌, ℕ, suc, true, false, List, [], ◌∷◌, ◌++◌, Some, Option, ap, ◌∙◌, refl, arith}
+use Rattle.lt_num.specs.declared.value.Value.{Value}
+use Rattle.lt_rif.specs.Reply.{Stream, reply_of}
+use Rattle.lt_rif.specs.Reading.{Reading, answer, between}
+use Rattle.lt_rif.specs.Trace.{end_number}
+use Rattle.lt_rif.specs.declared.end.End.TheVariants as end
+use Rattle.lt_rif.specs.declared.slot.Slot.{Slot}
+use Rattle.lt_loop.specs.CoreView.{stream_of}
+use Rattle.lt_loop.specs.Machine.{Instant, values, over, Rules, MayStep, StepTells, end_of, most_steps}
+use Rattle.lt_loop.specs.Plan.{Plan, outputs_line, step_line, traced_step, closing_text, opening_text, reply_slots}
+use Rattle.lt_loop.specs.Play.{Play, piece_then, ended, play_of, instant_made, made_by, controller_asked, play_from}
+use Rattle.lt_loop.specs.Scene.{first_inputs, verdict_slots}
+use Rattle.lt_loop.specs.Side.{SideState, Rest, coming, side_answer, side_stream, unless_closed, IsBetween}
+use Rattle.lt_loop.specs.CoreState.{CoreState, play_once_answered, play_once_made, from_here, play_once_judged, resume, resume_in, PutsOut}
+use Rattle.lt_loop.specs.declared.event.PieceKind.TheVariants as piece_kind
+use Rattle.lt_loop.specs.declared.machine.Outcome.TheVariants as outcome
+use Rattle.lt_loop.specs.declared.machine.ScenarioEnd.{ScenarioEnd}
+use Rattle.lt_loop.specs.declared.phase.Phase.TheVariants as phase
+use Rattle.lt_loop.specs.declared.setup.Talk.TheVariants as talk
+
+-- between two replies, the reply at hand is the next one of the stream
+next_reply : (decimals : ℕ) (slots : List Slot) (s : Stream) → answer (between decimals slots s.place) s.bytes s.is_closed ≡ reply_of decimals slots s
+unfolding answer
+next_reply decimals [] s = refl
+next_reply decimals (slot ∷ slots) s = refl
+
+-- so a side finds it
+asked_reply : (s : SideState) (rest : Rest) (decimals : ℕ) (slots : List Slot) → IsBetween s → s.reading.begun.decimals ≡ decimals → s.reading.slots ≡ slots
+    → side_answer s rest ≡ reply_of decimals slots (side_stream s rest)
+asked_reply s rest decimals slots is d sl =
+    ap (λ (r : Reading). answer r (coming s rest).bytes (coming s rest).is_closed) is
+    ∙ next_reply s.reading.begun.decimals s.reading.slots (side_stream s rest)
+    ∙ (λ i. reply_of (d i) (sl i) (side_stream s rest))
+
+-- a side of which nothing was taken has the whole stream to come
+new_stream : (s : SideState) (rest : Rest) → s.reading.begun.place ≡ 0 → s.kept ≡ [] → s.is_closed ≡ false → side_stream s rest ≡ stream_of rest
+new_stream s rest place kept open_now = λ i. record { place = place i; bytes = kept i ++ (unless_closed (open_now i) rest).bytes; is_closed = (unless_closed (open_now i) rest).is_closed }
+
+-- a machine may make another instant
+pub may_step : (made : Option ℕ) (k left : ℕ) → made ≡ Some k → k + left ≤ most_steps → 0 < left → MayStep made
+may_step made k left is few some = rw is (omega (arith, few, some))
+
+module _ {State : Type 0} where
+  -- the oracle is told a step
+  pub asks_oracle : (s : CoreState State) (text : List ℕ) → s.plan.has_oracle ≡ true → IsBetween s.oracle → s.oracle.reading.begun.decimals ≡ s.plan.scene.decimals → s.oracle.reading.slots ≡ verdict_slots
+      → text ≡ step_line s.plan (s.rules.outputs s.machine) s.inputs
+      → PutsOut (play_once_answered s s.inputs) (Some piece_kind.Question) text (record s { phase = phase.Oracle })
+  asks_oracle s text has at decimals slots written = λ fed c o. rw (written, has, asked_reply s.oracle o s.plan.scene.decimals verdict_slots at decimals slots) refl
+
+  -- the controller is told the outputs
+  pub asks_controller : (s : CoreState State) (text : List ℕ) → s.plan.controller ≡ talk.Live → IsBetween s.controller → s.controller.reading.begun.decimals ≡ s.plan.scene.decimals → s.controller.reading.slots ≡ reply_slots s.plan.controller s.plan.scene
+      → text ≡ outputs_line s.plan (s.rules.outputs s.machine)
+      → PutsOut (play_once_made s) (Some piece_kind.Outputs) text (record s { phase = phase.Controller })
+  asks_controller s text live at decimals slots written =
+      λ fed c o. rw (written, asked_reply s.controller c s.plan.scene.decimals (reply_slots s.plan.controller s.plan.scene) at decimals slots, live) refl
+
+  -- the controller's replies are those of an earlier run
+  pub replays : (s : CoreState State) (c o : Rest) → s.plan.controller ≡ talk.Replay → IsBetween s.controller → s.controller.reading.begun.decimals ≡ s.plan.scene.decimals → s.controller.reading.slots ≡ reply_slots s.plan.controller s.plan.scene
+      → play_once_made s c o ≡ resume_in phase.Controller s c o
+  replays s c o replay at decimals slots = rw (asked_reply s.controller c s.plan.scene.decimals (reply_slots s.plan.controller s.plan.scene) at decimals slots, replay) refl
+
+  -- a step may begin where some are left
+  some_left : (rules : Rules State) (plan : Plan) (left before k : ℕ) (m : State) (y : List Value) (c o : Stream) → left ≡ suc before
+      → play_from rules plan left k m y c o ≡ instant_made rules plan k (rules.instant m y) (play_from rules plan before (k + 1)) c o
+  some_left rules plan left before k m y c o e = rw e refl
+
+  -- an instant with outputs
+  values_made : (rules : Rules State) (plan : Plan) (k : ℕ) (i : Instant State) (go : State → List Value → Stream → Stream → Play) (c o : Stream) (m : State) → StepTells i outcome.Values m
+      → instant_made rules plan k i go c o ≡ controller_asked plan.controller plan (made_by rules k m) (go m) c o
+  values_made rules plan k (values next) go c o m e = rw e refl
+  values_made rules plan k (over f) go c o m e = absurd e
+
+  -- an instant at which the scenario is over
+  over_made : (rules : Rules State) (plan : Plan) (k : ℕ) (i : Instant State) (go : State → List Value → Stream → Stream → Play) (c o : Stream) (m : State) (e : ScenarioEnd) → StepTells i (outcome.Over e) m
+      → instant_made rules plan k i go c o ≡ ended plan (end_of e) (end_number (end_of e) (k - 1))
+  over_made rules plan k (values next) go c o m f e = absurd e
+  over_made rules plan k (over g) go c o m f e = rw e refl
+
+  -- the next instant has outputs
+  pub goes_on : (s : CoreState State) (m : State) (before : ℕ) (c o : Rest) → s.left ≡ suc before → StepTells (s.rules.instant s.machine s.inputs) outcome.Values m
+      → from_here s c o ≡ play_once_made (record s { left = before; machine = m; phase = phase.Made }) c o
+  goes_on s m before c o some e =
+      some_left s.rules s.plan s.left before (s.written + 1) s.machine s.inputs _ _ some
+      ∙ values_made s.rules s.plan (s.written + 1) (s.rules.instant s.machine s.inputs) (play_from s.rules s.plan before (s.written + 1 + 1)) _ _ m e
+
+  -- the scenario is over at the next instant
+  pub goes_over : (s : CoreState State) (m : State) (before : ℕ) (c o : Rest) (e : ScenarioEnd) → s.left ≡ suc before → StepTells (s.rules.instant s.machine s.inputs) (outcome.Over e) m
+      → from_here s c o ≡ ended s.plan (end_of e) (end_number (end_of e) s.written)
+  goes_over s m before c o f some e =
+      let k : s.written + 1 - 1 ≡ s.written = omega arith in
+      some_left s.rules s.plan s.left before (s.written + 1) s.machine s.inputs _ _ some
+      ∙ over_made s.rules s.plan (s.written + 1) (s.rules.instant s.machine s.inputs) (play_from s.rules s.plan before (s.written + 1 + 1)) _ _ m f e
+      ∙ ap (λ (n : ℕ). ended s.plan (end_of f) (end_number (end_of f) n)) k
+
+  -- no further step may begin
+  pub goes_to_limit : (s : CoreState State) (c o : Rest) → s.left ≡ 0 → from_here s c o ≡ ended s.plan end.Limit s.written
+  goes_to_limit s c o none =
+      let k : s.written + 1 - 1 ≡ s.written = omega arith in
+      rw none (ap (ended s.plan end.Limit) k)
+
+  -- a step is put out
+  pub puts_step : (s : CoreState State) (verdict : Bool) (text : List ℕ) → verdict ≡ true → s.phase ≡ phase.Ready
+      → text ≡ traced_step s.plan s.written (s.rules.outputs s.machine) s.inputs (s.rules.locals s.machine)
+      → PutsOut (play_once_judged s verdict) (Some piece_kind.Step) text s
+  puts_step s verdict text true_now ready written = λ fed c o. rw (written, true_now, ready) refl
+
+  -- and the end after it
+  pub puts_last_step : (s : CoreState State) (verdict : Bool) (text : List ℕ) → verdict ≡ false
+      → text ≡ traced_step s.plan s.written (s.rules.outputs s.machine) s.inputs (s.rules.locals s.machine) ++ closing_text s.plan end.Oracle s.written
+      → PutsOut (play_once_judged s verdict) (Some piece_kind.Step) text (record s { phase = phase.Over end.Oracle })
+  puts_last_step s verdict text false_now written = λ fed c o. rw (written, false_now) refl
+
+  -- the header is put out
+  pub opens : (s : CoreState State) (text : List ℕ) → s.phase ≡ phase.Fresh → text ≡ opening_text s.plan → PutsOut (resume s) (Some piece_kind.Header) text (record s { phase = phase.Ready })
+  opens s text fresh written = λ fed c o. rw (written, fresh) refl
+
+  -- a core of which nothing was put out
+  pub makes : (s : CoreState State) → s.phase ≡ phase.Fresh → s.written ≡ 0 → s.inputs ≡ first_inputs s.plan.scene
+      → s.controller.reading.begun.place ≡ 0 → s.controller.kept ≡ [] → s.controller.is_closed ≡ false
+      → s.oracle.reading.begun.place ≡ 0 → s.oracle.kept ≡ [] → s.oracle.is_closed ≡ false
+      → (c o : Rest) → resume s c o ≡ play_of s.rules s.plan s.left s.machine (stream_of c) (stream_of o)
+  makes s fresh none inputs place kept open_now place' kept' open' c o =
+      let x = new_stream s.controller c place kept open_now in
+      let y = new_stream s.oracle o place' kept' open' in
+      rw (fresh, none) (λ i. piece_then piece_kind.Header (opening_text s.plan) (play_from s.rules s.plan s.left 1 s.machine (inputs i) (x i) (y i)))

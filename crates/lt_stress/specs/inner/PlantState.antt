@@ -1,0 +1,52 @@
+-- Where the plant stands, and what it was sent and replied so that it stands there.
+use Rattle.std.specs.Prelude.{◌≡◌, ℕ, ◌==◌, Bool, true, false, ◌&&◌, List, [], ◌∷◌, ◌++◌, if◌then◌else◌}
+use Rattle.lt_stress.specs.Plant.{replies_of, sum_of}
+
+-- where a plant stands: its number, the line at hand, the bytes of its last reply that aren't received yet, and the sum of
+-- the numbers in all lines
+pub record PlantState : Type 0 where
+  pub number : ℕ
+  pub line : List ℕ
+  pub reply : List ℕ
+  pub sum : ℕ
+
+-- nothing was sent
+abbrev pub fresh : ℕ → PlantState
+fresh n = record { number = n; line = []; reply = []; sum = 0 }
+
+-- what stands after the last line feed of a text, where this part of the first line stands before
+abbrev pub open_from : List ℕ → List ℕ → List ℕ
+open_from line [] = line
+open_from line (b ∷ bs) = if b == 10 then open_from [] bs else open_from (line ++ b ∷ []) bs
+
+-- whether two texts are the same
+abbrev pub same : List ℕ → List ℕ → Bool
+same [] [] = true
+same (x ∷ xs) (y ∷ ys) = (x == y) && same xs ys
+same _ _ = false
+
+-- whether a plant of this number may stand so where these bytes were sent to it in all, and these replies received
+abbrev pub stands_with : PlantState → ℕ → List ℕ → List ℕ → Bool
+stands_with p n sent received =
+    (p.number == n) && (same (open_from [] sent) p.line && (same (replies_of n sent) (received ++ p.reply) && (sum_of sent == p.sum)))
+
+-- Whether a plant may stand so where these bytes were sent to it in all, and these were received: first its number, which
+-- stands for what it was before, and then its replies. It never ends.
+abbrev pub may_stand : PlantState → List ℕ → List ℕ → Bool → Bool
+may_stand p sent (n ∷ received) false = stands_with p n sent received
+may_stand p sent received is_over = false
+
+-- the same as a fact
+pub record StandsAfter (n : ℕ) (p : PlantState) (sent received : List ℕ) : Type 0 where
+  pub number : p.number ≡ n
+  pub line : open_from [] sent ≡ p.line
+  pub replies : replies_of n sent ≡ received ++ p.reply
+  pub sum : sum_of sent ≡ p.sum
+
+-- A plant takes bytes that are sent: it stands as it should with these more.
+abbrev pub Takes : PlantState → List ℕ → PlantState → Type 0
+Takes old bytes new = (n : ℕ) (s r : List ℕ) → StandsAfter n old s r → StandsAfter n new (s ++ bytes) r
+
+-- A plant gives bytes that are received.
+abbrev pub Gives : PlantState → List ℕ → PlantState → Type 0
+Gives old bytes new = (n : ℕ) (s r : List ℕ) → StandsAfter n old s r → StandsAfter n new s (r ++ bytes)

@@ -1,5 +1,0 @@
-use Rattle.lt_words.proofs.Numbers.{printed_numbers_are_taken}
-use Rattle.lt_words.proofs.laws.printed_numbers_are_taken.Goals as goal
-
-pub returns : goal.returns
-returns c = printed_numbers_are_taken
