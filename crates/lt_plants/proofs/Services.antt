@@ -83,3 +83,14 @@ served_told ending.TooLong plant last (Some xs) l1 s0 s1 h other =
 served_told ending.TooMany plant last (Some xs) l1 s0 s1 h other =
     let told = told_at xs l1 h.0 h.1 in
     record { taken = h.0; after = told.0; takes = told.2; leaves = told.1; replies = h.3.0; sends = h.3.2; number = h.3.1; answers = inr (h.2, h.3.3, refl) }
+
+-- the number of a failed link is of no other ending
+pub failed_code : (e : Ending) (n : ℕ) → n ≡ code_of e → n ≡ 9 → e ≡ ending.Failed
+failed_code ending.Ended n is nine = absurd (omega (arith, is, nine))
+failed_code ending.NoReply n is nine = absurd (omega (arith, is, nine))
+failed_code ending.TooLong n is nine = absurd (omega (arith, is, nine))
+failed_code ending.TooMany n is nine = absurd (omega (arith, is, nine))
+failed_code ending.Failed n is nine = refl
+
+pub other_code : (e : Ending) (n : ℕ) → n ≡ code_of e → n ≢ 9 → e ≢ ending.Failed
+other_code e n is other failed = other (is ∙ ap code_of failed)

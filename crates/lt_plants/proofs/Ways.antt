@@ -1,5 +1,5 @@
 -- On the way through an input.
-use Rattle.std.proofs.Common.{◌≡◌, ℕ, ◌<◌, ◌≤◌, ◌+◌, List, [], ◌∷◌, ◌++◌, length, append_assoc, subst, sym, ap, refl, arith, zero, suc, ◌-◌, ◌∙◌, take, drop, replicate, OnOk, Ok, Err, Bool, get_or, drop-cons, add-one, append-nil, true, false, nat_lt}
+use Rattle.std.proofs.Common.{◌≡◌, ℕ, ◌<◌, ◌≤◌, ◌+◌, List, [], ◌∷◌, ◌++◌, length, append_assoc, subst, sym, ap, refl, arith, zero, suc, ◌-◌, ◌∙◌, take, drop, replicate, OnOk, IfErr, Ok, Err, Bool, get_or, drop-cons, add-one, append-nil, true, false, nat_lt, if◌then◌else◌}
 use Rattle.std.proofs.Math.Seq.{take-append-add}
 use Rattle.std.proofs.lemmas.List.{drop-replicate}
 use Rattle.std.proofs.lemmas.Bool.{ltb-true, ltb-false}
@@ -17,6 +17,11 @@ use Rattle.lt_plants.specs.declared.ending.Ending.TheVariants as ending
 pub where_ok : {T E : Type 0} (r : Result T E) (P Q : Type 0) → (P → Q) → OnOk r P → OnOk r Q
 where_ok (Ok x) P Q f p = f p
 where_ok (Err e) P Q f p = tt
+
+-- a reply that could not be sent ends the service
+pub sent_ends : {T : Type 0} (r : Result T Ending) (a b : Option (List ℕ)) (due : List ℕ → List ℕ → ℕ → Type 0) → IfErr r (λ e. e ≡ ending.Failed) → IfErr r (λ e. HasEnding a b due e)
+sent_ends (Ok x) a b due h = tt
+sent_ends (Err e) a b due h = subst (HasEnding a b due) (sym h) tt
 
 -- the bytes of a piece from one on
 bytes_from : (piece bytes : List ℕ) (i byte : ℕ) → i < length piece → byte ≡ get_or piece i 0 → drop i piece ++ bytes ≡ byte ∷ (drop (i + 1) piece ++ bytes)
@@ -106,3 +111,18 @@ fed reply h =
     take-append-add reply (drop (length reply) (replicate 25 10)) 1
     ∙ ap (λ t. reply ++ take 1 t) (drop-replicate (length reply) 25 10)
     ∙ ap (λ t. reply ++ t) (line_feed (25 - length reply) (omega arith))
+
+other_failed : (b : Bool) (e : Ending) → (e ≡ ending.Failed → ⊥) → (if b then e else ending.TooMany) ≡ ending.Failed → ⊥
+other_failed true e not_failed h = not_failed h
+other_failed false e not_failed h = cc h
+
+-- a limited ending is a failed link where the ending is
+pub limited_failed : (taken : ℕ) (e : Ending) → limited_of taken e ≡ ending.Failed → e ≡ ending.Failed
+limited_failed taken ending.Failed h = refl
+limited_failed taken ending.Ended h = absurd (other_failed (nat_lt taken most_taken) ending.Ended (λ f. cc f) h)
+limited_failed taken ending.NoReply h = absurd (other_failed (nat_lt taken most_taken) ending.NoReply (λ f. cc f) h)
+limited_failed taken ending.TooLong h = absurd (other_failed (nat_lt taken most_taken) ending.TooLong (λ f. cc f) h)
+limited_failed taken ending.TooMany h = absurd (other_failed (nat_lt taken most_taken) ending.TooMany (λ f. cc f) h)
+
+pub failed_limited : (taken : ℕ) (e : Ending) → e ≡ ending.Failed → limited_of taken e ≡ ending.Failed
+failed_limited taken e is = ap (limited_of taken) is

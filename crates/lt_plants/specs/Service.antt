@@ -1,7 +1,9 @@
 -- What is due to an input: the replies to its lines, and the number at its end. The byte 10 is the line feed.
-use Rattle.std.specs.Prelude.{◌≡◌, ℕ, ◌^◌, ◌<◌, ◌≤◌, ◌==◌, Bool, List, [], ◌∷◌, ◌++◌, length, Some, ◌⊎◌, if◌then◌else◌}
+use Rattle.std.specs.Prelude.{◌≡◌, ◌≢◌, ℕ, ◌^◌, ◌<◌, ◌≤◌, ◌==◌, Bool, List, [], ◌∷◌, ◌++◌, length, Some, ◌⊎◌, if◌then◌else◌}
 use Rattle.std.specs.Io.KnownBytes.{Appends}
 use Rattle.std.specs.declared.option.Option.{Option}
+use Rattle.lt_io.specs.Causes.{Rose, WhereTold}
+use Rattle.lt_io.specs.Link.{Link}
 use Rattle.lt_plants.specs.Replies.{IsReply, HasNoReply}
 use Rattle.lt_plants.specs.declared.plant.Plant.{Plant}
 
@@ -51,3 +53,10 @@ pub record IsServed (plant : Plant) (last : Bool) (bytes : List ℕ) (left sent_
   pub number : ℕ
   pub answers : ((length taken < most_taken) × IsDue plant last (input_of [] bytes) replies number × (answer ≡ number))
       ⊎ ((most_taken ≤ length taken) × IsDue plant last (input_of [] taken) replies number × (answer ≡ 4))
+
+-- What serving a plant over a link did, with this answer: 9 where the link failed, whose count of faults rose, and else the
+-- one that is due to the bytes of a link that tells them, and the count stayed.
+pub record IsServedOver (plant : Plant) (last : Bool) (old new : Link) (answer : ℕ) : Type 0 where
+  pub fault : answer ≡ 9 → Rose old.faults new.faults
+  pub calm : answer ≢ 9 → new.faults ≡ old.faults
+  pub served : answer ≢ 9 → WhereTold old.left (λ bytes. IsServed plant last bytes new.left old.sent new.sent answer)

@@ -1,11 +1,9 @@
 //! All lines of a link.
 
-ghost use Rattle.std.specs.Prelude.{◌≡◌, ◌≢◌, ◌<◌, ◌≤◌, ◌+◌, ◌++◌, [], ◌∷◌, take, length, List, ℕ, IfErr, IfSome, IfNone, OnOk, Some, None};
-ghost use Rattle.std.specs.Io.KnownBytes.{Appends, Keeps};
-ghost use Rattle.lt_io.specs.Causes.{Rose, WhereTold};
-ghost use Rattle.lt_plants.specs.Service.{line, input_of, longest_line, most_taken, IsDue, IsServed};
+ghost use Rattle.std.specs.Prelude.{◌≡◌, ◌≤◌, ◌++◌, [], ◌∷◌, length};
+ghost use Rattle.lt_plants.specs.Service.{IsDue, IsServedOver, input_of, line, longest_line};
 ghost use Rattle.lt_plants.specs.inner.Endings.{code_of};
-ghost use Rattle.lt_plants.specs.inner.Going.{due_after, EndsAfter, GoesOn, Serves, HasEnding, limited_of};
+ghost use Rattle.lt_plants.specs.inner.Going.{SendsLine, ServesLink, Takes, TakesPiece, due_after, limited_of};
 
 use crate::ending::Ending;
 use crate::line::{Line, TooLong};
@@ -29,11 +27,8 @@ const MOST_TAKEN: u64 = 1 << 63;
 /// | 4 | 2^63 bytes or more were taken before one of these answers |
 /// | 9 | the link failed, and its count of faults rose |
 pub fn serve<L: Link>(playing: &mut Playing, link: &mut L) -> u8
-    ensures fault { result ≡ 9 → Rose (L.state link.old).faults (L.state link.new).faults }
-    ensures calm { result ≢ 9 → (L.state link.new).faults ≡ (L.state link.old).faults }
-    ensures served { result ≢ 9 → WhereTold (L.state link.old).left (λ bytes.
-        IsServed playing.old.plant playing.old.last bytes (L.state link.new).left
-        (L.state link.old).sent (L.state link.new).sent result) }
+    ensures served { IsServedOver playing.old.plant playing.old.last
+        (L.state link.old) (L.state link.new) result }
     ensures plant { playing.new.plant ≡ playing.old.plant }
 {
     let mut session = Session {
@@ -56,12 +51,8 @@ impl Session {
     // Replies to all lines.
     fn serve<L: Link>(&mut self, link: &mut L) -> Ending
         requires { self.old.line ≡ [] }
-        ensures fault { result ≡ Ending.Failed →
-            Rose (L.state link.old).faults (L.state link.new).faults }
-        ensures calm { result ≢ Ending.Failed →
-            (L.state link.new).faults ≡ (L.state link.old).faults }
-        ensures served { Serves self.old.playing.plant self.old.playing.last (L.state link.old).left
-            (L.state link.new).left (L.state link.old).sent (L.state link.new).sent result }
+        ensures served { ServesLink self.old.playing.plant self.old.playing.last
+            (L.state link.old) (L.state link.new) result }
         ensures plant { self.new.playing.plant ≡ self.old.playing.plant }
     {
         let mut buffer = [0; 4096];
@@ -83,18 +74,11 @@ impl Session {
     // Takes some bytes, the last of so many, and answers how the service ends there, where it does.
     fn take_piece<L: Link>(&mut self, piece: &[u8], taken: u64, link: &mut L) -> Option<Ending>
         requires { length self.old.line ≤ longest_line }
-        ensures goes { IfNone result (GoesOn (L.state link.old).sent (L.state link.new).sent
-            (λ bytes. due_after self.old.playing.plant self.old.playing.last self.old.line (piece.now ++ bytes))
-            (due_after self.new.playing.plant self.new.playing.last self.new.line)) }
-        ensures few { IfNone result (taken < most_taken) }
-        ensures ends { IfSome result (λ ending.
-            EndsAfter (L.state link.old).sent (L.state link.new).sent
-            (λ bytes. due_after self.old.playing.plant self.old.playing.last self.old.line (piece.now ++ bytes)) taken ending) }
-        ensures fault { result ≡ Some Ending.Failed →
-            Rose (L.state link.old).faults (L.state link.new).faults }
-        ensures calm { result ≢ Some Ending.Failed →
-            (L.state link.new).faults ≡ (L.state link.old).faults }
-        ensures left { Keeps (L.state link.old).left (L.state link.new).left }
+        ensures takes { TakesPiece (L.state link.old) (L.state link.new)
+            (λ bytes. due_after self.old.playing.plant self.old.playing.last self.old.line
+            (piece.now ++ bytes))
+            (due_after self.new.playing.plant self.new.playing.last self.new.line)
+            taken result }
         ensures plant { self.new.playing.plant ≡ self.old.playing.plant }
         ensures short { length self.new.line ≤ longest_line }
     {
@@ -108,17 +92,11 @@ impl Session {
     // Takes some bytes.
     fn take_all<L: Link>(&mut self, piece: &[u8], link: &mut L) -> Result<(), Ending>
         requires { length self.old.line ≤ longest_line }
-        ensures goes { OnOk result (GoesOn (L.state link.old).sent (L.state link.new).sent
-            (λ bytes. due_after self.old.playing.plant self.old.playing.last self.old.line (piece.now ++ bytes))
-            (due_after self.new.playing.plant self.new.playing.last self.new.line)) }
-        ensures ends { IfErr result (λ ending.
-            HasEnding (L.state link.old).sent (L.state link.new).sent
-            (λ bytes. due_after self.old.playing.plant self.old.playing.last self.old.line (piece.now ++ bytes)) ending) }
-        ensures fault { result ≡ Err Ending.Failed →
-            Rose (L.state link.old).faults (L.state link.new).faults }
-        ensures calm { result ≢ Err Ending.Failed →
-            (L.state link.new).faults ≡ (L.state link.old).faults }
-        ensures left { Keeps (L.state link.old).left (L.state link.new).left }
+        ensures takes { Takes (L.state link.old) (L.state link.new)
+            (λ bytes. due_after self.old.playing.plant self.old.playing.last self.old.line
+            (piece.now ++ bytes))
+            (due_after self.new.playing.plant self.new.playing.last self.new.line)
+            result }
         ensures plant { self.new.playing.plant ≡ self.old.playing.plant }
         ensures short { length self.new.line ≤ longest_line }
     {
@@ -133,19 +111,11 @@ impl Session {
 
     // Takes a byte.
     fn take<L: Link>(&mut self, byte: u8, link: &mut L) -> Result<(), Ending>
-        ensures goes { OnOk result (GoesOn (L.state link.old).sent (L.state link.new).sent
-            (λ bytes. due_after self.old.playing.plant self.old.playing.last self.old.line (byte ∷
-            bytes))
-            (due_after self.new.playing.plant self.new.playing.last self.new.line)) }
-        ensures ends { IfErr result (λ ending.
-            HasEnding (L.state link.old).sent (L.state link.new).sent
-            (λ bytes. due_after self.old.playing.plant self.old.playing.last self.old.line (byte ∷
-            bytes)) ending) }
-        ensures fault { result ≡ Err Ending.Failed →
-            Rose (L.state link.old).faults (L.state link.new).faults }
-        ensures calm { result ≢ Err Ending.Failed →
-            (L.state link.new).faults ≡ (L.state link.old).faults }
-        ensures left { Keeps (L.state link.old).left (L.state link.new).left }
+        ensures takes { Takes (L.state link.old) (L.state link.new)
+            (λ bytes. due_after self.old.playing.plant self.old.playing.last self.old.line
+            (byte ∷ bytes))
+            (due_after self.new.playing.plant self.new.playing.last self.new.line)
+            result }
         ensures plant { self.new.playing.plant ≡ self.old.playing.plant }
         ensures short { length self.new.line ≤ longest_line }
     {
@@ -160,17 +130,11 @@ impl Session {
 
     // Replies to the line that has ended.
     fn end_line<L: Link>(&mut self, link: &mut L) -> Result<(), Ending>
-        ensures goes { OnOk result (GoesOn (L.state link.old).sent (L.state link.new).sent
-            (λ bytes. IsDue self.old.playing.plant self.old.playing.last (line self.old.line (input_of [] bytes)))
-            (due_after self.new.playing.plant self.new.playing.last self.new.line)) }
-        ensures ends { IfErr result (λ ending.
-            HasEnding (L.state link.old).sent (L.state link.new).sent
-            (λ bytes. IsDue self.old.playing.plant self.old.playing.last (line self.old.line (input_of [] bytes))) ending) }
-        ensures fault { result ≡ Err Ending.Failed →
-            Rose (L.state link.old).faults (L.state link.new).faults }
-        ensures calm { result ≢ Err Ending.Failed →
-            (L.state link.new).faults ≡ (L.state link.old).faults }
-        ensures left { Keeps (L.state link.old).left (L.state link.new).left }
+        ensures takes { Takes (L.state link.old) (L.state link.new)
+            (λ bytes. IsDue self.old.playing.plant self.old.playing.last
+            (line self.old.line (input_of [] bytes)))
+            (due_after self.new.playing.plant self.new.playing.last self.new.line)
+            result }
         ensures plant { self.new.playing.plant ≡ self.old.playing.plant }
         ensures short { length self.new.line ≤ longest_line }
     {
@@ -186,14 +150,7 @@ impl Session {
 // Sends a reply with its line feed.
 fn send_line<L: Link>(reply: &[u8], link: &mut L) -> Result<(), Ending>
     requires { length reply.now ≤ 24 }
-    ensures sent { OnOk result (Appends (L.state link.old).sent (L.state link.new).sent
-        (reply.now ++ 10 ∷ [])) }
-    ensures ends { IfErr result (λ ending. ending ≡ Ending.Failed) }
-    ensures fault { result ≡ Err Ending.Failed →
-        Rose (L.state link.old).faults (L.state link.new).faults }
-    ensures calm { result ≢ Err Ending.Failed →
-        (L.state link.new).faults ≡ (L.state link.old).faults }
-    ensures left { Keeps (L.state link.old).left (L.state link.new).left }
+    ensures sends { SendsLine reply.now (L.state link.old) (L.state link.new) result }
 {
     let mut text = [b'\n'; 25];
     text[..reply.len()].copy_from_slice(reply);
