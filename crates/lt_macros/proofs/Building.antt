@@ -1,6 +1,7 @@
 -- Trees as they are built.
 use Rattle.std.proofs.Common.{◌≡◌, ℕ, ◌-◌, ◌<◌, ◌≤◌, Bool, true, false, ◌&&◌, nat_le, IsTrue, List, [], ◌∷◌, length, map, drop, Result, IfOk, refl, ap, sym, subst, ◌∙◌, arith}
 use Rattle.std.proofs.lemmas.Bool.{le-leb}
+use Rattle.std.proofs.lemmas.Result.{IfOk-weaker}
 use Rattle.lt_ast.specs.Syntax as s
 use Rattle.lt_ast.specs.Syntax.{Figure, Trace}
 use Rattle.std.specs.Borrow.{Bor}
@@ -14,12 +15,15 @@ use Rattle.lt_macros.specs.Expanded as x
 use Rattle.lt_macros.specs.Literals.{number_at}
 use Rattle.lt_macros.specs.Placed.{Placed, meaningless}
 use Rattle.lt_macros.specs.Denotation.{Denotation, Numbers, Numbered, as_expression, as_trace, around_two, behind_term, trace_denotation, traces_denotation}
+use Rattle.lt_macros.specs.inner.Builder.{Builds, IsBuilt, IsKept, IsReady, names_at, work_at}
+use Rattle.lt_macros.specs.inner.Handing.{AreRight}
 use Rattle.lt_macros.specs.inner.HeadNormalForm.{AddsTo, form_reads}
 use Rattle.lt_macros.specs.Tree.{placed}
 use Rattle.lt_macros.specs.declared.head_normal_form.HeadNormalForm.{HeadNormalForm}
 use Rattle.lt_macros.specs.declared.head_normal_form.HeadNormalForm.TheVariants.{Number}
 use Rattle.lt_macros.specs.declared.tree.Placed.{Placed as Tree}
-use Rattle.lt_macros.specs.inner.Reading.{meant}
+use Rattle.lt_macros.specs.inner.Reading.{environment, meant, worked}
+use Rattle.lt_macros.specs.declared.builder.Builder.{Builder}
 use Rattle.lt_macros.specs.inner.Seen.{Seen, an_expression, a_trace}
 use Rattle.lt_macros.specs.declared.scope.Entry.{Entry}
 use Rattle.lt_macros.proofs.Adding.{adds_both, adds_length, adds_none, adds_one, all_back}
@@ -45,6 +49,33 @@ linked_variable count outer h = by (nat_le outer count) (le-leb outer count h)
     by : (b : Bool) → IsTrue b → IsTrue (b && true)
     by true h = h
     by false h = h
+
+-- Builders.
+
+-- a builder has what it has
+pub kept_none : (b : Builder) → IsKept b b
+kept_none b = record { names = refl; decimals = refl }
+
+-- what it has before and after what keeps it, it has after both
+pub kept_both : (old mid new : Builder) → IsKept old mid → IsKept mid new → IsKept old new
+kept_both old mid new first second = record { names = second.names ∙ first.names; decimals = second.decimals ∙ first.decimals }
+
+-- names stand for the same
+pub names_kept : (old new : Builder) (k : ℕ) → IsKept old new → names_at new k ≡ names_at old k
+names_kept old new k kept = λ i. environment (meant (kept.decimals i)) (kept.names i) k
+
+-- they are as much work
+pub work_kept : (old new : Builder) (k : ℕ) → IsKept old new → work_at new k ≡ work_at old k
+work_kept old new k kept = ap (λ es. environment worked es k) kept.names
+
+-- an environment is there still
+pub ready_kept : (old new : Builder) (k : ℕ) → IsKept old new → IsReady old k → IsReady new k
+ready_kept old new k kept ready =
+    record { within = subst (λ es. k ≤ length es) (sym kept.names) ready.within; right = subst AreRight (sym kept.names) ready.right }
+
+-- what is made without names is made by a builder
+pub builds : {T E : Type 0} (old new : Builder) (r : Result T E) (P : T → Type 0) → IsKept old new → IfOk r P → Builds old new r P
+builds old new r P kept made = IfOk-weaker r P (λ x. IsBuilt (P x) old new) (λ x is. record { made = is; kept = kept }) made
 
 -- a number that is met is the constant that it stands for
 pub number_form : (d : ℕ) (rows : List Entry) (h : HeadNormalForm) (l : Bor Literal) (r : Result Tree Memory) → h ≡ Number l → IfOk r (λ e. placed e ≡ number_at d (figure l.now)) → IfOk r (λ e. placed e ≡ as_expression (form_reads (meant d) rows h))

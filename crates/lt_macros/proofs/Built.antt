@@ -19,6 +19,7 @@ use Rattle.lt_formula.specs.declared.memory.Memory.{Memory}
 use Rattle.lt_macros.specs.Environment.{Environment, found_exception}
 use Rattle.lt_macros.specs.Expanded as x
 use Rattle.lt_macros.specs.Denotation.{Denotation, Numbers, Numbered, NumberedParts, alone, alternative_denotation, around_one, around_two, as_trace, as_expression, before_parts, behind_term, bounds_of, caught_as, exp_denotation, handler_denotation, parts_of, raised_as, repeated, trace_denotation, weight_of}
+use Rattle.lt_macros.specs.inner.Builder.{IsKept, names_at, trace_at, value_at}
 use Rattle.lt_macros.specs.inner.Built.{AreBuilt, behind_turns, boxed, in_two, items_onto, looped, numbered, parts_onto}
 use Rattle.lt_macros.specs.inner.HeadNormalForm.{form_reads}
 use Rattle.lt_macros.specs.inner.Phrase.{Phrase, phrase_denotation}
@@ -26,6 +27,7 @@ use Rattle.lt_macros.specs.inner.Reading.{environment, meant, raised_by}
 use Rattle.lt_macros.specs.inner.Numbers.{numbers_view}
 use Rattle.lt_macros.specs.Tree.{expanded, part_row, parts, placed}
 use Rattle.lt_macros.specs.inner.Work.{alternative_work, alternatives_work, trace_work}
+use Rattle.lt_macros.specs.declared.builder.Builder.{Builder}
 use Rattle.lt_macros.specs.declared.build.Boxed.{Boxed}
 use Rattle.lt_macros.specs.declared.build.Numbered as code
 use Rattle.lt_macros.specs.declared.build.Two.{Two}
@@ -38,26 +40,27 @@ use Rattle.lt_macros.specs.declared.tree.Part.{Part}
 use Rattle.lt_macros.specs.declared.tree.Parts.{Parts, Parts', Row_of-Part, end_of-Part, more_of-Part, items-the_row-Part, items_shown-the_row-Part-0, out-Parts, out-roll-Parts, roll-Parts}
 use Rattle.lt_macros.specs.declared.tree.Expanded.TheBlock.{shown-the_row-Part-0}
 use Rattle.lt_macros.specs.declared.tree.Placed.{Placed as Expression}
+use Rattle.lt_macros.proofs.Building.{names_kept}
 
--- a trace of a phrase, where the entries and the numbers are others that are the same
-pub built_where : (d : ℕ) (old now : List Entry) (k : ℕ) (q : Phrase) (n m : Numbers) (b : Numbered) → now ≡ old → m ≡ n → b ≡ as_trace (phrase_denotation (environment (meant d) now k) q) m → b ≡ as_trace (phrase_denotation (environment (meant d) old k) q) n
-built_where d old now k q n m b same is h = h ∙ (λ i. as_trace (phrase_denotation (environment (meant d) (same i) k) q) (is i))
+-- a trace of a phrase, where the builder is kept, and the numbers are others that are the same
+pub built_where : (old now : Builder) (k : ℕ) (q : Phrase) (n m : Numbers) (b : Numbered) → IsKept old now → m ≡ n → b ≡ as_trace (phrase_denotation (names_at now k) q) m → b ≡ as_trace (phrase_denotation (names_at old k) q) n
+built_where old now k q n m b kept is h = h ∙ (λ i. as_trace (phrase_denotation (names_kept old now k kept i) q) (is i))
 
 -- a trace in a box
 pub box_built : (b : Boxed) (inner : code.Numbered) (made : Numbered) → b.trace.value ≡ inner.expanded → b.after ≡ inner.after → numbered inner ≡ made → boxed b ≡ made
 box_built b inner made v a h = (λ i. record { expanded = expanded (v i); after = numbers_view (a i) }) ∙ h
 
 -- two traces
-pub two_built : (d : ℕ) (old now : List Entry) (k : ℕ) (p q : Phrase) (n m : Numbers) (before behind : Boxed) (t : Two) → now ≡ old → m ≡ behind_term n
+pub two_built : (old now : Builder) (k : ℕ) (p q : Phrase) (n m : Numbers) (before behind : Boxed) (t : Two) → IsKept old now → m ≡ behind_term n
     → t.first ≡ before.trace → t.second ≡ behind.trace → t.after ≡ behind.after
-    → boxed before ≡ as_trace (phrase_denotation (environment (meant d) old k) p) m
-    → boxed behind ≡ as_trace (phrase_denotation (environment (meant d) now k) q) (numbers_view before.after)
-    → AreBuilt t (as_trace (phrase_denotation (environment (meant d) old k) p) (behind_term n)) (as_trace (phrase_denotation (environment (meant d) old k) q))
-two_built d old now k p q n m before behind t same is v w a h g =
-    let env = environment (meant d) old k in
+    → boxed before ≡ as_trace (phrase_denotation (names_at old k) p) m
+    → boxed behind ≡ as_trace (phrase_denotation (names_at now k) q) (numbers_view before.after)
+    → AreBuilt t (as_trace (phrase_denotation (names_at old k) p) (behind_term n)) (as_trace (phrase_denotation (names_at old k) q))
+two_built old now k p q n m before behind t kept is v w a h g =
+    let env = names_at old k in
     let first : boxed before ≡ as_trace (phrase_denotation env p) (behind_term n) = h ∙ ap (as_trace (phrase_denotation env p)) is in
     let second : boxed behind ≡ as_trace (phrase_denotation env q) (as_trace (phrase_denotation env p) (behind_term n)).after =
-    built_where d old now k q (numbers_view before.after) (numbers_view before.after) (boxed behind) same refl g ∙ (λ i. as_trace (phrase_denotation env q) (first i).after) in
+    built_where old now k q (numbers_view before.after) (numbers_view before.after) (boxed behind) kept refl g ∙ (λ i. as_trace (phrase_denotation env q) (first i).after) in
     record {
       first_is = ap (λ (b : Box Tree Global). expanded b.value) v ∙ (λ i. (first i).expanded);
       second_is = ap (λ (b : Box Tree Global). expanded b.value) w ∙ (λ i. (second i).expanded);
@@ -96,12 +99,12 @@ catch_built d old now h name t handler k n found text two r is text_is same foun
     IfOk-weaker r (λ b. (decimals : ℕ) → numbered b ≡ in_two (caught_as (raised_by (meant decimals) found)) two) (λ b. numbered b ≡ as_trace (form_reads (meant d) old h) n) (λ b same. same d ∙ read) done
 
 -- a trace with a constraint that holds
-pub assert_built : (d : ℕ) (old now : List Entry) (k : ℕ) (e : Exp) (t : Trace) (n m : Numbers) (constraint : Expression) (inner : Boxed) → now ≡ old → m ≡ behind_term n
-    → placed constraint ≡ as_expression (exp_denotation (environment (meant d) now k) e) → boxed inner ≡ as_trace (trace_denotation (environment (meant d) old k) t) m
-    → record { expanded = x.assert (placed constraint) (expanded inner.trace.value); after = numbers_view inner.after } ≡ as_trace (trace_denotation (environment (meant d) old k) (s.assert e t)) n
-assert_built d old now k e t n m constraint inner same is made h =
-    let env = environment (meant d) old k in
-    let holds : placed constraint ≡ as_expression (exp_denotation env e) = made ∙ ap (λ rows. as_expression (exp_denotation (environment (meant d) rows k) e)) same in
+pub assert_built : (old now : Builder) (k : ℕ) (e : Exp) (t : Trace) (n m : Numbers) (constraint : Expression) (inner : Boxed) → IsKept old now → m ≡ behind_term n
+    → placed constraint ≡ value_at now k e → boxed inner ≡ trace_at old k t m
+    → record { expanded = x.assert (placed constraint) (expanded inner.trace.value); after = numbers_view inner.after } ≡ trace_at old k (s.assert e t) n
+assert_built old now k e t n m constraint inner kept is made h =
+    let env = names_at old k in
+    let holds : placed constraint ≡ as_expression (exp_denotation env e) = made ∙ ap (λ names. as_expression (exp_denotation names e)) (names_kept old now k kept) in
     let inside : boxed inner ≡ as_trace (trace_denotation env t) (behind_term n) = h ∙ ap (as_trace (trace_denotation env t)) is in
     (λ i. record { expanded = x.assert (holds i) (expanded inner.trace.value); after = numbers_view inner.after }) ∙ ap (around_one (x.assert (as_expression (exp_denotation env e)))) inside
 
@@ -111,13 +114,13 @@ loops env s.forever body n = refl
 loops env (s.between d e) body n = refl
 loops env (s.around d e) body n = refl
 
-pub loop_built : (d : ℕ) (old now : List Entry) (k : ℕ) (l : Limits) (t : Trace) (n m : Numbers) (turns : Option x.Bounds) (turn : Boxed) → now ≡ old → m ≡ behind_turns l n
-    → turns ≡ bounds_of (environment (meant d) now k) l → boxed turn ≡ as_trace (trace_denotation (environment (meant d) old k) t) m
-    → record { expanded = looped turns n.counter (expanded turn.trace.value); after = numbers_view turn.after } ≡ as_trace (trace_denotation (environment (meant d) old k) (s.loop l t)) n
-loop_built d old now k l t n m turns turn same is bounds h =
-    let env = environment (meant d) old k in
+pub loop_built : (old now : Builder) (k : ℕ) (l : Limits) (t : Trace) (n m : Numbers) (turns : Option x.Bounds) (turn : Boxed) → IsKept old now → m ≡ behind_turns l n
+    → turns ≡ bounds_of (names_at now k) l → boxed turn ≡ trace_at old k t m
+    → record { expanded = looped turns n.counter (expanded turn.trace.value); after = numbers_view turn.after } ≡ trace_at old k (s.loop l t) n
+loop_built old now k l t n m turns turn kept is bounds h =
+    let env = names_at old k in
     let body : Numbers → Numbered = as_trace (trace_denotation env t) in
-    let bounds' : turns ≡ bounds_of env l = bounds ∙ ap (λ rows. bounds_of (environment (meant d) rows k) l) same in
+    let bounds' : turns ≡ bounds_of env l = bounds ∙ ap (λ names. bounds_of names l) (names_kept old now k kept) in
     let inside : boxed turn ≡ body (behind_turns l n) = h ∙ ap body is in
     (λ i. record { expanded = looped (bounds' i) n.counter (expanded turn.trace.value); after = numbers_view turn.after }) ∙ ap (around_one (looped (bounds_of env l) n.counter)) inside ∙ loops env l body n
 

@@ -22,3 +22,4 @@ pub mod Steps
 pub mod Parameters
 pub mod Asking
 pub mod Built
+pub mod Builder

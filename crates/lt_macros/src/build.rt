@@ -1,30 +1,28 @@
 //! The tree that a node stands for.
 
-ghost use Rattle.std.specs.Prelude.{◌≡◌, ◌≤◌, ◌<◌, ◌-◌, ◌+◌, ℕ, false, IfOk, OnOk, length, map, option_map};
+ghost use Rattle.std.specs.Prelude.{◌≡◌, ◌≤◌, ◌<◌, ◌-◌, ℕ, false, IfOk, length, map, option_map};
 ghost use Rattle.lt_ast.specs.View.{alternatives, groupings, limits, trace as trace_view, word};
 ghost use Rattle.lt_ast.specs.Syntax as s;
 ghost use Rattle.lt_ast.specs.inner.Lists.{alternatives_of, traces_of};
 ghost use Rattle.lt_ast.specs.inner.Rows.{maybe_trace, part_of};
 ghost use Rattle.lt_ast.specs.View.{exp};
-ghost use Rattle.lt_num.specs.Bounds.{most_decimals};
 ghost use Rattle.lt_macros.specs.Expanded as x;
 ghost use Rattle.lt_macros.specs.Expansion.{node_of};
-ghost use Rattle.lt_macros.specs.Denotation.{alone, around_two, as_expression, as_trace, behind_term, bounds_of as limits_bounds, caught_as, chosen, parts_of, raised_as as raised_tree, weight_of};
+ghost use Rattle.lt_macros.specs.Denotation.{alone, as_expression, as_trace, behind_term, bounds_of as limits_bounds, braces_denotation, caught_as, chosen, parts_of, raised_as as raised_tree, traces_denotation, weight_of};
+ghost use Rattle.lt_macros.specs.inner.Builder.{Builds, IsReady, IsReadyFor, form_denotation, names_at, phrase_at, trace_at, value_at};
 ghost use Rattle.lt_macros.specs.inner.Built.{AreBuilt, behind_turns, boxed, in_all, in_two, looped, numbered, numbered_parts};
-ghost use Rattle.lt_macros.specs.inner.Handing.{AreRight};
-ghost use Rattle.lt_macros.specs.inner.HeadNormalForm.{IsWithin, form_reads};
 ghost use Rattle.lt_macros.specs.inner.Numbers.{numbers_view};
-ghost use Rattle.lt_macros.specs.inner.Phrase.{braces, joined, joined_by, trace, value};
-ghost use Rattle.lt_macros.specs.inner.Reading.{environment as environment_of, meant, raised_by, phrase_view};
-ghost use Rattle.lt_macros.specs.inner.Rows.{rows};
+ghost use Rattle.lt_macros.specs.inner.Phrase.{joined_by};
+ghost use Rattle.lt_macros.specs.inner.Reading.{meant, raised_by};
 ghost use Rattle.lt_macros.specs.Tree.{bounds as bounds_view, declared as declared_view, exception as exception_view, expanded as expanded_view, node as node_view, placed};
 
+use crate::builder::Builder;
 use crate::expressions::{build_expr, build_expr_form};
 use crate::head_normal_form::{HeadNormalForm, reduce};
 use crate::literals::unwritten_weight;
 use crate::numbers::Numbers;
 use crate::position::Position;
-use crate::scope::{Before, Declared as Raised, Join, Phrase, Scope};
+use crate::scope::{Before, Declared as Raised, Join, Phrase};
 use crate::tree::{Bounds, Declared, Exception, Expanded, Node, Part, Parts, Placed};
 use crate::variables::declare_groups;
 use lt_ast::{
@@ -75,49 +73,22 @@ struct Two {
 
 // A node, in the environment at its place.
 pub(crate) fn build_node<'a>(
-    alloc: Global,
-    scope: &mut Scope<'a>,
-    decimals: u32,
+    builder: Builder<'a>,
     environment: usize,
     node: &'a NodeDecl,
 ) -> Result<Node, Memory>
-    requires few { decimals ≤ most_decimals }
-    requires within { environment ≤ length (rows scope.old) }
-    requires right { AreRight (rows scope.old) }
-    ensures tree { IfOk result (λ n. node_view n ≡ node_of (environment_of (meant decimals) (rows scope.old) environment) (word node.now.name) (groupings node.now.inputs) (groupings node.now.outputs) (trace_view node.now.body)) }
-    ensures kept { OnOk result (rows scope.new ≡ rows scope.old) }
+    requires { IsReady builder environment }
+    ensures { IfOk result (λ n.
+        node_view n ≡ node_of (names_at builder.entry environment) (word node.now.name)
+        (groupings node.now.inputs) (groupings node.now.outputs) (trace_view node.now.body)) }
 {
-    let before = scope.len();
+    let mut builder = builder;
     let name = node.name.text.clone()?;
-    let inputs = declare_groups(
-        alloc,
-        scope,
-        decimals,
-        Role::Input,
-        0,
-        environment,
-        &node.inputs,
-    )?;
+    let inputs = declare_groups(&mut builder, Role::Input, 0, environment, &node.inputs)?;
     let inside = inputs.environment;
-    let outputs = declare_groups(
-        alloc,
-        scope,
-        decimals,
-        Role::Output,
-        0,
-        inside,
-        &node.outputs,
-    )?;
+    let outputs = declare_groups(&mut builder, Role::Output, 0, inside, &node.outputs)?;
     let (start, inside) = (Numbers::start(), outputs.environment);
-    let body = build_trace(
-        alloc,
-        scope,
-        decimals,
-        start,
-        inside,
-        Phrase::Trace(&node.body),
-    )?;
-    scope.truncate(before);
+    let body = build_trace(&mut builder, start, inside, Phrase::Trace(&node.body))?;
     Ok(Node {
         name,
         inputs: inputs.declared,
@@ -130,85 +101,66 @@ pub(crate) fn build_node<'a>(
 #[cycle(build_trace)]
 #[inline(never)]
 pub(crate) fn build_trace<'a>(
-    alloc: Global,
-    scope: &mut Scope<'a>,
-    decimals: u32,
+    builder: &mut Builder<'a>,
     numbers: Numbers,
     environment: usize,
     phrase: Phrase<'a>,
 ) -> Result<Numbered, Memory>
-    requires few { decimals ≤ most_decimals }
-    requires within { environment ≤ length (rows scope.old) }
-    requires right { AreRight (rows scope.old) }
-    ensures tree { IfOk result (λ b. numbered b ≡ as_trace ((meant decimals).phrase (environment_of (meant decimals) (rows scope.old) environment) (phrase_view phrase.entry)) (numbers_view numbers)) }
-    ensures kept { OnOk result (rows scope.new ≡ rows scope.old) }
+    requires { IsReady builder.old environment }
+    ensures { Builds builder.old builder.new result (λ b.
+        numbered b ≡ as_trace (phrase_at builder.old environment phrase.entry)
+        (numbers_view numbers)) }
 {
-    let before = scope.len();
-    let form = reduce(scope, Position::Trace(numbers), environment, phrase)?;
-    let built = build_trace_form(alloc, scope, decimals, numbers, form)?;
-    scope.truncate(before);
+    let before = builder.scope.len();
+    let form = reduce(
+        &mut builder.scope,
+        Position::Trace(numbers),
+        environment,
+        phrase,
+    )?;
+    let built = build_trace_form(builder, numbers, form)?;
+    builder.scope.truncate(before);
     Ok(built)
 }
 
 // What is met as a trace; an expression is a constraint.
 #[cycle(build_trace)]
 fn build_trace_form<'a>(
-    alloc: Global,
-    scope: &mut Scope<'a>,
-    decimals: u32,
+    builder: &mut Builder<'a>,
     numbers: Numbers,
     form: HeadNormalForm<'a>,
 ) -> Result<Numbered, Memory>
-    requires few { decimals ≤ most_decimals }
-    requires within { IsWithin (length (rows scope.old)) form }
-    requires right { AreRight (rows scope.old) }
-    ensures tree { IfOk result (λ b. numbered b ≡ as_trace (form_reads (meant decimals) (rows scope.old) form.entry) (numbers_view numbers)) }
-    ensures kept { OnOk result (rows scope.new ≡ rows scope.old) }
+    requires { IsReadyFor builder.old form }
+    ensures { Builds builder.old builder.new result (λ b.
+        numbered b ≡ as_trace (form_denotation builder.old form.entry) (numbers_view numbers)) }
 {
     match form {
         HeadNormalForm::Nothing => put_alone(Expanded::Eps, numbers),
         HeadNormalForm::Joined(join, first, rest, environment) => {
-            build_joined(
-                alloc,
-                scope,
-                decimals,
-                numbers,
-                environment,
-                join,
-                first,
-                rest,
-            )
+            build_joined(builder, numbers, environment, join, first, rest)
         }
         HeadNormalForm::Loop(bounds, body, environment) => {
-            build_loop(alloc, scope, decimals, numbers, environment, bounds, body)
+            build_loop(builder, numbers, environment, bounds, body)
         }
         HeadNormalForm::Choice(parts, environment) => {
-            build_choice(alloc, scope, decimals, numbers, environment, parts)
+            build_choice(builder, numbers, environment, parts)
         }
         HeadNormalForm::Raise(name, environment) => {
-            let raised = put_raise(alloc, scope.exception(environment, &name.text))?;
+            let exception = builder.scope.exception(environment, &name.text);
+            let raised = put_raise(builder.alloc, exception)?;
             put_alone(raised, numbers)
         }
         HeadNormalForm::Assert(always, body, environment) => {
-            build_assert(alloc, scope, decimals, numbers, environment, always, body)
+            build_assert(builder, numbers, environment, always, body)
         }
         HeadNormalForm::Exist(groups, body, environment) => {
-            build_exist(alloc, scope, decimals, numbers, environment, groups, body)
+            build_exist(builder, numbers, environment, groups, body)
         }
         HeadNormalForm::Catch(name, body, handler, environment) => {
-            build_catch(
-                alloc,
-                scope,
-                decimals,
-                numbers,
-                environment,
-                name,
-                body,
-                handler,
-            )
+            build_catch(builder, numbers, environment, name, body, handler)
         }
         HeadNormalForm::Try(body, handler, environment) => {
-            build_try(alloc, scope, decimals, numbers, environment, body, handler)
+            build_try(builder, numbers, environment, body, handler)
         }
         HeadNormalForm::Meaningless
         | HeadNormalForm::Variable(_, _, _)
@@ -217,9 +169,7 @@ fn build_trace_form<'a>(
         | HeadNormalForm::Flag(_, _)
         | HeadNormalForm::Unary(_, _, _, _)
         | HeadNormalForm::Binary(_, _, _, _, _)
-        | HeadNormalForm::If(_, _, _, _, _) => {
-            build_constraint(alloc, scope, decimals, numbers, form)
-        }
+        | HeadNormalForm::If(_, _, _, _, _) => build_constraint(builder, numbers, form),
     }
 }
 
@@ -227,24 +177,23 @@ fn build_trace_form<'a>(
 #[cycle(build_trace)]
 #[inline(never)]
 fn build_joined<'a>(
-    alloc: Global,
-    scope: &mut Scope<'a>,
-    decimals: u32,
+    builder: &mut Builder<'a>,
     numbers: Numbers,
     environment: usize,
     join: Join,
     first: &'a TraceExpr,
     rest: &'a [TraceExpr],
 ) -> Result<Numbered, Memory>
-    requires few { decimals ≤ most_decimals }
-    requires within { environment ≤ length (rows scope.old) }
-    requires right { AreRight (rows scope.old) }
+    requires ready { IsReady builder.old environment }
     requires some { 0 < length rest.now }
-    ensures tree { IfOk result (λ b. numbered b ≡ as_trace ((meant decimals).phrase (environment_of (meant decimals) (rows scope.old) environment) (joined join (s.one_trace (trace_view first.now) (traces_of (map trace_view rest.now))))) (numbers_view numbers)) }
-    ensures kept { OnOk result (rows scope.new ≡ rows scope.old) }
+    ensures { Builds builder.old builder.new result (λ b.
+        numbered b ≡ as_trace
+        (traces_denotation (names_at builder.old environment) (joined_by join)
+        (s.one_trace (trace_view first.now) (traces_of (map trace_view rest.now))))
+        (numbers_view numbers)) }
 {
     let (first, rest) = (Phrase::Trace(first), Phrase::Joined(join, rest));
-    let two = build_two(alloc, scope, decimals, numbers, environment, first, rest)?;
+    let two = build_two(builder, numbers, environment, first, rest)?;
     Ok(put_joined(join, two))
 }
 
@@ -252,21 +201,19 @@ fn build_joined<'a>(
 #[cycle(build_trace)]
 #[inline(never)]
 fn build_choice<'a>(
-    alloc: Global,
-    scope: &mut Scope<'a>,
-    decimals: u32,
+    builder: &mut Builder<'a>,
     numbers: Numbers,
     environment: usize,
     written: &'a Choices,
 ) -> Result<Numbered, Memory>
-    requires few { decimals ≤ most_decimals }
-    requires within { environment ≤ length (rows scope.old) }
-    requires right { AreRight (rows scope.old) }
-    ensures tree { IfOk result (λ b. numbered b ≡ as_trace ((meant decimals).phrase (environment_of (meant decimals) (rows scope.old) environment) (braces (s.choice false (alternatives written.now)))) (numbers_view numbers)) }
-    ensures kept { OnOk result (rows scope.new ≡ rows scope.old) }
+    requires { IsReady builder.old environment }
+    ensures { Builds builder.old builder.new result (λ b.
+        numbered b ≡ as_trace
+        (braces_denotation (names_at builder.old environment)
+        (s.choice false (alternatives written.now))) (numbers_view numbers)) }
 {
     let (inside, parts) = (numbers.behind_term()?, &written.items);
-    let chosen = build_parts(alloc, scope, decimals, inside, environment, parts)?;
+    let chosen = build_parts(builder, inside, environment, parts)?;
     Ok(put_choice(chosen))
 }
 
@@ -274,65 +221,61 @@ fn build_choice<'a>(
 #[cycle(build_trace)]
 #[inline(never)]
 fn build_catch<'a>(
-    alloc: Global,
-    scope: &mut Scope<'a>,
-    decimals: u32,
+    builder: &mut Builder<'a>,
     numbers: Numbers,
     environment: usize,
     name: &'a Name,
     body: &'a TraceExpr,
     handler: &'a Option<Box<TraceExpr>>,
 ) -> Result<Numbered, Memory>
-    requires few { decimals ≤ most_decimals }
-    requires within { environment ≤ length (rows scope.old) }
-    requires right { AreRight (rows scope.old) }
-    ensures tree { IfOk result (λ b. numbered b ≡ as_trace ((meant decimals).phrase (environment_of (meant decimals) (rows scope.old) environment) (trace (s.catch (word name.now) (trace_view body.now) (maybe_trace handler.now)))) (numbers_view numbers)) }
-    ensures kept { OnOk result (rows scope.new ≡ rows scope.old) }
+    requires { IsReady builder.old environment }
+    ensures { Builds builder.old builder.new result (λ b.
+        numbered b ≡ trace_at builder.old environment
+        (s.catch (word name.now) (trace_view body.now) (maybe_trace handler.now))
+        (numbers_view numbers)) }
 {
     let (body, handler) = (Phrase::Trace(body), Phrase::Handler(handler));
-    let two = build_two(alloc, scope, decimals, numbers, environment, body, handler)?;
-    put_catch(alloc, scope.exception(environment, &name.text), two)
+    let two = build_two(builder, numbers, environment, body, handler)?;
+    put_catch(
+        builder.alloc,
+        builder.scope.exception(environment, &name.text),
+        two,
+    )
 }
 
 // A trace, and what follows where nothing can be done.
 #[cycle(build_trace)]
 #[inline(never)]
 fn build_try<'a>(
-    alloc: Global,
-    scope: &mut Scope<'a>,
-    decimals: u32,
+    builder: &mut Builder<'a>,
     numbers: Numbers,
     environment: usize,
     body: &'a TraceExpr,
     handler: &'a Option<Box<TraceExpr>>,
 ) -> Result<Numbered, Memory>
-    requires few { decimals ≤ most_decimals }
-    requires within { environment ≤ length (rows scope.old) }
-    requires right { AreRight (rows scope.old) }
-    ensures tree { IfOk result (λ b. numbered b ≡ as_trace ((meant decimals).phrase (environment_of (meant decimals) (rows scope.old) environment) (trace (s.try (trace_view body.now) (maybe_trace handler.now)))) (numbers_view numbers)) }
-    ensures kept { OnOk result (rows scope.new ≡ rows scope.old) }
+    requires { IsReady builder.old environment }
+    ensures { Builds builder.old builder.new result (λ b.
+        numbered b ≡ trace_at builder.old environment
+        (s.try (trace_view body.now) (maybe_trace handler.now)) (numbers_view numbers)) }
 {
     let (body, handler) = (Phrase::Trace(body), Phrase::Handler(handler));
-    let two = build_two(alloc, scope, decimals, numbers, environment, body, handler)?;
+    let two = build_two(builder, numbers, environment, body, handler)?;
     Ok(put_try(two))
 }
 
 // A constraint on one instant.
 #[inline(never)]
 fn build_constraint<'a>(
-    alloc: Global,
-    scope: &mut Scope<'a>,
-    decimals: u32,
+    builder: &mut Builder<'a>,
     numbers: Numbers,
     form: HeadNormalForm<'a>,
 ) -> Result<Numbered, Memory>
-    requires few { decimals ≤ most_decimals }
-    requires within { IsWithin (length (rows scope.old)) form }
-    requires right { AreRight (rows scope.old) }
-    ensures tree { IfOk result (λ b. numbered b ≡ alone (x.con (as_expression (form_reads (meant decimals) (rows scope.old) form.entry))) (numbers_view numbers)) }
-    ensures kept { OnOk result (rows scope.new ≡ rows scope.old) }
+    requires { IsReadyFor builder.old form }
+    ensures { Builds builder.old builder.new result (λ b.
+        numbered b ≡ alone (x.con (as_expression (form_denotation builder.old form.entry)))
+        (numbers_view numbers)) }
 {
-    let condition = build_expr_form(alloc, scope, decimals, form)?;
+    let condition = build_expr_form(builder, form)?;
     put_alone(Expanded::Con(condition), numbers)
 }
 
@@ -340,23 +283,21 @@ fn build_constraint<'a>(
 #[cycle(build_trace)]
 #[inline(never)]
 fn build_two<'a>(
-    alloc: Global,
-    scope: &mut Scope<'a>,
-    decimals: u32,
+    builder: &mut Builder<'a>,
     numbers: Numbers,
     environment: usize,
     first: Phrase<'a>,
     second: Phrase<'a>,
 ) -> Result<Two, Memory>
-    requires few { decimals ≤ most_decimals }
-    requires within { environment ≤ length (rows scope.old) }
-    requires right { AreRight (rows scope.old) }
-    ensures trees { IfOk result (λ two. AreBuilt two (as_trace ((meant decimals).phrase (environment_of (meant decimals) (rows scope.old) environment) (phrase_view first.entry)) (behind_term (numbers_view numbers))) (as_trace ((meant decimals).phrase (environment_of (meant decimals) (rows scope.old) environment) (phrase_view second.entry)))) }
-    ensures kept { OnOk result (rows scope.new ≡ rows scope.old) }
+    requires { IsReady builder.old environment }
+    ensures { Builds builder.old builder.new result (λ two.
+        AreBuilt two (as_trace (phrase_at builder.old environment first.entry)
+        (behind_term (numbers_view numbers)))
+        (as_trace (phrase_at builder.old environment second.entry))) }
 {
     let inside = numbers.behind_term()?;
-    let before = build_boxed(alloc, scope, decimals, inside, environment, first)?;
-    let behind = build_boxed(alloc, scope, decimals, before.after, environment, second)?;
+    let before = build_boxed(builder, inside, environment, first)?;
+    let behind = build_boxed(builder, before.after, environment, second)?;
     Ok(Two {
         first: before.trace,
         second: behind.trace,
@@ -368,22 +309,19 @@ fn build_two<'a>(
 #[cycle(build_trace)]
 #[inline(never)]
 fn build_boxed<'a>(
-    alloc: Global,
-    scope: &mut Scope<'a>,
-    decimals: u32,
+    builder: &mut Builder<'a>,
     numbers: Numbers,
     environment: usize,
     phrase: Phrase<'a>,
 ) -> Result<Boxed, Memory>
-    requires few { decimals ≤ most_decimals }
-    requires within { environment ≤ length (rows scope.old) }
-    requires right { AreRight (rows scope.old) }
-    ensures tree { IfOk result (λ b. boxed b ≡ as_trace ((meant decimals).phrase (environment_of (meant decimals) (rows scope.old) environment) (phrase_view phrase.entry)) (numbers_view numbers)) }
-    ensures kept { OnOk result (rows scope.new ≡ rows scope.old) }
+    requires { IsReady builder.old environment }
+    ensures { Builds builder.old builder.new result (λ b.
+        boxed b ≡ as_trace (phrase_at builder.old environment phrase.entry)
+        (numbers_view numbers)) }
 {
-    let built = build_trace(alloc, scope, decimals, numbers, environment, phrase)?;
+    let built = build_trace(builder, numbers, environment, phrase)?;
     let after = built.after;
-    let trace = Box::new(alloc, built.expanded)?;
+    let trace = Box::new(builder.alloc, built.expanded)?;
     Ok(Boxed { trace, after })
 }
 
@@ -391,29 +329,27 @@ fn build_boxed<'a>(
 #[cycle(build_trace)]
 #[inline(never)]
 fn build_loop<'a>(
-    alloc: Global,
-    scope: &mut Scope<'a>,
-    decimals: u32,
+    builder: &mut Builder<'a>,
     numbers: Numbers,
     environment: usize,
     written: &'a Limits,
     body: &'a TraceExpr,
 ) -> Result<Numbered, Memory>
-    requires few { decimals ≤ most_decimals }
-    requires within { environment ≤ length (rows scope.old) }
-    requires right { AreRight (rows scope.old) }
-    ensures tree { IfOk result (λ b. numbered b ≡ as_trace ((meant decimals).phrase (environment_of (meant decimals) (rows scope.old) environment) (trace (s.loop (limits written.now) (trace_view body.now)))) (numbers_view numbers)) }
-    ensures kept { OnOk result (rows scope.new ≡ rows scope.old) }
+    requires { IsReady builder.old environment }
+    ensures { Builds builder.old builder.new result (λ b.
+        numbered b ≡ trace_at builder.old environment
+        (s.loop (limits written.now) (trace_view body.now)) (numbers_view numbers)) }
 {
     let (inside, phrase) = (behind_loop(numbers, written)?, Phrase::Trace(body));
-    let turn = build_boxed(alloc, scope, decimals, inside, environment, phrase)?;
-    let bounds = build_bounds(alloc, scope, decimals, environment, written)?;
+    let turn = build_boxed(builder, inside, environment, phrase)?;
+    let bounds = build_bounds(builder, environment, written)?;
     Ok(put_loop(numbers.counter, bounds, turn.trace, turn.after))
 }
 
 // Behind one more loop, which may have a counter.
 fn behind_loop(numbers: Numbers, written: &Limits) -> Result<Numbers, Memory>
-    ensures { IfOk result (λ n. numbers_view n ≡ behind_turns (limits written.now) (numbers_view numbers)) }
+    ensures { IfOk result (λ n.
+        numbers_view n ≡ behind_turns (limits written.now) (numbers_view numbers)) }
 {
     match written {
         Limits::Forever => numbers.behind_term(),
@@ -424,7 +360,10 @@ fn behind_loop(numbers: Numbers, written: &Limits) -> Result<Numbers, Memory>
 // A trace over and over: without end, or as often as the counter of this number says.
 #[inline(never)]
 fn put_loop(counter: u32, turns: Option<Bounds>, body: Box<Expanded>, after: Numbers) -> Numbered
-    ensures { numbered result ≡ record { expanded = looped (option_map bounds_view turns) counter (expanded_view body.value); after = numbers_view after } }
+    ensures { numbered result ≡ record {
+      expanded = looped (option_map bounds_view turns) counter (expanded_view body.value);
+      after = numbers_view after;
+    } }
 {
     let expanded = match turns {
         None => Expanded::Loop(body),
@@ -436,26 +375,23 @@ fn put_loop(counter: u32, turns: Option<Bounds>, body: Box<Expanded>, after: Num
 // The bounds of a loop, where it has some.
 #[inline(never)]
 fn build_bounds<'a>(
-    alloc: Global,
-    scope: &mut Scope<'a>,
-    decimals: u32,
+    builder: &mut Builder<'a>,
     environment: usize,
     written: &'a Limits,
 ) -> Result<Option<Bounds>, Memory>
-    requires few { decimals ≤ most_decimals }
-    requires within { environment ≤ length (rows scope.old) }
-    requires right { AreRight (rows scope.old) }
-    ensures bounds { IfOk result (λ b. option_map bounds_view b ≡ limits_bounds (environment_of (meant decimals) (rows scope.old) environment) (limits written.now)) }
-    ensures kept { OnOk result (rows scope.new ≡ rows scope.old) }
+    requires { IsReady builder.old environment }
+    ensures { Builds builder.old builder.new result (λ b.
+        option_map bounds_view b
+        ≡ limits_bounds (names_at builder.old environment) (limits written.now)) }
 {
     match written {
         Limits::Forever => Ok(None),
         Limits::Between(low, high) => {
-            let pair = build_pair(alloc, scope, decimals, environment, low, high)?;
+            let pair = build_pair(builder, environment, low, high)?;
             Ok(Some(Bounds::Between(pair.first, pair.second)))
         }
         Limits::Around(average, deviation) => {
-            let pair = build_pair(alloc, scope, decimals, environment, average, deviation)?;
+            let pair = build_pair(builder, environment, average, deviation)?;
             Ok(Some(Bounds::Around(pair.first, pair.second)))
         }
     }
@@ -464,22 +400,18 @@ fn build_bounds<'a>(
 // Two expressions.
 #[inline(never)]
 fn build_pair<'a>(
-    alloc: Global,
-    scope: &mut Scope<'a>,
-    decimals: u32,
+    builder: &mut Builder<'a>,
     environment: usize,
     first: &'a Expr,
     second: &'a Expr,
 ) -> Result<Pair, Memory>
-    requires few { decimals ≤ most_decimals }
-    requires within { environment ≤ length (rows scope.old) }
-    requires right { AreRight (rows scope.old) }
-    ensures first { IfOk result (λ p. placed p.first ≡ as_expression ((meant decimals).phrase (environment_of (meant decimals) (rows scope.old) environment) (value (exp first.now)))) }
-    ensures second { IfOk result (λ p. placed p.second ≡ as_expression ((meant decimals).phrase (environment_of (meant decimals) (rows scope.old) environment) (value (exp second.now)))) }
-    ensures kept { OnOk result (rows scope.new ≡ rows scope.old) }
+    requires { IsReady builder.old environment }
+    ensures { Builds builder.old builder.new result (λ p.
+        (placed p.first ≡ value_at builder.old environment (exp first.now)) ×
+        (placed p.second ≡ value_at builder.old environment (exp second.now))) }
 {
-    let first = build_expr(alloc, scope, decimals, environment, Phrase::Value(first))?;
-    let second = build_expr(alloc, scope, decimals, environment, Phrase::Value(second))?;
+    let first = build_expr(builder, environment, Phrase::Value(first))?;
+    let second = build_expr(builder, environment, Phrase::Value(second))?;
     Ok(Pair { first, second })
 }
 
@@ -487,25 +419,22 @@ fn build_pair<'a>(
 #[cycle(build_trace)]
 #[inline(never)]
 fn build_parts<'a>(
-    alloc: Global,
-    scope: &mut Scope<'a>,
-    decimals: u32,
+    builder: &mut Builder<'a>,
     before: Numbers,
     environment: usize,
     written: &'a [Alternative],
 ) -> Result<NumberedParts, Memory>
-    requires few { decimals ≤ most_decimals }
-    requires within { environment ≤ length (rows scope.old) }
-    requires right { AreRight (rows scope.old) }
-    ensures tree { IfOk result (λ b. numbered_parts b ≡ parts_of (environment_of (meant decimals) (rows scope.old) environment) (alternatives_of (map part_of written.now)) (numbers_view before)) }
-    ensures kept { OnOk result (rows scope.new ≡ rows scope.old) }
+    requires { IsReady builder.old environment }
+    ensures { Builds builder.old builder.new result (λ b.
+        numbered_parts b ≡ parts_of (names_at builder.old environment)
+        (alternatives_of (map part_of written.now)) (numbers_view before)) }
 {
-    let mut items = Vec::new(alloc);
+    let mut items = Vec::new(builder.alloc);
     let mut numbers = before;
     for part in written {
-        let weight = build_weight(alloc, scope, decimals, environment, part)?;
+        let weight = build_weight(builder, environment, part)?;
         let phrase = Phrase::Trace(&part.body);
-        let built = build_trace(alloc, scope, decimals, numbers, environment, phrase)?;
+        let built = build_trace(builder, numbers, environment, phrase)?;
         let body = built.expanded;
         items.push(Part { weight, body })?;
         numbers = built.after;
@@ -517,21 +446,17 @@ fn build_parts<'a>(
 // The weight of an alternative.
 #[inline(never)]
 fn build_weight<'a>(
-    alloc: Global,
-    scope: &mut Scope<'a>,
-    decimals: u32,
+    builder: &mut Builder<'a>,
     environment: usize,
     part: &'a Alternative,
 ) -> Result<Placed, Memory>
-    requires few { decimals ≤ most_decimals }
-    requires within { environment ≤ length (rows scope.old) }
-    requires right { AreRight (rows scope.old) }
-    ensures weight { IfOk result (λ e. placed e ≡ weight_of (environment_of (meant decimals) (rows scope.old) environment) (part_of part.now)) }
-    ensures kept { OnOk result (rows scope.new ≡ rows scope.old) }
+    requires { IsReady builder.old environment }
+    ensures { Builds builder.old builder.new result (λ e.
+        placed e ≡ weight_of (names_at builder.old environment) (part_of part.now)) }
 {
     match &part.weight {
         None => Ok(unwritten_weight()),
-        Some(expr) => build_expr(alloc, scope, decimals, environment, Phrase::Value(expr)),
+        Some(expr) => build_expr(builder, environment, Phrase::Value(expr)),
     }
 }
 
@@ -539,23 +464,20 @@ fn build_weight<'a>(
 #[cycle(build_trace)]
 #[inline(never)]
 fn build_assert<'a>(
-    alloc: Global,
-    scope: &mut Scope<'a>,
-    decimals: u32,
+    builder: &mut Builder<'a>,
     numbers: Numbers,
     environment: usize,
     always: &'a Expr,
     body: &'a TraceExpr,
 ) -> Result<Numbered, Memory>
-    requires few { decimals ≤ most_decimals }
-    requires within { environment ≤ length (rows scope.old) }
-    requires right { AreRight (rows scope.old) }
-    ensures tree { IfOk result (λ b. numbered b ≡ as_trace ((meant decimals).phrase (environment_of (meant decimals) (rows scope.old) environment) (trace (s.assert (exp always.now) (trace_view body.now)))) (numbers_view numbers)) }
-    ensures kept { OnOk result (rows scope.new ≡ rows scope.old) }
+    requires { IsReady builder.old environment }
+    ensures { Builds builder.old builder.new result (λ b.
+        numbered b ≡ trace_at builder.old environment
+        (s.assert (exp always.now) (trace_view body.now)) (numbers_view numbers)) }
 {
     let (inside, phrase) = (numbers.behind_term()?, Phrase::Trace(body));
-    let inner = build_boxed(alloc, scope, decimals, inside, environment, phrase)?;
-    let constraint = build_expr(alloc, scope, decimals, environment, Phrase::Value(always))?;
+    let inner = build_boxed(builder, inside, environment, phrase)?;
+    let constraint = build_expr(builder, environment, Phrase::Value(always))?;
     let after = inner.after;
     let expanded = Expanded::Assert(constraint, inner.trace);
     Ok(Numbered { expanded, after })
@@ -565,34 +487,23 @@ fn build_assert<'a>(
 #[cycle(build_trace)]
 #[inline(never)]
 fn build_exist<'a>(
-    alloc: Global,
-    scope: &mut Scope<'a>,
-    decimals: u32,
+    builder: &mut Builder<'a>,
     numbers: Numbers,
     environment: usize,
     groups: &'a Groups,
     body: &'a TraceExpr,
 ) -> Result<Numbered, Memory>
-    requires few { decimals ≤ most_decimals }
-    requires within { environment ≤ length (rows scope.old) }
-    requires right { AreRight (rows scope.old) }
-    ensures tree { IfOk result (λ b. numbered b ≡ as_trace ((meant decimals).phrase (environment_of (meant decimals) (rows scope.old) environment) (trace (s.exist (groupings groups.now) (trace_view body.now)))) (numbers_view numbers)) }
-    ensures kept { OnOk result (rows scope.new ≡ rows scope.old) }
+    requires { IsReady builder.old environment }
+    ensures { Builds builder.old builder.new result (λ b.
+        numbered b ≡ trace_at builder.old environment
+        (s.exist (groupings groups.now) (trace_view body.now)) (numbers_view numbers)) }
 {
-    let before = scope.len();
-    let locals = declare_groups(
-        alloc,
-        scope,
-        decimals,
-        Role::Local,
-        numbers.local,
-        environment,
-        groups,
-    )?;
+    let before = builder.scope.len();
+    let locals = declare_groups(builder, Role::Local, numbers.local, environment, groups)?;
     let (inside, phrase) = (numbers.behind_locals(locals.next)?, Phrase::Trace(body));
-    let inner = build_trace(alloc, scope, decimals, inside, locals.environment, phrase)?;
-    scope.truncate(before);
-    put_locals(alloc, locals.declared, locals.next, inner)
+    let inner = build_trace(builder, inside, locals.environment, phrase)?;
+    builder.scope.truncate(before);
+    put_locals(builder.alloc, locals.declared, locals.next, inner)
 }
 
 // A trace with locals of these declarations, behind the last of which the next one has this number.
@@ -604,7 +515,12 @@ fn put_locals(
     body: Numbered,
 ) -> Result<Numbered, Memory>
     requires { length declared.items ≤ next }
-    ensures { IfOk result (λ b. numbered b ≡ record { expanded = in_all (next - length declared.items) (map declared_view declared.items) (expanded_view body.expanded); after = numbers_view body.after }) }
+    ensures { IfOk result (λ b.
+        numbered b ≡ record {
+          expanded = in_all (next - length declared.items) (map declared_view declared.items)
+              (expanded_view body.expanded);
+          after = numbers_view body.after;
+        }) }
 {
     let after = body.after;
     let mut left = declared;
@@ -620,7 +536,8 @@ fn put_locals(
 // A term without parts.
 #[inline(never)]
 fn put_alone(expanded: Expanded, numbers: Numbers) -> Result<Numbered, Memory>
-    ensures { IfOk result (λ b. numbered b ≡ alone (expanded_view expanded) (numbers_view numbers)) }
+    ensures { IfOk result (λ b.
+        numbered b ≡ alone (expanded_view expanded) (numbers_view numbers)) }
 {
     let after = numbers.behind_term()?;
     Ok(Numbered { expanded, after })
@@ -653,7 +570,8 @@ fn put_try(two: Two) -> Numbered
 // A trace and what follows where an exception is raised; `Deadlock` is caught where nothing can be done.
 #[inline(never)]
 fn put_catch(alloc: Global, caught: Option<Raised<'_>>, two: Two) -> Result<Numbered, Memory>
-    ensures { IfOk result (λ b. (decimals : ℕ) → numbered b ≡ in_two (caught_as (raised_by (meant decimals) caught.entry)) two) }
+    ensures { IfOk result (λ b. (decimals : ℕ) →
+        numbered b ≡ in_two (caught_as (raised_by (meant decimals) caught.entry)) two) }
 {
     match caught {
         None => Ok(put_try(two)),
@@ -669,7 +587,8 @@ fn put_catch(alloc: Global, caught: Option<Raised<'_>>, two: Two) -> Result<Numb
 // An exception that is raised; `Deadlock` is a deadlock.
 #[inline(never)]
 fn put_raise(alloc: Global, raised: Option<Raised<'_>>) -> Result<Expanded, Memory>
-    ensures { IfOk result (λ t. (decimals : ℕ) → expanded_view t ≡ raised_tree (raised_by (meant decimals) raised.entry)) }
+    ensures { IfOk result (λ t. (decimals : ℕ) →
+        expanded_view t ≡ raised_tree (raised_by (meant decimals) raised.entry)) }
 {
     match raised {
         None => Ok(Expanded::Dead),
@@ -680,7 +599,12 @@ fn put_raise(alloc: Global, raised: Option<Raised<'_>>) -> Result<Expanded, Memo
 // An exception as it is declared. None is declared where no place is known.
 #[inline(never)]
 fn put_exception(alloc: Global, raised: Raised<'_>) -> Result<Exception, Memory>
-    ensures { IfOk result (λ z. (decimals : ℕ) → exception_view z ≡ record { name = raised.entry.name.now; place = raised.entry.place; terms_before = (meant decimals).terms_before raised.entry.before }) }
+    ensures { IfOk result (λ z. (decimals : ℕ) →
+        exception_view z ≡ record {
+          name = raised.entry.name.now;
+          place = raised.entry.place;
+          terms_before = (meant decimals).terms_before raised.entry.before;
+        }) }
 {
     let terms_before = match raised.before {
         Before::Terms(terms) => terms,

@@ -14,7 +14,8 @@ use lt_ast::{Braced, Expr, TraceExpr};
 
 // The head normal form that a phrase is in an environment, if it is one already.
 pub(crate) fn form_at(environment: usize, phrase: Phrase<'_>) -> HeadNormalForm<'_>
-    ensures { IsTrue (is_head_normal (phrase_view phrase.entry)) → Shows environment result (phrase_view phrase.entry) }
+    ensures { IsTrue (is_head_normal (phrase_view phrase.entry)) →
+        Shows environment result (phrase_view phrase.entry) }
 {
     match phrase {
         Phrase::Value(expr) => expr_at(environment, expr),
@@ -27,7 +28,8 @@ pub(crate) fn form_at(environment: usize, phrase: Phrase<'_>) -> HeadNormalForm<
 
 // The head normal form that an expression is, if it is one already.
 fn expr_at(environment: usize, expr: &Expr) -> HeadNormalForm<'_>
-    ensures { IsTrue (is_head_normal (value (exp expr.now))) → Shows environment result (value (exp expr.now)) }
+    ensures { IsTrue (is_head_normal (value (exp expr.now))) →
+        Shows environment result (value (exp expr.now)) }
 {
     match expr {
         Expr::Number(literal) => HeadNormalForm::Number(literal),
@@ -47,7 +49,8 @@ fn expr_at(environment: usize, expr: &Expr) -> HeadNormalForm<'_>
 
 // The head normal form that a trace is, if it is one already.
 fn trace_at(environment: usize, written: &TraceExpr) -> HeadNormalForm<'_>
-    ensures { IsTrue (is_head_normal (trace_phrase (trace written.now))) → Shows environment result (trace_phrase (trace written.now)) }
+    ensures { IsTrue (is_head_normal (trace_phrase (trace written.now))) →
+        Shows environment result (trace_phrase (trace written.now)) }
 {
     match written {
         TraceExpr::Loop(bounds, body) => HeadNormalForm::Loop(bounds, body, environment),
@@ -72,7 +75,8 @@ fn trace_at(environment: usize, written: &TraceExpr) -> HeadNormalForm<'_>
 
 // The head normal form that stands in braces, if it is one already.
 fn braces_at(environment: usize, inside: &Braced) -> HeadNormalForm<'_>
-    ensures { IsTrue (is_head_normal (braces (braced inside.now))) → Shows environment result (braces (braced inside.now)) }
+    ensures { IsTrue (is_head_normal (braces (braced inside.now))) →
+        Shows environment result (braces (braced inside.now)) }
 {
     match inside {
         Braced::Choice { parts, .. } => HeadNormalForm::Choice(parts, environment),
@@ -84,7 +88,8 @@ fn braces_at(environment: usize, inside: &Braced) -> HeadNormalForm<'_>
 // The head normal form that traces are which are joined so, if they are one already.
 #[tactic(auto, using(crate::proofs::Plain::lists))]
 fn joined_at(environment: usize, join: Join, traces: &[TraceExpr]) -> HeadNormalForm<'_>
-    ensures { IsTrue (is_head_normal (joined join (traces_of (map trace traces.now)))) → Shows environment result (joined join (traces_of (map trace traces.now))) }
+    ensures { IsTrue (is_head_normal (joined join (traces_of (map trace traces.now)))) →
+        Shows environment result (joined join (traces_of (map trace traces.now))) }
 {
     match traces.split_first() {
         None => HeadNormalForm::Nothing,

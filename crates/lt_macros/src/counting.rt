@@ -114,7 +114,8 @@ fn deeper(depth: u32) -> Result<u32, Memory>
 
 // Puts a part before those that are left.
 fn put<'a>(count: &mut Count<'a>, left: Left<'a>, at: Place) -> Result<(), Memory>
-    ensures left { OnOk result (waiting count.new ≡ record { left = left.entry; at = at } ∷ waiting count.old) }
+    ensures left { OnOk result (waiting count.new
+        ≡ record { left = left.entry; at = at } ∷ waiting count.old) }
     ensures numbers { OnOk result (count.new.numbers ≡ count.old.numbers) }
     ensures tally { OnOk result (count.new.tally ≡ count.old.tally) }
 {
@@ -130,8 +131,13 @@ fn put_expression<'a>(
     form: HeadNormalForm<'a>,
 ) -> Result<(), Memory>
     requires { IsWithin len form }
-    ensures figures { OnOk result ((decimals : ℕ) (rows : List Entry) (f : Figure) → sum_of decimals rows f count.new ≡ counted count.old.tally f + (expression_figure f depth (as_expression (form_reads (meant decimals) rows form.entry)) + pending_figure decimals rows f (waiting count.old) (numbers_view count.old.numbers))) }
-    ensures within { OnOk result ((least : ℕ) → AreWithin least len (waiting count.old) → AreWithin least len (waiting count.new)) }
+    ensures figures { OnOk result ((decimals : ℕ) (rows : List Entry) (f : Figure) →
+        sum_of decimals rows f count.new
+        ≡ counted count.old.tally f
+        + (expression_figure f depth (as_expression (form_reads (meant decimals) rows form.entry))
+        + pending_figure decimals rows f (waiting count.old) (numbers_view count.old.numbers))) }
+    ensures within { OnOk result ((least : ℕ) → AreWithin least len (waiting count.old) →
+        AreWithin least len (waiting count.new)) }
 {
     count.tally = count.tally.with_expression(depth)?;
     let depth = deeper(depth)?;
@@ -194,8 +200,14 @@ fn put_two<'a>(
         sum_of decimals rows f count.new
         ≡ counted count.old.tally f
         + (term_weight f depth
-        + trace_then f (depth + 1) (as_trace (denotation_at decimals rows at.environment first.entry) (behind_term (numbers_view count.old.numbers))) (λ m. trace_then f (depth + 1) (as_trace (denotation_at decimals rows at.environment second.entry) m) (pending_figure decimals rows f (waiting count.old))))) }
-    ensures within { OnOk result ((least : ℕ) → AreWithin least at.len (waiting count.old) → AreWithin least at.len (waiting count.new)) }
+        + trace_then f (depth + 1)
+        (as_trace (denotation_at decimals rows at.environment first.entry)
+        (behind_term (numbers_view count.old.numbers))) (λ m.
+        trace_then f (depth + 1)
+        (as_trace (denotation_at decimals rows at.environment second.entry) m)
+        (pending_figure decimals rows f (waiting count.old))))) }
+    ensures within { OnOk result ((least : ℕ) → AreWithin least at.len (waiting count.old) →
+        AreWithin least at.len (waiting count.new)) }
 {
     count.tally = count.tally.with_term(depth)?;
     count.numbers = count.numbers.behind_term()?;
@@ -218,10 +230,16 @@ fn put_counted<'a>(
         sum_of decimals rows f count.new
         ≡ counted count.old.tally f
         + (term_weight f depth
-        + (expression_figure f 1 (as_expression (denotation_at decimals rows at.environment (Phrase.Value first.entry)))
-        + (expression_figure f 1 (as_expression (denotation_at decimals rows at.environment (Phrase.Value second.entry)))
-        + trace_then f (depth + 1) (as_trace (denotation_at decimals rows at.environment (Phrase.Trace body.entry)) (behind_counter (numbers_view count.old.numbers))) (pending_figure decimals rows f (waiting count.old)))))) }
-    ensures within { OnOk result ((least : ℕ) → AreWithin least at.len (waiting count.old) → AreWithin least at.len (waiting count.new)) }
+        + (expression_figure f 1
+        (as_expression (denotation_at decimals rows at.environment (Phrase.Value first.entry)))
+        + (expression_figure f 1
+        (as_expression (denotation_at decimals rows at.environment (Phrase.Value second.entry)))
+        + trace_then f (depth + 1)
+        (as_trace (denotation_at decimals rows at.environment (Phrase.Trace body.entry))
+        (behind_counter (numbers_view count.old.numbers)))
+        (pending_figure decimals rows f (waiting count.old)))))) }
+    ensures within { OnOk result ((least : ℕ) → AreWithin least at.len (waiting count.old) →
+        AreWithin least at.len (waiting count.new)) }
 {
     count.tally = count.tally.with_term(depth)?;
     count.numbers = count.numbers.behind_counter()?;
@@ -244,8 +262,13 @@ fn put_loop<'a>(
     ensures figures { OnOk result ((decimals : ℕ) (rows : List Entry) (f : Figure) →
         sum_of decimals rows f count.new
         ≡ counted count.old.tally f
-        + trace_then f depth (repeated (bounds_of (environment_of (meant decimals) rows at.environment) (limits bounds.now)) (as_trace (denotation_at decimals rows at.environment (Phrase.Trace body.entry))) (numbers_view count.old.numbers)) (pending_figure decimals rows f (waiting count.old))) }
-    ensures within { OnOk result ((least : ℕ) → AreWithin least at.len (waiting count.old) → AreWithin least at.len (waiting count.new)) }
+        + trace_then f depth
+        (repeated (bounds_of (environment_of (meant decimals) rows at.environment)
+        (limits bounds.now))
+        (as_trace (denotation_at decimals rows at.environment (Phrase.Trace body.entry)))
+        (numbers_view count.old.numbers)) (pending_figure decimals rows f (waiting count.old))) }
+    ensures within { OnOk result ((least : ℕ) → AreWithin least at.len (waiting count.old) →
+        AreWithin least at.len (waiting count.new)) }
 {
     match bounds {
         Bounds::Forever => {
@@ -274,9 +297,14 @@ fn put_assert<'a>(
         sum_of decimals rows f count.new
         ≡ counted count.old.tally f
         + (term_weight f depth
-        + (expression_figure f 1 (as_expression (denotation_at decimals rows at.environment (Phrase.Value always.entry)))
-        + trace_then f (depth + 1) (as_trace (denotation_at decimals rows at.environment (Phrase.Trace body.entry)) (behind_term (numbers_view count.old.numbers))) (pending_figure decimals rows f (waiting count.old))))) }
-    ensures within { OnOk result ((least : ℕ) → AreWithin least at.len (waiting count.old) → AreWithin least at.len (waiting count.new)) }
+        + (expression_figure f 1
+        (as_expression (denotation_at decimals rows at.environment (Phrase.Value always.entry)))
+        + trace_then f (depth + 1)
+        (as_trace (denotation_at decimals rows at.environment (Phrase.Trace body.entry))
+        (behind_term (numbers_view count.old.numbers)))
+        (pending_figure decimals rows f (waiting count.old))))) }
+    ensures within { OnOk result ((least : ℕ) → AreWithin least at.len (waiting count.old) →
+        AreWithin least at.len (waiting count.new)) }
 {
     count.tally = count.tally.with_term(depth)?;
     count.numbers = count.numbers.behind_term()?;
@@ -300,8 +328,13 @@ fn put_choice<'a>(
     ensures figures { OnOk result ((decimals : ℕ) (rows : List Entry) (f : Figure) →
         sum_of decimals rows f count.new
         ≡ counted count.old.tally f
-        + trace_then f depth (chosen (parts_of (environment_of (meant decimals) rows at.environment) (alternatives_of (map part_of alternatives.now)) (behind_term (numbers_view count.old.numbers)))) (pending_figure decimals rows f (waiting count.old))) }
-    ensures within { OnOk result ((least : ℕ) → AreWithin least at.len (waiting count.old) → AreWithin least at.len (waiting count.new)) }
+        + trace_then f depth
+        (chosen (parts_of (environment_of (meant decimals) rows at.environment)
+        (alternatives_of (map part_of alternatives.now))
+        (behind_term (numbers_view count.old.numbers))))
+        (pending_figure decimals rows f (waiting count.old))) }
+    ensures within { OnOk result ((least : ℕ) → AreWithin least at.len (waiting count.old) →
+        AreWithin least at.len (waiting count.new)) }
 {
     count.tally = count
         .tally
@@ -319,8 +352,14 @@ fn put_trace<'a>(
     form: HeadNormalForm<'a>,
 ) -> Result<(), Memory>
     requires { IsWithin len form }
-    ensures figures { OnOk result ((decimals : ℕ) (rows : List Entry) (f : Figure) → sum_of decimals rows f count.new ≡ counted count.old.tally f + trace_then f depth (as_trace (form_reads (meant decimals) rows form.entry) (numbers_view count.old.numbers)) (pending_figure decimals rows f (waiting count.old))) }
-    ensures within { OnOk result ((least : ℕ) → AreWithin least len (waiting count.old) → AreWithin least len (waiting count.new)) }
+    ensures figures { OnOk result ((decimals : ℕ) (rows : List Entry) (f : Figure) →
+        sum_of decimals rows f count.new
+        ≡ counted count.old.tally f
+        + trace_then f depth
+        (as_trace (form_reads (meant decimals) rows form.entry) (numbers_view count.old.numbers))
+        (pending_figure decimals rows f (waiting count.old))) }
+    ensures within { OnOk result ((least : ℕ) → AreWithin least len (waiting count.old) →
+        AreWithin least len (waiting count.new)) }
 {
     let below = deeper(depth)?;
     match form {
@@ -409,9 +448,14 @@ fn put_trace<'a>(
 fn put_first<'a>(count: &mut Count<'a>, at: Place, first: &'a Option<Expr>) -> Result<(), Memory>
     requires depth { at.depth ≡ 1 }
     requires within { at.environment ≤ at.len }
-    ensures figures { OnOk result ((decimals : ℕ) (rows : List Entry) (f : Figure) (n : NumbersBefore) → sum_from decimals rows f count.new n ≡ first_figure f (first_of (environment_of (meant decimals) rows at.environment) (maybe_exp first.now)) + sum_from decimals rows f count.old n) }
+    ensures figures { OnOk result ((decimals : ℕ) (rows : List Entry) (f : Figure)
+        (n : NumbersBefore) →
+        sum_from decimals rows f count.new n
+        ≡ first_figure f (first_of (environment_of (meant decimals) rows at.environment)
+        (maybe_exp first.now)) + sum_from decimals rows f count.old n) }
     ensures numbers { OnOk result (count.new.numbers ≡ count.old.numbers) }
-    ensures within { OnOk result ((least : ℕ) → AreWithin least at.len (waiting count.old) → AreWithin least at.len (waiting count.new)) }
+    ensures within { OnOk result ((least : ℕ) → AreWithin least at.len (waiting count.old) →
+        AreWithin least at.len (waiting count.new)) }
 {
     match first {
         None => Ok(()),
@@ -426,8 +470,13 @@ fn take_alternatives<'a>(
     alternatives: &'a [Part],
 ) -> Result<(), Memory>
     requires { at.environment ≤ at.len }
-    ensures figures { OnOk result ((decimals : ℕ) (rows : List Entry) (f : Figure) → sum_of decimals rows f count.new ≡ counted count.old.tally f + left_then decimals rows f at.environment at.depth (Left.Alternatives alternatives.entry) (pending_figure decimals rows f (waiting count.old)) (numbers_view count.old.numbers)) }
-    ensures within { OnOk result ((least : ℕ) → AreWithin least at.len (waiting count.old) → AreWithin least at.len (waiting count.new)) }
+    ensures figures { OnOk result ((decimals : ℕ) (rows : List Entry) (f : Figure) →
+        sum_of decimals rows f count.new
+        ≡ counted count.old.tally f
+        + left_then decimals rows f at.environment at.depth (Left.Alternatives alternatives.entry)
+        (pending_figure decimals rows f (waiting count.old)) (numbers_view count.old.numbers)) }
+    ensures within { OnOk result ((least : ℕ) → AreWithin least at.len (waiting count.old) →
+        AreWithin least at.len (waiting count.new)) }
 {
     let Some((first, rest)) = alternatives.split_first() else {
         return Ok(());
@@ -441,11 +490,15 @@ fn take_alternatives<'a>(
 fn put_weight<'a>(count: &mut Count<'a>, at: Place, weight: &'a Option<Expr>) -> Result<(), Memory>
     requires depth { at.depth ≡ 1 }
     requires within { at.environment ≤ at.len }
-    ensures figures { OnOk result ((decimals : ℕ) (rows : List Entry) (f : Figure) (body : TraceExpr) →
+    ensures figures { OnOk result ((decimals : ℕ) (rows : List Entry) (f : Figure)
+        (body : TraceExpr) →
         sum_of decimals rows f count.new
         ≡ counted count.old.tally f
-        + (expression_figure f 1 (weight_of (environment_of (meant decimals) rows at.environment) (weighed weight.now body)) + pending_figure decimals rows f (waiting count.old) (numbers_view count.old.numbers))) }
-    ensures within { OnOk result ((least : ℕ) → AreWithin least at.len (waiting count.old) → AreWithin least at.len (waiting count.new)) }
+        + (expression_figure f 1
+        (weight_of (environment_of (meant decimals) rows at.environment) (weighed weight.now body))
+        + pending_figure decimals rows f (waiting count.old) (numbers_view count.old.numbers))) }
+    ensures within { OnOk result ((least : ℕ) → AreWithin least at.len (waiting count.old) →
+        AreWithin least at.len (waiting count.new)) }
 {
     match weight {
         None => {
@@ -464,8 +517,13 @@ fn take_groups<'a>(
     body: &'a TraceExpr,
 ) -> Result<(), Memory>
     requires { at.environment ≤ at.len }
-    ensures figures { OnOk result ((decimals : ℕ) (rows : List Entry) (f : Figure) → sum_of decimals rows f count.new ≡ counted count.old.tally f + left_then decimals rows f at.environment at.depth (Left.Groups groups.entry body.entry) (pending_figure decimals rows f (waiting count.old)) (numbers_view count.old.numbers)) }
-    ensures within { OnOk result ((least : ℕ) → AreWithin least at.len (waiting count.old) → AreWithin least at.len (waiting count.new)) }
+    ensures figures { OnOk result ((decimals : ℕ) (rows : List Entry) (f : Figure) →
+        sum_of decimals rows f count.new
+        ≡ counted count.old.tally f
+        + left_then decimals rows f at.environment at.depth (Left.Groups groups.entry body.entry)
+        (pending_figure decimals rows f (waiting count.old)) (numbers_view count.old.numbers)) }
+    ensures within { OnOk result ((least : ℕ) → AreWithin least at.len (waiting count.old) →
+        AreWithin least at.len (waiting count.new)) }
 {
     match groups.split_first() {
         None => put(count, Left::Trace(Phrase::Trace(body)), at),
@@ -498,9 +556,13 @@ fn put_local<'a>(
         sum_of decimals rows f count.new
         ≡ counted count.old.tally f
         + (term_weight f depth
-        + (local_weight f + (first_figure f (first_of (environment_of (meant decimals) rows outer) (maybe_exp first.now))
-        + left_then decimals rows f at.environment at.depth left.entry (pending_figure decimals rows f (waiting count.old)) (behind_local (numbers_view count.old.numbers)))))) }
-    ensures within { OnOk result ((least : ℕ) → AreWithin least at.len (waiting count.old) → AreWithin least at.len (waiting count.new)) }
+        + (local_weight f + (first_figure f
+        (first_of (environment_of (meant decimals) rows outer) (maybe_exp first.now))
+        + left_then decimals rows f at.environment at.depth left.entry
+        (pending_figure decimals rows f (waiting count.old))
+        (behind_local (numbers_view count.old.numbers)))))) }
+    ensures within { OnOk result ((least : ℕ) → AreWithin least at.len (waiting count.old) →
+        AreWithin least at.len (waiting count.new)) }
 {
     count.tally = count.tally.with_term(depth)?.with_local()?;
     count.numbers = count.numbers.behind_local()?;
@@ -528,8 +590,15 @@ fn take_trace<'a>(
     requires environment { at.environment ≤ at.len }
     requires within { AreWithin 0 (length (rows scope.old)) (waiting count.old) }
     requires right { AreRight (rows scope.old) }
-    ensures figures { OnOk result ((decimals : ℕ) (f : Figure) → sum_of decimals (rows scope.new) f count.new ≡ counted count.old.tally f + left_then decimals (rows scope.old) f at.environment at.depth (Left.Trace phrase.entry) (pending_figure decimals (rows scope.old) f (waiting count.old)) (numbers_view count.old.numbers)) }
-    ensures within { OnOk result ((least : ℕ) → AreWithin least (length (rows scope.old)) (waiting count.old) → AreWithin least (length (rows scope.new)) (waiting count.new)) }
+    ensures figures { OnOk result ((decimals : ℕ) (f : Figure) →
+        sum_of decimals (rows scope.new) f count.new
+        ≡ counted count.old.tally f
+        + left_then decimals (rows scope.old) f at.environment at.depth (Left.Trace phrase.entry)
+        (pending_figure decimals (rows scope.old) f (waiting count.old))
+        (numbers_view count.old.numbers)) }
+    ensures within { OnOk result ((least : ℕ) →
+        AreWithin least (length (rows scope.old)) (waiting count.old) →
+        AreWithin least (length (rows scope.new)) (waiting count.new)) }
     ensures adds { OnOk result (AddsTo (rows scope.old) (rows scope.new)) }
     ensures right { OnOk result (AreRight (rows scope.new)) }
 {
@@ -550,9 +619,15 @@ fn take_expression<'a>(
     requires environment { at.environment ≤ at.len }
     requires within { AreWithin 0 (length (rows scope.old)) (waiting count.old) }
     requires right { AreRight (rows scope.old) }
-    ensures figures { OnOk result ((decimals : ℕ) (f : Figure) → sum_of decimals (rows scope.new) f count.new ≡ counted count.old.tally f
-        + left_then decimals (rows scope.old) f at.environment at.depth (Left.Expression phrase.entry) (pending_figure decimals (rows scope.old) f (waiting count.old)) (numbers_view count.old.numbers)) }
-    ensures within { OnOk result ((least : ℕ) → AreWithin least (length (rows scope.old)) (waiting count.old) → AreWithin least (length (rows scope.new)) (waiting count.new)) }
+    ensures figures { OnOk result ((decimals : ℕ) (f : Figure) →
+        sum_of decimals (rows scope.new) f count.new ≡ counted count.old.tally f
+        + left_then decimals (rows scope.old) f at.environment at.depth
+        (Left.Expression phrase.entry)
+        (pending_figure decimals (rows scope.old) f (waiting count.old))
+        (numbers_view count.old.numbers)) }
+    ensures within { OnOk result ((least : ℕ) →
+        AreWithin least (length (rows scope.old)) (waiting count.old) →
+        AreWithin least (length (rows scope.new)) (waiting count.new)) }
     ensures adds { OnOk result (AddsTo (rows scope.old) (rows scope.new)) }
     ensures right { OnOk result (AreRight (rows scope.new)) }
 {
@@ -576,8 +651,15 @@ fn take_local<'a>(
     requires outer { locals.outer ≤ at.len }
     requires within { AreWithin 0 (length (rows scope.old)) (waiting count.old) }
     requires right { AreRight (rows scope.old) }
-    ensures figures { OnOk result ((decimals : ℕ) (f : Figure) → sum_of decimals (rows scope.new) f count.new ≡ counted count.old.tally f + left_then decimals (rows scope.old) f at.environment at.depth (Left.Names locals.entry) (pending_figure decimals (rows scope.old) f (waiting count.old)) (numbers_view count.old.numbers)) }
-    ensures within { OnOk result ((least : ℕ) → AreWithin least (length (rows scope.old)) (waiting count.old) → AreWithin least (length (rows scope.new)) (waiting count.new)) }
+    ensures figures { OnOk result ((decimals : ℕ) (f : Figure) →
+        sum_of decimals (rows scope.new) f count.new
+        ≡ counted count.old.tally f
+        + left_then decimals (rows scope.old) f at.environment at.depth (Left.Names locals.entry)
+        (pending_figure decimals (rows scope.old) f (waiting count.old))
+        (numbers_view count.old.numbers)) }
+    ensures within { OnOk result ((least : ℕ) →
+        AreWithin least (length (rows scope.old)) (waiting count.old) →
+        AreWithin least (length (rows scope.new)) (waiting count.new)) }
     ensures adds { OnOk result (AddsTo (rows scope.old) (rows scope.new)) }
     ensures right { OnOk result (AreRight (rows scope.new)) }
 {
@@ -612,8 +694,15 @@ fn take_names<'a>(
     requires outer { locals.outer ≤ at.len }
     requires within { AreWithin 0 (length (rows scope.old)) (waiting count.old) }
     requires right { AreRight (rows scope.old) }
-    ensures figures { OnOk result ((decimals : ℕ) (f : Figure) → sum_of decimals (rows scope.new) f count.new ≡ counted count.old.tally f + left_then decimals (rows scope.old) f at.environment at.depth (Left.Names locals.entry) (pending_figure decimals (rows scope.old) f (waiting count.old)) (numbers_view count.old.numbers)) }
-    ensures within { OnOk result ((least : ℕ) → AreWithin least (length (rows scope.old)) (waiting count.old) → AreWithin least (length (rows scope.new)) (waiting count.new)) }
+    ensures figures { OnOk result ((decimals : ℕ) (f : Figure) →
+        sum_of decimals (rows scope.new) f count.new
+        ≡ counted count.old.tally f
+        + left_then decimals (rows scope.old) f at.environment at.depth (Left.Names locals.entry)
+        (pending_figure decimals (rows scope.old) f (waiting count.old))
+        (numbers_view count.old.numbers)) }
+    ensures within { OnOk result ((least : ℕ) →
+        AreWithin least (length (rows scope.old)) (waiting count.old) →
+        AreWithin least (length (rows scope.new)) (waiting count.new)) }
     ensures adds { OnOk result (AddsTo (rows scope.old) (rows scope.new)) }
     ensures right { OnOk result (AreRight (rows scope.new)) }
 {
@@ -638,8 +727,15 @@ fn take<'a>(
     requires left { IsLeftWithin at.len left }
     requires within { AreWithin 0 (length (rows scope.old)) (waiting count.old) }
     requires right { AreRight (rows scope.old) }
-    ensures figures { OnOk result ((decimals : ℕ) (f : Figure) → sum_of decimals (rows scope.new) f count.new ≡ counted count.old.tally f + left_then decimals (rows scope.old) f at.environment at.depth left.entry (pending_figure decimals (rows scope.old) f (waiting count.old)) (numbers_view count.old.numbers)) }
-    ensures within { OnOk result ((least : ℕ) → AreWithin least (length (rows scope.old)) (waiting count.old) → AreWithin least (length (rows scope.new)) (waiting count.new)) }
+    ensures figures { OnOk result ((decimals : ℕ) (f : Figure) →
+        sum_of decimals (rows scope.new) f count.new
+        ≡ counted count.old.tally f
+        + left_then decimals (rows scope.old) f at.environment at.depth left.entry
+        (pending_figure decimals (rows scope.old) f (waiting count.old))
+        (numbers_view count.old.numbers)) }
+    ensures within { OnOk result ((least : ℕ) →
+        AreWithin least (length (rows scope.old)) (waiting count.old) →
+        AreWithin least (length (rows scope.new)) (waiting count.new)) }
     ensures adds { OnOk result (AddsTo (rows scope.old) (rows scope.new)) }
     ensures right { OnOk result (AreRight (rows scope.new)) }
 {
@@ -662,8 +758,11 @@ fn take<'a>(
 fn run<'a>(count: &mut Count<'a>, scope: &mut Scope<'a>) -> Result<(), Memory>
     requires within { AreWithin 0 (length (rows scope.old)) (waiting count.old) }
     requires right { AreRight (rows scope.old) }
-    ensures figures { OnOk result ((decimals : ℕ) → IsTallied count.new.tally (λ f. sum_of decimals (rows scope.old) f count.old)) }
-    ensures adds { OnOk result ((base : List Entry) → AddsTo base (rows scope.old) → AreWithin (length base) (length (rows scope.old)) (waiting count.old) → AddsTo base (rows scope.new)) }
+    ensures figures { OnOk result ((decimals : ℕ) →
+        IsTallied count.new.tally (λ f. sum_of decimals (rows scope.old) f count.old)) }
+    ensures adds { OnOk result ((base : List Entry) → AddsTo base (rows scope.old) →
+        AreWithin (length base) (length (rows scope.old)) (waiting count.old) →
+        AddsTo base (rows scope.new)) }
     ensures right { OnOk result (AreRight (rows scope.new)) }
 {
     'turns: for _turn in 0..u64::MAX {
@@ -684,9 +783,16 @@ fn run<'a>(count: &mut Count<'a>, scope: &mut Scope<'a>) -> Result<(), Memory>
 fn put_firsts<'a>(count: &mut Count<'a>, at: Place, group: &'a Group) -> Result<(), Memory>
     requires depth { at.depth ≡ 1 }
     requires within { at.environment ≤ at.len }
-    ensures figures { OnOk result ((decimals : ℕ) (rows : List Entry) (f : Figure) (n : NumbersBefore) (role : Role) → sum_from decimals rows f count.new n ≡ sum_from decimals rows f count.old n + variables_figure f (group_variables role (environment_of (meant decimals) rows at.environment) (group_of group.now))) }
+    ensures figures { OnOk result ((decimals : ℕ) (rows : List Entry) (f : Figure)
+        (n : NumbersBefore) (role : Role) →
+        sum_from decimals rows f count.new n
+        ≡ sum_from decimals rows f count.old n
+        + variables_figure f
+        (group_variables role (environment_of (meant decimals) rows at.environment)
+        (group_of group.now))) }
     ensures numbers { OnOk result (count.new.numbers ≡ count.old.numbers) }
-    ensures within { OnOk result ((least : ℕ) → AreWithin least at.len (waiting count.old) → AreWithin least at.len (waiting count.new)) }
+    ensures within { OnOk result ((least : ℕ) → AreWithin least at.len (waiting count.old) →
+        AreWithin least at.len (waiting count.new)) }
 {
     'names: for _name in &group.names.items {
         put_first(count, at, &group.first)?;
@@ -705,12 +811,22 @@ fn put_group<'a>(
     requires environment { visible.environment ≤ length (rows scope.old) }
     requires within { AreWithin 0 (length (rows scope.old)) (waiting count.old) }
     requires right { AreRight (rows scope.old) }
-    ensures figures { OnOk result ((decimals : ℕ) (f : Figure) (n : NumbersBefore) → sum_from decimals (rows scope.new) f count.new n ≡ sum_from decimals (rows scope.old) f count.old n + variables_figure f (group_variables role (environment_of (meant decimals) (rows scope.old) visible.environment) (group_of group.now))) }
-    ensures visible { IfOk result (λ v. (decimals : ℕ) → environment_of (meant decimals) (rows scope.new) v.environment ≡ with_group role visible.next (group_of group.now) (environment_of (meant decimals) (rows scope.old) visible.environment)) }
+    ensures figures { OnOk result ((decimals : ℕ) (f : Figure) (n : NumbersBefore) →
+        sum_from decimals (rows scope.new) f count.new n
+        ≡ sum_from decimals (rows scope.old) f count.old n
+        + variables_figure f
+        (group_variables role (environment_of (meant decimals) (rows scope.old) visible.environment)
+        (group_of group.now))) }
+    ensures visible { IfOk result (λ v. (decimals : ℕ) →
+        environment_of (meant decimals) (rows scope.new) v.environment
+        ≡ with_group role visible.next (group_of group.now)
+        (environment_of (meant decimals) (rows scope.old) visible.environment)) }
     ensures next { IfOk result (λ v. v.next ≡ visible.next + length group.now.names.items.items) }
     ensures inside { IfOk result (λ v. v.environment ≤ length (rows scope.new)) }
     ensures numbers { OnOk result (count.new.numbers ≡ count.old.numbers) }
-    ensures within { OnOk result ((least : ℕ) → AreWithin least (length (rows scope.old)) (waiting count.old) → AreWithin least (length (rows scope.new)) (waiting count.new)) }
+    ensures within { OnOk result ((least : ℕ) →
+        AreWithin least (length (rows scope.old)) (waiting count.old) →
+        AreWithin least (length (rows scope.new)) (waiting count.new)) }
     ensures adds { OnOk result (AddsTo (rows scope.old) (rows scope.new)) }
     ensures right { OnOk result (AreRight (rows scope.new)) }
 {
@@ -735,12 +851,23 @@ fn put_variables<'a>(
     requires environment { outer ≤ length (rows scope.old) }
     requires within { AreWithin 0 (length (rows scope.old)) (waiting count.old) }
     requires right { AreRight (rows scope.old) }
-    ensures figures { OnOk result ((decimals : ℕ) (f : Figure) (n : NumbersBefore) → sum_from decimals (rows scope.new) f count.new n ≡ sum_from decimals (rows scope.old) f count.old n + variables_figure f (groups_variables role 0 (environment_of (meant decimals) (rows scope.old) outer) (groups_of (map group_of groups.now)))) }
-    ensures visible { IfOk result (λ v. (decimals : ℕ) → environment_of (meant decimals) (rows scope.new) v.environment ≡ with_groups role 0 (groups_of (map group_of groups.now)) (environment_of (meant decimals) (rows scope.old) outer)) }
-    ensures next { IfOk result (λ v. (n : ℕ) (env : Environment Denotation) → v.next ≡ length (groups_variables role n env (groups_of (map group_of groups.now)))) }
+    ensures figures { OnOk result ((decimals : ℕ) (f : Figure) (n : NumbersBefore) →
+        sum_from decimals (rows scope.new) f count.new n
+        ≡ sum_from decimals (rows scope.old) f count.old n
+        + variables_figure f
+        (groups_variables role 0 (environment_of (meant decimals) (rows scope.old) outer)
+        (groups_of (map group_of groups.now)))) }
+    ensures visible { IfOk result (λ v. (decimals : ℕ) →
+        environment_of (meant decimals) (rows scope.new) v.environment
+        ≡ with_groups role 0 (groups_of (map group_of groups.now))
+        (environment_of (meant decimals) (rows scope.old) outer)) }
+    ensures next { IfOk result (λ v. (n : ℕ) (env : Environment Denotation) →
+        v.next ≡ length (groups_variables role n env (groups_of (map group_of groups.now)))) }
     ensures inside { IfOk result (λ v. v.environment ≤ length (rows scope.new)) }
     ensures numbers { OnOk result (count.new.numbers ≡ count.old.numbers) }
-    ensures within { OnOk result ((least : ℕ) → AreWithin least (length (rows scope.old)) (waiting count.old) → AreWithin least (length (rows scope.new)) (waiting count.new)) }
+    ensures within { OnOk result ((least : ℕ) →
+        AreWithin least (length (rows scope.old)) (waiting count.old) →
+        AreWithin least (length (rows scope.new)) (waiting count.new)) }
     ensures adds { OnOk result (AddsTo (rows scope.old) (rows scope.new)) }
     ensures right { OnOk result (AreRight (rows scope.new)) }
 {
@@ -763,7 +890,10 @@ pub(crate) fn passed_limit<'a>(
 ) -> Result<Option<Limit>, Memory>
     requires within { environment ≤ length (rows scope.old) }
     requires right { AreRight (rows scope.old) }
-    ensures limit { IfOk result (λ limit. (decimals : ℕ) → limit ≡ slice_get (passed_limits (node_of (environment_of (meant decimals) (rows scope.old) environment) (word node.now.name) (groupings node.now.inputs) (groupings node.now.outputs) (trace_view node.now.body))) 0) }
+    ensures limit { IfOk result (λ limit. (decimals : ℕ) →
+        limit ≡ slice_get (passed_limits
+        (node_of (environment_of (meant decimals) (rows scope.old) environment) (word node.now.name)
+        (groupings node.now.inputs) (groupings node.now.outputs) (trace_view node.now.body))) 0) }
     ensures kept { OnOk result (rows scope.new ≡ rows scope.old) }
 {
     let base = scope.len();

@@ -41,7 +41,9 @@ pub(crate) fn asked_node<'a>(
     wanted: Option<&str>,
 ) -> Result<Option<Asked<'a>>, Memory>
     requires right { AreRight (rows scope.old) }
-    ensures node { IfOk result (λ asked. (decimals : ℕ) → IsAsked decimals (rows scope.new) asked (node_among (at_start decimals) (asked_name wanted.entry) (map declaration decls.now))) }
+    ensures node { IfOk result (λ asked. (decimals : ℕ) →
+        IsAsked decimals (rows scope.new) asked
+        (node_among (at_start decimals) (asked_name wanted.entry) (map declaration decls.now))) }
     ensures right { OnOk result (AreRight (rows scope.new)) }
 {
     let mut environment = 0;

@@ -37,7 +37,8 @@ pub(crate) fn parameters_of<'a>(
     alloc: Global,
     params: &'a Option<Groups>,
 ) -> Result<Vec<&'a Name>, Memory>
-    ensures { IfOk result (λ v. map name_text v.items ≡ parameter_names (parameters_view params.now)) }
+    ensures { IfOk result (λ v.
+        map name_text v.items ≡ parameter_names (parameters_view params.now)) }
 {
     let mut all = Vec::new(alloc);
     if let Some(groups) = params {
@@ -48,7 +49,8 @@ pub(crate) fn parameters_of<'a>(
 
 // The names of groups, behind those that are there.
 fn add_groups<'a>(all: &mut Vec<&'a Name>, groups: &'a Groups) -> Result<(), Memory>
-    ensures { OnOk result (map name_text all.new.items ≡ map name_text all.old.items ++ groups_names (groupings groups.now)) }
+    ensures { OnOk result (map name_text all.new.items
+        ≡ map name_text all.old.items ++ groups_names (groupings groups.now)) }
 {
     for group in &groups.items {
         add_group(all, group)?;
@@ -58,7 +60,8 @@ fn add_groups<'a>(all: &mut Vec<&'a Name>, groups: &'a Groups) -> Result<(), Mem
 
 // The names of a group, behind those that are there.
 fn add_group<'a>(all: &mut Vec<&'a Name>, group: &'a Group) -> Result<(), Memory>
-    ensures { OnOk result (map name_text all.new.items ≡ map name_text all.old.items ++ group_names (group_of group.now)) }
+    ensures { OnOk result (map name_text all.new.items
+        ≡ map name_text all.old.items ++ group_names (group_of group.now)) }
 {
     for name in &group.names.items {
         all.push(name)?;
@@ -78,8 +81,12 @@ pub(crate) fn bind<'a>(
     requires outer { outer ≤ length (rows scope.old) }
     requires written { written ≤ length (rows scope.old) }
     requires right { AreRight (rows scope.old) }
-    ensures denotation { IfOk result (λ number. (r : Reading Denotation) → Binds r (rows scope.old) (rows scope.new) (map name_text params.now) (map argument args.now) outer written number) }
-    ensures work { IfOk result (λ number. (r : Reading ℕ) → Binds r (rows scope.old) (rows scope.new) (map name_text params.now) (map argument args.now) outer written number) }
+    ensures denotation { IfOk result (λ number. (r : Reading Denotation) →
+        Binds r (rows scope.old) (rows scope.new) (map name_text params.now) (map argument args.now)
+        outer written number) }
+    ensures work { IfOk result (λ number. (r : Reading ℕ) →
+        Binds r (rows scope.old) (rows scope.new) (map name_text params.now) (map argument args.now)
+        outer written number) }
     ensures within { IfOk result (λ number. number ≤ length (rows scope.new)) }
     ensures adds { OnOk result (AddsTo (rows scope.old) (rows scope.new)) }
     ensures right { OnOk result (AreRight (rows scope.new)) }
@@ -108,8 +115,16 @@ fn put_parameters<'a>(
 ) -> Result<usize, Memory>
     requires outer { outer ≤ length (rows scope.old) }
     requires right { AreRight (rows scope.old) }
-    ensures denotation { IfOk result (λ number. (r : Reading Denotation) → environment_of r (rows scope.new) number ≡ with_arguments (map name_text params.now) (parameters r.parameter (length (rows scope.old)) (map name_text params.now)) (environment_of r (rows scope.old) outer)) }
-    ensures work { IfOk result (λ number. (r : Reading ℕ) → environment_of r (rows scope.new) number ≡ with_arguments (map name_text params.now) (parameters r.parameter (length (rows scope.old)) (map name_text params.now)) (environment_of r (rows scope.old) outer)) }
+    ensures denotation { IfOk result (λ number. (r : Reading Denotation) →
+        environment_of r (rows scope.new) number
+        ≡ with_arguments (map name_text params.now)
+        (parameters r.parameter (length (rows scope.old)) (map name_text params.now))
+        (environment_of r (rows scope.old) outer)) }
+    ensures work { IfOk result (λ number. (r : Reading ℕ) →
+        environment_of r (rows scope.new) number
+        ≡ with_arguments (map name_text params.now)
+        (parameters r.parameter (length (rows scope.old)) (map name_text params.now))
+        (environment_of r (rows scope.old) outer)) }
     ensures within { IfOk result (λ number. number ≤ length (rows scope.new)) }
     ensures adds { OnOk result (AddsTo (rows scope.old) (rows scope.new)) }
     ensures right { OnOk result (AreRight (rows scope.new)) }
@@ -136,8 +151,14 @@ pub(crate) fn put_exception<'a>(
     requires outer { outer ≤ length (rows scope.old) }
     requires before { IsTrue (is_chosen (length (rows scope.old)) before) }
     requires right { AreRight (rows scope.old) }
-    ensures denotation { IfOk result (λ number. (r : Reading Denotation) → environment_of r (rows scope.new) number ≡ with_exceptions (r.terms_before before) (word name.now ∷ []) (environment_of r (rows scope.old) outer)) }
-    ensures work { IfOk result (λ number. (r : Reading ℕ) → environment_of r (rows scope.new) number ≡ with_exceptions (r.terms_before before) (word name.now ∷ []) (environment_of r (rows scope.old) outer)) }
+    ensures denotation { IfOk result (λ number. (r : Reading Denotation) →
+        environment_of r (rows scope.new) number
+        ≡ with_exceptions (r.terms_before before) (word name.now ∷ [])
+        (environment_of r (rows scope.old) outer)) }
+    ensures work { IfOk result (λ number. (r : Reading ℕ) →
+        environment_of r (rows scope.new) number
+        ≡ with_exceptions (r.terms_before before) (word name.now ∷ [])
+        (environment_of r (rows scope.old) outer)) }
     ensures within { IfOk result (λ number. number ≤ length (rows scope.new)) }
     ensures adds { OnOk result (AddsTo (rows scope.old) (rows scope.new)) }
     ensures right { OnOk result (AreRight (rows scope.new)) }
@@ -159,8 +180,14 @@ pub(crate) fn put_exceptions<'a>(
     requires outer { outer ≤ length (rows scope.old) }
     requires before { IsTrue (is_chosen (length (rows scope.old)) before) }
     requires right { AreRight (rows scope.old) }
-    ensures denotation { IfOk result (λ number. (r : Reading Denotation) → environment_of r (rows scope.new) number ≡ with_exceptions (r.terms_before before) (words names.now) (environment_of r (rows scope.old) outer)) }
-    ensures work { IfOk result (λ number. (r : Reading ℕ) → environment_of r (rows scope.new) number ≡ with_exceptions (r.terms_before before) (words names.now) (environment_of r (rows scope.old) outer)) }
+    ensures denotation { IfOk result (λ number. (r : Reading Denotation) →
+        environment_of r (rows scope.new) number
+        ≡ with_exceptions (r.terms_before before) (words names.now)
+        (environment_of r (rows scope.old) outer)) }
+    ensures work { IfOk result (λ number. (r : Reading ℕ) →
+        environment_of r (rows scope.new) number
+        ≡ with_exceptions (r.terms_before before) (words names.now)
+        (environment_of r (rows scope.old) outer)) }
     ensures within { IfOk result (λ number. number ≤ length (rows scope.new)) }
     ensures adds { OnOk result (AddsTo (rows scope.old) (rows scope.new)) }
     ensures right { OnOk result (AreRight (rows scope.new)) }
@@ -249,8 +276,12 @@ pub(crate) fn declare<'a>(
 ) -> Result<usize, Memory>
     requires within { environment ≤ length (rows scope.old) }
     requires right { AreRight (rows scope.old) }
-    ensures denotation { IfOk result (λ number. (r : Reading Denotation) → environment_of r (rows scope.new) number ≡ with_macro r (macro declared.now) (environment_of r (rows scope.old) environment)) }
-    ensures work { IfOk result (λ number. (r : Reading ℕ) → environment_of r (rows scope.new) number ≡ with_macro r (macro declared.now) (environment_of r (rows scope.old) environment)) }
+    ensures denotation { IfOk result (λ number. (r : Reading Denotation) →
+        environment_of r (rows scope.new) number
+        ≡ with_macro r (macro declared.now) (environment_of r (rows scope.old) environment)) }
+    ensures work { IfOk result (λ number. (r : Reading ℕ) →
+        environment_of r (rows scope.new) number
+        ≡ with_macro r (macro declared.now) (environment_of r (rows scope.old) environment)) }
     ensures within { IfOk result (λ number. number ≤ length (rows scope.new)) }
     ensures adds { OnOk result (AddsTo (rows scope.old) (rows scope.new)) }
     ensures right { OnOk result (AreRight (rows scope.new)) }
@@ -277,7 +308,9 @@ fn led_to<'a>(
 ) -> Result<Option<Led>, Memory>
     requires within { environment ≤ length (rows scope.old) }
     requires right { AreRight (rows scope.old) }
-    ensures leads { IfOk result (λ led. IfSome led (LeadsTo (rows scope.old) (rows scope.new) environment (phrase_view phrase.entry))) }
+    ensures leads { IfOk result (λ led.
+        IfSome led (LeadsTo (rows scope.old) (rows scope.new) environment
+        (phrase_view phrase.entry))) }
     ensures adds { OnOk result (AddsTo (rows scope.old) (rows scope.new)) }
     ensures right { OnOk result (AreRight (rows scope.new)) }
 {

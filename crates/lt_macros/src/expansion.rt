@@ -5,6 +5,7 @@ ghost use Rattle.lt_macros.specs.Answer.{IsAnswer, asked_name};
 ghost use Rattle.lt_macros.specs.Expansion.{expanded_node};
 
 use crate::build::build_node;
+use crate::builder::Builder;
 use crate::counting::passed_limit;
 use crate::declarations::asked_node;
 use crate::refusal::NodeRefusal;
@@ -25,7 +26,8 @@ pub fn expanded_node(
     typed: &Typed,
     wanted: Option<&str>,
 ) -> Result<Node, NodeRefusal>
-    ensures { IsAnswer (expanded_node typed.now.decimals (asked_name wanted.entry) (declarations typed.now.program)) result }
+    ensures { IsAnswer (expanded_node typed.now.decimals (asked_name wanted.entry)
+        (declarations typed.now.program)) result }
 {
     let mut scope = Scope::new(alloc);
     let decls = &typed.program().decls;
@@ -36,5 +38,10 @@ pub fn expanded_node(
     if let Some(limit) = passed_limit(alloc, &mut scope, environment, node)? {
         return Err(NodeRefusal::TooLarge(limit));
     }
-    Ok(build_node(alloc, &mut scope, typed.decimals(), environment, node)?)
+    let builder = Builder {
+        alloc,
+        scope,
+        decimals: typed.decimals(),
+    };
+    Ok(build_node(builder, environment, node)?)
 }

@@ -1,47 +1,43 @@
 //! Expressions without names.
 
-ghost use Rattle.std.specs.Prelude.{◌≡◌, ◌≤◌, IfOk, OnOk, length};
+ghost use Rattle.std.specs.Prelude.{◌≡◌};
 ghost use Rattle.lt_ast.specs.Syntax as s;
 ghost use Rattle.lt_ast.specs.View.{exp};
-ghost use Rattle.lt_num.specs.Bounds.{most_decimals};
 ghost use Rattle.lt_macros.specs.Denotation.{as_expression};
-ghost use Rattle.lt_macros.specs.inner.Handing.{AreRight};
-ghost use Rattle.lt_macros.specs.inner.HeadNormalForm.{IsWithin, form_reads};
-ghost use Rattle.lt_macros.specs.inner.Phrase.{value};
-ghost use Rattle.lt_macros.specs.inner.Reading.{environment as environment_of, meant, phrase_view};
-ghost use Rattle.lt_macros.specs.inner.Rows.{rows};
+ghost use Rattle.lt_macros.specs.inner.Builder.{Builds, IsReady, IsReadyFor, form_denotation, phrase_at, value_at};
 ghost use Rattle.lt_macros.specs.Tree.{placed};
 
+use crate::builder::Builder;
 use crate::head_normal_form::{HeadNormalForm, reduce};
 use crate::literals::{binary_operator, meaningless, number_at, unary_operator};
 use crate::position::Position;
-use crate::scope::{Phrase, Scope};
+use crate::scope::Phrase;
 use crate::tree::Placed;
 use lt_ast::{BinOp, Expr, Span, UnOp};
 use lt_formula::Memory;
 use lt_num::{Kind, Value};
-use std::alloc::Global;
 
 // What a phrase stands for as an expression.
 #[cycle(build_expr)]
 #[inline(never)]
 pub(crate) fn build_expr<'a>(
-    alloc: Global,
-    scope: &mut Scope<'a>,
-    decimals: u32,
+    builder: &mut Builder<'a>,
     environment: usize,
     phrase: Phrase<'a>,
 ) -> Result<Placed, Memory>
-    requires few { decimals ≤ most_decimals }
-    requires within { environment ≤ length (rows scope.old) }
-    requires right { AreRight (rows scope.old) }
-    ensures tree { IfOk result (λ e. placed e ≡ as_expression ((meant decimals).phrase (environment_of (meant decimals) (rows scope.old) environment) (phrase_view phrase.entry))) }
-    ensures kept { OnOk result (rows scope.new ≡ rows scope.old) }
+    requires { IsReady builder.old environment }
+    ensures { Builds builder.old builder.new result (λ e.
+        placed e ≡ as_expression (phrase_at builder.old environment phrase.entry)) }
 {
-    let before = scope.len();
-    let form = reduce(scope, Position::Expression, environment, phrase)?;
-    let expr = build_expr_form(alloc, scope, decimals, form)?;
-    scope.truncate(before);
+    let before = builder.scope.len();
+    let form = reduce(
+        &mut builder.scope,
+        Position::Expression,
+        environment,
+        phrase,
+    )?;
+    let expr = build_expr_form(builder, form)?;
+    builder.scope.truncate(before);
     Ok(expr)
 }
 
@@ -49,48 +45,26 @@ pub(crate) fn build_expr<'a>(
 #[cycle(build_expr)]
 #[inline(never)]
 pub(crate) fn build_expr_form<'a>(
-    alloc: Global,
-    scope: &mut Scope<'a>,
-    decimals: u32,
+    builder: &mut Builder<'a>,
     form: HeadNormalForm<'a>,
 ) -> Result<Placed, Memory>
-    requires few { decimals ≤ most_decimals }
-    requires within { IsWithin (length (rows scope.old)) form }
-    requires right { AreRight (rows scope.old) }
-    ensures tree { IfOk result (λ e. placed e ≡ as_expression (form_reads (meant decimals) (rows scope.old) form.entry)) }
-    ensures kept { OnOk result (rows scope.new ≡ rows scope.old) }
+    requires { IsReadyFor builder.old form }
+    ensures { Builds builder.old builder.new result (λ e.
+        placed e ≡ as_expression (form_denotation builder.old form.entry)) }
 {
     match form {
         HeadNormalForm::Variable(role, place, at) => Ok(Placed::Variable(role, place, at)),
         HeadNormalForm::Previous(role, place, at) => Ok(Placed::Previous(role, place, at)),
-        HeadNormalForm::Number(literal) => number_at(alloc, decimals, literal),
+        HeadNormalForm::Number(literal) => number_at(builder.alloc, builder.decimals, literal),
         HeadNormalForm::Flag(flag, at) => Ok(Placed::Constant(Kind::Bool, Value::Bool(flag), at)),
         HeadNormalForm::Unary(operator, part, at, environment) => {
-            build_unary(alloc, scope, decimals, environment, operator, part, at)
+            build_unary(builder, environment, operator, part, at)
         }
         HeadNormalForm::Binary(operator, left, right, at, environment) => {
-            build_binary(
-                alloc,
-                scope,
-                decimals,
-                environment,
-                operator,
-                left,
-                right,
-                at,
-            )
+            build_binary(builder, environment, operator, left, right, at)
         }
         HeadNormalForm::If(condition, holds, otherwise, at, environment) => {
-            build_if(
-                alloc,
-                scope,
-                decimals,
-                environment,
-                condition,
-                holds,
-                otherwise,
-                at,
-            )
+            build_if(builder, environment, condition, holds, otherwise, at)
         }
         HeadNormalForm::Meaningless
         | HeadNormalForm::Nothing
@@ -109,21 +83,17 @@ pub(crate) fn build_expr_form<'a>(
 #[cycle(build_expr)]
 #[inline(never)]
 fn build_unary<'a>(
-    alloc: Global,
-    scope: &mut Scope<'a>,
-    decimals: u32,
+    builder: &mut Builder<'a>,
     environment: usize,
     operator: UnOp,
     part: &'a Expr,
     at: Span,
 ) -> Result<Placed, Memory>
-    requires few { decimals ≤ most_decimals }
-    requires within { environment ≤ length (rows scope.old) }
-    requires right { AreRight (rows scope.old) }
-    ensures tree { IfOk result (λ e. placed e ≡ as_expression ((meant decimals).phrase (environment_of (meant decimals) (rows scope.old) environment) (value (s.unary operator (exp part.now) at)))) }
-    ensures kept { OnOk result (rows scope.new ≡ rows scope.old) }
+    requires { IsReady builder.old environment }
+    ensures { Builds builder.old builder.new result (λ e.
+        placed e ≡ value_at builder.old environment (s.unary operator (exp part.now) at)) }
 {
-    let part = build_part(alloc, scope, decimals, environment, part)?;
+    let part = build_part(builder, environment, part)?;
     Ok(Placed::Unary(unary_operator(operator), part, at))
 }
 
@@ -131,23 +101,20 @@ fn build_unary<'a>(
 #[cycle(build_expr)]
 #[inline(never)]
 fn build_binary<'a>(
-    alloc: Global,
-    scope: &mut Scope<'a>,
-    decimals: u32,
+    builder: &mut Builder<'a>,
     environment: usize,
     operator: BinOp,
     left: &'a Expr,
     right: &'a Expr,
     at: Span,
 ) -> Result<Placed, Memory>
-    requires few { decimals ≤ most_decimals }
-    requires within { environment ≤ length (rows scope.old) }
-    requires right { AreRight (rows scope.old) }
-    ensures tree { IfOk result (λ e. placed e ≡ as_expression ((meant decimals).phrase (environment_of (meant decimals) (rows scope.old) environment) (value (s.binary operator (exp left.now) (exp right.now) at)))) }
-    ensures kept { OnOk result (rows scope.new ≡ rows scope.old) }
+    requires { IsReady builder.old environment }
+    ensures { Builds builder.old builder.new result (λ e.
+        placed e ≡ value_at builder.old environment
+        (s.binary operator (exp left.now) (exp right.now) at)) }
 {
-    let left = build_part(alloc, scope, decimals, environment, left)?;
-    let right = build_part(alloc, scope, decimals, environment, right)?;
+    let left = build_part(builder, environment, left)?;
+    let right = build_part(builder, environment, right)?;
     Ok(Placed::Binary(binary_operator(operator), left, right, at))
 }
 
@@ -155,24 +122,21 @@ fn build_binary<'a>(
 #[cycle(build_expr)]
 #[inline(never)]
 fn build_if<'a>(
-    alloc: Global,
-    scope: &mut Scope<'a>,
-    decimals: u32,
+    builder: &mut Builder<'a>,
     environment: usize,
     condition: &'a Expr,
     holds: &'a Expr,
     otherwise: &'a Expr,
     at: Span,
 ) -> Result<Placed, Memory>
-    requires few { decimals ≤ most_decimals }
-    requires within { environment ≤ length (rows scope.old) }
-    requires right { AreRight (rows scope.old) }
-    ensures tree { IfOk result (λ e. placed e ≡ as_expression ((meant decimals).phrase (environment_of (meant decimals) (rows scope.old) environment) (value (s.choose (exp condition.now) (exp holds.now) (exp otherwise.now) at)))) }
-    ensures kept { OnOk result (rows scope.new ≡ rows scope.old) }
+    requires { IsReady builder.old environment }
+    ensures { Builds builder.old builder.new result (λ e.
+        placed e ≡ value_at builder.old environment
+        (s.choose (exp condition.now) (exp holds.now) (exp otherwise.now) at)) }
 {
-    let condition = build_part(alloc, scope, decimals, environment, condition)?;
-    let holds = build_part(alloc, scope, decimals, environment, holds)?;
-    let otherwise = build_part(alloc, scope, decimals, environment, otherwise)?;
+    let condition = build_part(builder, environment, condition)?;
+    let holds = build_part(builder, environment, holds)?;
+    let otherwise = build_part(builder, environment, otherwise)?;
     Ok(Placed::Choice(condition, holds, otherwise, at))
 }
 
@@ -180,18 +144,14 @@ fn build_if<'a>(
 #[cycle(build_expr)]
 #[inline(never)]
 fn build_part<'a>(
-    alloc: Global,
-    scope: &mut Scope<'a>,
-    decimals: u32,
+    builder: &mut Builder<'a>,
     environment: usize,
     part: &'a Expr,
 ) -> Result<Box<Placed>, Memory>
-    requires few { decimals ≤ most_decimals }
-    requires within { environment ≤ length (rows scope.old) }
-    requires right { AreRight (rows scope.old) }
-    ensures tree { IfOk result (λ e. placed e.value ≡ as_expression ((meant decimals).phrase (environment_of (meant decimals) (rows scope.old) environment) (value (exp part.now)))) }
-    ensures kept { OnOk result (rows scope.new ≡ rows scope.old) }
+    requires { IsReady builder.old environment }
+    ensures { Builds builder.old builder.new result (λ e.
+        placed e.value ≡ value_at builder.old environment (exp part.now)) }
 {
-    let part = build_expr(alloc, scope, decimals, environment, Phrase::Value(part))?;
-    Ok(Box::new(alloc, part)?)
+    let part = build_expr(builder, environment, Phrase::Value(part))?;
+    Ok(Box::new(builder.alloc, part)?)
 }

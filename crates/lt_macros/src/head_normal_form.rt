@@ -116,8 +116,19 @@ fn enter<'a>(
     requires within { environment ≤ length (rows scope.old) }
     requires outer { outer ≤ length (rows scope.old) }
     requires right { AreRight (rows scope.old) }
-    ensures denotation { IfOk result (λ step. (decimals : ℕ) → step_reads (meant decimals) (rows scope.new) step ≡ macro_denotation (environment_of (meant decimals) (rows scope.old) outer) (macro declared.now) (map (λ a. argument_denotation (environment_of (meant decimals) (rows scope.old) environment) a) (map argument args.now))) }
-    ensures work { IfOk result (λ step. IsLess (rows scope.new) step (suc (macro_work (environment_of worked (rows scope.old) outer) (macro declared.now) (map (λ a. argument_work (environment_of worked (rows scope.old) environment) a) (map argument args.now))))) }
+    ensures denotation { IfOk result (λ step. (decimals : ℕ) →
+        step_reads (meant decimals) (rows scope.new) step
+        ≡ macro_denotation (environment_of (meant decimals) (rows scope.old) outer)
+        (macro declared.now)
+        (map
+        (λ a. argument_denotation (environment_of (meant decimals) (rows scope.old) environment) a)
+        (map argument args.now))) }
+    ensures work { IfOk result (λ step.
+        IsLess (rows scope.new) step
+        (suc
+        (macro_work (environment_of worked (rows scope.old) outer) (macro declared.now)
+        (map (λ a. argument_work (environment_of worked (rows scope.old) environment) a)
+        (map argument args.now))))) }
     ensures within { IfOk result (StepIsWithin (length (rows scope.new))) }
     ensures adds { OnOk result (AddsTo (rows scope.old) (rows scope.new)) }
     ensures right { OnOk result (AreRight (rows scope.new)) }
@@ -139,8 +150,18 @@ fn step_from_entry<'a>(
     requires linked { IsTrue (is_linked (length (rows scope.old)) entry) }
     requires name { IsTrue (is_name entry.binding) }
     requires right { AreRight (rows scope.old) }
-    ensures denotation { IfOk result (λ step. (decimals : ℕ) → step_reads (meant decimals) (rows scope.new) step ≡ standing_for at (binding_at (meant decimals) (rows scope.old) entry.entry) (map (λ a. argument_denotation (environment_of (meant decimals) (rows scope.old) environment) a) (map argument args.now))) }
-    ensures work { IfOk result (λ step. IsLess (rows scope.new) step (suc (used (binding_at worked (rows scope.old) entry.entry) (map (λ a. argument_work (environment_of worked (rows scope.old) environment) a) (map argument args.now))))) }
+    ensures denotation { IfOk result (λ step. (decimals : ℕ) →
+        step_reads (meant decimals) (rows scope.new) step
+        ≡ standing_for at (binding_at (meant decimals) (rows scope.old) entry.entry)
+        (map
+        (λ a. argument_denotation (environment_of (meant decimals) (rows scope.old) environment) a)
+        (map argument args.now))) }
+    ensures work { IfOk result (λ step.
+        IsLess (rows scope.new) step
+        (suc
+        (used (binding_at worked (rows scope.old) entry.entry)
+        (map (λ a. argument_work (environment_of worked (rows scope.old) environment) a)
+        (map argument args.now))))) }
     ensures within { IfOk result (StepIsWithin (length (rows scope.new))) }
     ensures adds { OnOk result (AddsTo (rows scope.old) (rows scope.new)) }
     ensures right { OnOk result (AreRight (rows scope.new)) }
@@ -164,7 +185,11 @@ fn step_from_use<'a>(
 ) -> Result<Step<'a>, Memory>
     requires within { environment ≤ length (rows scope.old) }
     requires right { AreRight (rows scope.old) }
-    ensures steps { IfOk result (StepsTo position (rows scope.new) (use_meant (rows scope.old) environment (word used.entry.name.now) (map argument used.entry.args.now)) (suc (use_worked (rows scope.old) environment (word used.entry.name.now) (map argument used.entry.args.now)))) }
+    ensures steps { IfOk result (StepsTo position (rows scope.new)
+        (use_meant (rows scope.old) environment (word used.entry.name.now)
+        (map argument used.entry.args.now))
+        (suc (use_worked (rows scope.old) environment (word used.entry.name.now)
+        (map argument used.entry.args.now)))) }
     ensures adds { OnOk result (AddsTo (rows scope.old) (rows scope.new)) }
     ensures right { OnOk result (AreRight (rows scope.new)) }
 {
@@ -194,7 +219,11 @@ fn step_from_exceptions<'a>(
 ) -> Result<Step<'a>, Memory>
     requires within { environment ≤ length (rows scope.old) }
     requires right { AreRight (rows scope.old) }
-    ensures steps { IfOk result (StepsTo position (rows scope.new) (phrase_meant (rows scope.old) environment (trace_phrase (exceptions (words names.now) (trace body.now)))) (phrase_worked (rows scope.old) environment (trace_phrase (exceptions (words names.now) (trace body.now))))) }
+    ensures steps { IfOk result (StepsTo position (rows scope.new)
+        (phrase_meant (rows scope.old) environment
+        (trace_phrase (exceptions (words names.now) (trace body.now))))
+        (phrase_worked (rows scope.old) environment
+        (trace_phrase (exceptions (words names.now) (trace body.now))))) }
     ensures adds { OnOk result (AddsTo (rows scope.old) (rows scope.new)) }
     ensures right { OnOk result (AreRight (rows scope.new)) }
 {
@@ -219,7 +248,11 @@ fn step_from_trap<'a>(
 ) -> Result<Step<'a>, Memory>
     requires within { environment ≤ length (rows scope.old) }
     requires right { AreRight (rows scope.old) }
-    ensures steps { IfOk result (StepsTo position (rows scope.new) (phrase_meant (rows scope.old) environment (trace_phrase (trap (word name.now) (trace body.now) (maybe_trace handler.now)))) (phrase_worked (rows scope.old) environment (trace_phrase (trap (word name.now) (trace body.now) (maybe_trace handler.now))))) }
+    ensures steps { IfOk result (StepsTo position (rows scope.new)
+        (phrase_meant (rows scope.old) environment
+        (trace_phrase (trap (word name.now) (trace body.now) (maybe_trace handler.now))))
+        (phrase_worked (rows scope.old) environment
+        (trace_phrase (trap (word name.now) (trace body.now) (maybe_trace handler.now))))) }
     ensures adds { OnOk result (AddsTo (rows scope.old) (rows scope.new)) }
     ensures right { OnOk result (AreRight (rows scope.new)) }
 {
@@ -242,7 +275,9 @@ fn take_step<'a>(
 ) -> Result<Step<'a>, Memory>
     requires within { environment ≤ length (rows scope.old) }
     requires right { AreRight (rows scope.old) }
-    ensures steps { IfOk result (StepsTo position (rows scope.new) (phrase_meant (rows scope.old) environment (phrase_view phrase.entry)) (phrase_worked (rows scope.old) environment (phrase_view phrase.entry))) }
+    ensures steps { IfOk result (StepsTo position (rows scope.new)
+        (phrase_meant (rows scope.old) environment (phrase_view phrase.entry))
+        (phrase_worked (rows scope.old) environment (phrase_view phrase.entry))) }
     ensures adds { OnOk result (AddsTo (rows scope.old) (rows scope.new)) }
     ensures right { OnOk result (AreRight (rows scope.new)) }
 {
@@ -298,7 +333,9 @@ fn previous<'a>(
 ) -> Result<HeadNormalForm<'a>, Memory>
     requires within { environment ≤ length (rows scope.old) }
     requires right { AreRight (rows scope.old) }
-    ensures denotation { IfOk result (λ form. (decimals : ℕ) → form_reads (meant decimals) (rows scope.new) form ≡ phrase_meant (rows scope.old) environment (value (pre (word name.now) at)) decimals) }
+    ensures denotation { IfOk result (λ form. (decimals : ℕ) →
+        form_reads (meant decimals) (rows scope.new) form
+        ≡ phrase_meant (rows scope.old) environment (value (pre (word name.now) at)) decimals) }
     ensures work { IfOk result (λ form. form_reads worked (rows scope.new) form ≤ 1) }
     ensures within { IfOk result (IsWithin (length (rows scope.new))) }
     ensures adds { OnOk result (AddsTo (rows scope.old) (rows scope.new)) }
@@ -373,8 +410,15 @@ pub(crate) fn reduce<'a>(
 ) -> Result<HeadNormalForm<'a>, Memory>
     requires within { environment ≤ length (rows scope.old) }
     requires right { AreRight (rows scope.old) }
-    ensures denotation { IfOk result (λ form. (decimals : ℕ) → seen position (form_reads (meant decimals) (rows scope.new) form) ≡ seen position ((meant decimals).phrase (environment_of (meant decimals) (rows scope.old) environment) (phrase_view phrase.entry))) }
-    ensures work { IfOk result (λ form. form_reads worked (rows scope.new) form ≤ worked.phrase (environment_of worked (rows scope.old) environment) (phrase_view phrase.entry)) }
+    ensures denotation { IfOk result (λ form. (decimals : ℕ) →
+        seen position (form_reads (meant decimals) (rows scope.new) form)
+        ≡ seen position
+        ((meant decimals).phrase (environment_of (meant decimals) (rows scope.old) environment)
+        (phrase_view phrase.entry))) }
+    ensures work { IfOk result (λ form.
+        form_reads worked (rows scope.new) form
+        ≤ worked.phrase (environment_of worked (rows scope.old) environment)
+        (phrase_view phrase.entry)) }
     ensures within { IfOk result (IsWithin (length (rows scope.new))) }
     ensures fits { IfOk result (λ form. IsTrue (fits position form)) }
     ensures adds { OnOk result (AddsTo (rows scope.old) (rows scope.new)) }

@@ -5,9 +5,14 @@
 //! function of what its arguments mean. The result is a tree whose parts have their places in the text
 //! (`specs/Expanded.antt`). [`expanded_node`] counts a node against the limits of `specs/Limits.antt` before it
 //! builds the tree.
+//!
+//! The functions that build a tree call one another once for each level of a text. Those of them, and of what they
+//! call, that are marked `inline(never)` are marked for the stack: so a level takes the stack of the one construct that
+//! stands there, and not that of all constructs together, and a node at its limits is built on a stack of 8 MB.
 #![tactic(auto)]
 
 mod build;
+mod builder;
 mod constructors;
 mod counting;
 mod declarations;

@@ -116,7 +116,10 @@ pub(crate) fn range_of(
 // The raw numbers between the ends of a range, with so many decimals: never none.
 fn written_range(alloc: Global, decimals: u32, range: &Interval) -> Result<Range, Memory>
     requires { decimals ≤ most_decimals }
-    ensures { IfOk result (λ r. r ≡ from_to (limited (raw_of decimals (figure range.now.low))) (int_max (limited (raw_of decimals (figure range.now.low))) (limited (raw_of decimals (figure range.now.high))))) }
+    ensures { IfOk result (λ r.
+        r ≡ from_to (limited (raw_of decimals (figure range.now.low)))
+        (int_max (limited (raw_of decimals (figure range.now.low)))
+        (limited (raw_of decimals (figure range.now.high))))) }
 {
     let low = limited_raw(alloc, decimals, &range.low)?;
     let high = limited_raw(alloc, decimals, &range.high)?;

@@ -66,7 +66,13 @@ impl Numbers {
     // Behind more terms that declare locals, so that the next local gets this number.
     pub(crate) fn behind_locals(self, next: u32) -> Result<Numbers, Memory>
         requires { self.local ≤ next }
-        ensures { IfOk result (λ n. numbers_view n ≡ record { term = self.term + (next - self.local); local = next; counter = self.counter }) }
+        ensures { IfOk result (λ n.
+            numbers_view n ≡ record {
+              term = self.term
+                  + (next - self.local);
+              local = next;
+              counter = self.counter;
+            }) }
     {
         Ok(Numbers {
             term: self.term.checked_add(next - self.local).ok_or(Memory)?,

@@ -43,7 +43,8 @@ fn target_of(binding: Binding<'_>, count: usize) -> Option<Target>
 pub(crate) fn reached_by(scope: &Scope<'_>, environment: usize, used: NameUse<'_>) -> Reached
     requires within { environment ≤ length (rows scope.now) }
     requires right { AreRight (rows scope.now) }
-    ensures { IsUsed (rows scope.now) environment (word used.entry.name.now) (length used.entry.args.now) result }
+    ensures { IsUsed (rows scope.now) environment (word used.entry.name.now)
+        (length used.entry.args.now) result }
 {
     let number = scope.number(environment, &used.name.text);
     let here = Reached {

@@ -219,7 +219,8 @@ impl<'a> Scope<'a> {
     // The environment whose newest name a name is in an environment: 0 where it is unknown.
     pub(crate) fn number(&self, environment: usize, name: &str) -> usize
         requires { environment ≤ length (rows self.now) }
-        ensures denotation { (r : Reading Denotation) → IsFound r (rows self.now) environment name.now result }
+        ensures denotation { (r : Reading Denotation) →
+            IsFound r (rows self.now) environment name.now result }
         ensures work { (r : Reading ℕ) → IsFound r (rows self.now) environment name.now result }
         ensures within { result ≤ length (rows self.now) }
     {
@@ -238,7 +239,8 @@ impl<'a> Scope<'a> {
     fn newest_in_run(&self, kind: NameKind, environment: usize, name: &str) -> usize
         requires some { 0 < environment }
         requires within { environment ≤ length self.now.entries.items }
-        ensures { result ≡ newest_below (keys self.now.index) (key_in (keys self.now.index) environment kind name.entry) environment }
+        ensures { result ≡ newest_below (keys self.now.index)
+            (key_in (keys self.now.index) environment kind name.entry) environment }
     {
         let run = self.index.run(environment - 1);
         self.index.newest(Key { run, kind, name }, environment)
@@ -248,7 +250,8 @@ impl<'a> Scope<'a> {
     fn before_run(&self, environment: usize) -> usize
         requires some { 0 < environment }
         requires within { environment ≤ length self.now.entries.items }
-        ensures outer { result ≡ outer_in (slice_get self.now.entries.items (run_of (keys self.now.index) (environment - 1))) }
+        ensures outer { result ≡ outer_in
+            (slice_get self.now.entries.items (run_of (keys self.now.index) (environment - 1))) }
         ensures older { result < environment }
     {
         self.entries[self.index.run(environment - 1)].outer
@@ -259,7 +262,8 @@ impl<'a> Scope<'a> {
         requires { number ≤ length (rows self.now) }
         ensures denotation { (r : Reading Denotation) → IsNewest r (rows self.now) number result }
         ensures work { (r : Reading ℕ) → IsNewest r (rows self.now) number result }
-        ensures linked { IfSome result (λ entry. IsTrue (is_linked (length (rows self.now)) entry)) }
+        ensures linked { IfSome result (λ entry.
+            IsTrue (is_linked (length (rows self.now)) entry)) }
         ensures name { IfSome result (λ entry. IsTrue (is_name entry.binding)) }
         ensures right { AreRight (rows self.now) → IfSome result (IsRight (rows self.now)) }
     {
@@ -278,7 +282,9 @@ impl<'a> Scope<'a> {
     #[inline(never)]
     pub(crate) fn exception(&self, environment: usize, name: &str) -> Option<Declared<'a>>
         requires { environment ≤ length (rows self.now) }
-        ensures { (r : Reading Denotation) → found_exception (environment_of r (rows self.now) environment).exceptions name.now ≡ raised_by r result }
+        ensures { (r : Reading Denotation) →
+            found_exception (environment_of r (rows self.now) environment).exceptions name.now
+            ≡ raised_by r result }
     {
         let mut environment = environment;
         while environment > 0 {

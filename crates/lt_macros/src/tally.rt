@@ -71,7 +71,8 @@ impl Tally {
 
     // One more term, which stands so deep.
     pub(crate) fn with_term(self, depth: u32) -> Result<Tally, Memory>
-        ensures { IfOk result (λ t. (f : Figure) → counted t f ≡ counted self f + term_weight f depth) }
+        ensures { IfOk result (λ t. (f : Figure) →
+            counted t f ≡ counted self f + term_weight f depth) }
     {
         Ok(Tally {
             nodes: plus(self.nodes, 1)?,
@@ -82,7 +83,8 @@ impl Tally {
 
     // One more node of an expression, which stands so deep.
     pub(crate) fn with_expression(self, depth: u32) -> Result<Tally, Memory>
-        ensures { IfOk result (λ t. (f : Figure) → counted t f ≡ counted self f + expression_weight f depth) }
+        ensures { IfOk result (λ t. (f : Figure) →
+            counted t f ≡ counted self f + expression_weight f depth) }
     {
         let deep = one_if(depth > MOST_EXPRESSION_DEPTH);
         Ok(Tally {
@@ -94,7 +96,8 @@ impl Tally {
 
     // What a choice of so many alternatives adds to its term.
     pub(crate) fn with_choice(self, alternatives: usize) -> Result<Tally, Memory>
-        ensures { IfOk result (λ t. (f : Figure) → counted t f ≡ counted self f + choice_weight f alternatives) }
+        ensures { IfOk result (λ t. (f : Figure) →
+            counted t f ≡ counted self f + choice_weight f alternatives) }
     {
         let wide = one_if(alternatives > MOST_ALTERNATIVES);
         Ok(Tally {

@@ -8,6 +8,7 @@ use Rattle.lt_macros.specs.Expanded.{Node}
 use Rattle.lt_macros.specs.Expansion.{expanded_node, node_among, node_of}
 use Rattle.lt_macros.specs.Limits.{passed_limits}
 use Rattle.lt_macros.specs.inner.Asking.{IsAsked}
+use Rattle.lt_macros.specs.inner.Handing.{AreRight}
 use Rattle.lt_macros.specs.inner.Reading.{environment, meant}
 use Rattle.lt_macros.specs.inner.Rows.{rows}
 use Rattle.lt_macros.specs.declared.declarations.Asked.{Asked}
@@ -42,11 +43,11 @@ returns-in-Some-2 c =
     let all = whole d wanted c.program.result.now c.args.typed.now.program c.deref.result.now c.deref.ensures.value c.program.ensures.same in
     (node_at d (rows c.asked_node.new.scope) c.in-Some.asked, all ∙ asked.1, sym (c.in_ok-limit.ensures.limit d) ∙ c.in-Some-2.is)
 
-pub build_node-requires-clause-within : goal.build_node-requires-clause-within
-build_node-requires-clause-within c =
+pub build_node-requires : goal.build_node-requires
+build_node-requires c =
     let wanted = asked_name c.args.wanted in
     let asked = subst (λ a. IsAsked 0 (rows c.asked_node.new.scope) a (node_among (at_start 0) wanted (map declaration c.deref.result.now))) c.in-Some.is (c.in_ok-asked.ensures.node 0) in
-    omega (arith, asked.0, ap length c.in_ok-limit.ensures.kept)
+    record { within = omega (arith, asked.0, ap length c.in_ok-limit.ensures.kept); right = subst AreRight (sym c.in_ok-limit.ensures.kept) c.in_ok-asked.ensures.right }
 
 pub returns : goal.returns
 returns c =
@@ -54,6 +55,6 @@ returns c =
     let wanted = asked_name c.args.wanted in
     let asked = subst (λ a. IsAsked d (rows c.asked_node.new.scope) a (node_among (at_start d) wanted (map declaration c.deref.result.now))) c.in-Some.is (c.in_ok-asked.ensures.node d) in
     let all = whole d wanted c.program.result.now c.args.typed.now.program c.deref.result.now c.deref.ensures.value c.program.ensures.same in
-    let made = c.in_ok-build_node.ensures.tree ∙ (λ i. node_at (c.decimals.ensures.same i) (c.in_ok-limit.ensures.kept i) c.in-Some.asked) in
+    let made = c.in_ok-build_node.ensures ∙ (λ i. node_at (c.decimals.ensures.same i) (c.in_ok-limit.ensures.kept i) c.in-Some.asked) in
     let none = none_passed (passed_limits (node_at d (rows c.asked_node.new.scope) c.in-Some.asked)) (sym c.in_default-2.is ∙ c.in_ok-limit.ensures.limit d) in
     (all ∙ asked.1 ∙ ap Some (sym made), ap passed_limits made ∙ none)

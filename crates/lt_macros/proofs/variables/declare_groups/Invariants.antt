@@ -3,10 +3,7 @@ use Rattle.lt_ast.specs.inner.Lists.{groups_of}
 use Rattle.lt_ast.specs.inner.Rows.{group_of}
 use Rattle.lt_macros.specs.Environment.{Environment}
 use Rattle.lt_macros.specs.Expansion.{groups_variables, with_groups}
-use Rattle.lt_macros.specs.inner.Handing.{AreRight}
-use Rattle.lt_macros.specs.inner.HeadNormalForm.{AddsTo}
-use Rattle.lt_macros.specs.inner.Reading.{environment, meant, worked}
-use Rattle.lt_macros.specs.inner.Rows.{rows}
+use Rattle.lt_macros.specs.inner.Builder.{IsGrown, IsReady, names_at, work_at}
 use Rattle.lt_macros.specs.Tree.{declared}
 use Rattle.lt_macros.specs.inner.Work.{groups_work}
 use Rattle.lt_macros.proofs.variables.declare_groups.Given as goal
@@ -16,16 +13,15 @@ abbrev pub invariant-loop-group : goal.invariant-loop-group
 invariant-loop-group l =
     record {
       declared :
-          map declared l.declared.items ++ groups_variables l.fn.role l.next (environment (meant l.fn.decimals) (rows l.scope) l.environment) (groups_of (map group_of (drop l.group-index l.group-items)))
-          ≡ groups_variables l.fn.role l.fn.first (environment (meant l.fn.decimals) (rows l.fn.scope) l.fn.outer) (groups_of (map group_of l.group-items));
+          map declared l.declared.items ++ groups_variables l.fn.role l.next (names_at l.builder l.environment) (groups_of (map group_of (drop l.group-index l.group-items)))
+          ≡ groups_variables l.fn.role l.fn.first (names_at l.fn.builder l.fn.outer) (groups_of (map group_of l.group-items));
       visible :
-          with_groups l.fn.role l.next (groups_of (map group_of (drop l.group-index l.group-items))) (environment (meant l.fn.decimals) (rows l.scope) l.environment)
-          ≡ with_groups l.fn.role l.fn.first (groups_of (map group_of l.group-items)) (environment (meant l.fn.decimals) (rows l.fn.scope) l.fn.outer);
+          with_groups l.fn.role l.next (groups_of (map group_of (drop l.group-index l.group-items))) (names_at l.builder l.environment)
+          ≡ with_groups l.fn.role l.fn.first (groups_of (map group_of l.group-items)) (names_at l.fn.builder l.fn.outer);
       next : l.next ≡ l.fn.first + length l.declared.items;
       work :
-          (body : Environment ℕ → ℕ) → groups_work (environment worked (rows l.scope) l.environment) (groups_of (map group_of (drop l.group-index l.group-items))) body
-          ≤ groups_work (environment worked (rows l.fn.scope) l.fn.outer) (groups_of (map group_of l.group-items)) body;
-      within : l.environment ≤ length (rows l.scope);
-      adds : AddsTo (rows l.fn.scope) (rows l.scope);
-      right : AreRight (rows l.scope);
+          (body : Environment ℕ → ℕ) → groups_work (work_at l.builder l.environment) (groups_of (map group_of (drop l.group-index l.group-items))) body
+          ≤ groups_work (work_at l.fn.builder l.fn.outer) (groups_of (map group_of l.group-items)) body;
+      ready : IsReady l.builder l.environment;
+      grown : IsGrown l.fn.builder l.builder;
     }
