@@ -86,7 +86,7 @@ pub ruleset written = (common_steps, names_list, traces_written, call_written, p
 pub Writes_same : {E : Type 0} (r : Result (Unit {0}) E) (old new : String Global) (a b : List Written) → a ≡ b → Writes r old new a → Writes r old new b
 Writes_same r old new a b e h = subst (λ ts. Writes r old new ts) e h
 
--- tokens behind a first word
+-- tokens after a first word
 pub after_word : {E : Type 0} (r : Result (Unit {0}) E) (old mid new : String Global) (first : List ℕ) (ts : List Written)
     → string_bytes mid ≡ string_bytes old ++ first → Writes r mid new ts → OnOk r (string_bytes new ≡ string_bytes old ++ (first ++ spaced ts))
 after_word (Ok x) old mid new first ts e h = h ∙ ap (λ bytes. bytes ++ spaced ts) e ∙ append_assoc (string_bytes old) first (spaced ts)

@@ -4,11 +4,11 @@ use Rattle.std.specs.List.{flat_map}
 use Rattle.lt_ast.specs.Syntax.{Declaration}
 use Rattle.lt_ast.specs.Tokens.{Written, declaration_tokens}
 
--- a token behind a blank
+-- a token after a blank
 abbrev pub spaced_token : Written → List ℕ
 spaced_token t = 32 ∷ t.text
 
--- tokens, each behind a blank
+-- tokens, each after a blank
 abbrev pub spaced : List Written → List ℕ
 spaced ts = flat_map spaced_token ts
 
@@ -17,7 +17,7 @@ abbrev pub joined : List Written → List ℕ
 joined [] = []
 joined (t ∷ ts) = t.text ++ spaced ts
 
--- the same, and a line feed after the last one
+-- tokens with one blank between two, and a line feed after the last one
 abbrev pub line : List Written → List ℕ
 line ts = joined ts ++ (10 ∷ [])
 

@@ -134,7 +134,7 @@ mutual
     exceptions : List Word → Trace → Trace
     -- catch an exception in a trace, and what follows then
     catch : Word → Trace → MaybeTrace → Trace
-    -- trap: the same with an exception of its own
+    -- an exception of the trace's own, caught in it, and what follows then
     trap : Word → Trace → MaybeTrace → Trace
     -- try a trace, and what follows where it is stuck
     try : Trace → MaybeTrace → Trace

@@ -98,7 +98,7 @@ abbrev pub interval_tokens : Option Interval → List Written
 interval_tokens None = []
 interval_tokens (Some r) = mark OpenBracket ∷ (figure_tokens r.low ++ (mark Semicolon ∷ (figure_tokens r.high ++ (mark CloseBracket ∷ []))))
 
--- Lists with a sign between their parts are written as a first part and the parts after it, each behind the sign.
+-- Lists with a sign between their parts are written as a first part and the parts after it, each after the sign.
 abbrev mutual
   -- an expression
   pub exp_tokens : Exp → List Written
@@ -140,7 +140,7 @@ abbrev mutual
   braced_tokens (s.priority lead xs) = marked_if lead Priority ++ traces_tokens Priority xs
   braced_tokens (s.parallel lead xs) = marked_if lead Parallel ++ traces_tokens Parallel xs
 
-  -- an alternative, behind its weight
+  -- an alternative, after its weight
   pub alternative_tokens : Alternative → List Written
   alternative_tokens (s.unweighted x) = trace_tokens x
   alternative_tokens (s.weighted e x) = exp_tokens e ++ (mark Colon ∷ trace_tokens x)
@@ -180,12 +180,12 @@ abbrev mutual
   more_groupings s.no_groups = []
   more_groupings (s.one_group g gs) = mark Semicolon ∷ (grouping_tokens g ++ more_groupings gs)
 
-  -- a first value behind its sign
+  -- a first value after its sign
   pub first_tokens : MaybeExp → List Written
   first_tokens s.no_exp = []
   first_tokens (s.an_exp e) = mark Equal ∷ exp_tokens e
 
-  -- what follows behind do
+  -- what follows after `do`
   pub handler_tokens : MaybeTrace → List Written
   handler_tokens s.no_trace = []
   handler_tokens (s.a_trace x) = mark Do ∷ trace_tokens x
@@ -200,7 +200,7 @@ abbrev mutual
   meaning_tokens (s.trace_meaning x) = trace_tokens x
   meaning_tokens (s.value_meaning e) = exp_tokens e
 
-  -- a macro behind its let
+  -- a macro after its `let`
   pub macro_rest : Macro → List Written
   macro_rest (s.macro w ps kind m) = name_token w ∷ (parameters_tokens ps ++ (mark Colon ∷ (mark (type_sign kind) ∷ (mark Equal ∷ meaning_tokens m))))
 

@@ -44,7 +44,7 @@ impl Literal {
     ghost use Rattle.lt_ast.specs.View.{figure};
     ghost use Rattle.lt_num.specs.Literal.{IsLiteral, IsNumber};
 
-    /// A number of this text, behind a minus or not.
+    /// A number of this text, after a minus or not.
     pub fn new(minus: bool, text: String, span: Span) -> Literal
         requires { IsNumber (string_bytes text) }
         ensures { figure result ≡ record { minus = minus; text = string_bytes text; span = span } }

@@ -16,7 +16,7 @@ use crate::sign::Sign;
 use crate::trace::{Body, Bounds, Braced, MacroDecl, Part, Parts, TraceExpr, Traces};
 use std::alloc::{AllocError, Global};
 
-// A token behind a blank.
+// A token after a blank.
 fn put(out: &mut String, text: &str) -> Result<(), AllocError>
     ensures { OnOk result (string_bytes out.new ≡ string_bytes out.old ++ (32 ∷ text.now)) }
 {
@@ -398,7 +398,7 @@ fn put_params(alloc: Global, out: &mut String, params: &Option<Groups>) -> Resul
     }
 }
 
-// A macro behind its `let`.
+// A macro after its `let`.
 #[cycle(print)]
 fn put_macro(alloc: Global, out: &mut String, declared: &MacroDecl) -> Result<(), AllocError>
     ensures { Writes result out.old out.new (macro_rest (macro declared.now)) }
@@ -478,7 +478,7 @@ fn put_trace(alloc: Global, out: &mut String, trace: &TraceExpr) -> Result<(), A
     }
 }
 
-// A trace behind `in`.
+// A trace after `in`.
 #[cycle(print)]
 fn put_in(alloc: Global, out: &mut String, body: &TraceExpr) -> Result<(), AllocError>
     ensures { Writes result out.old out.new (mark Sign.In ∷ tokens_of_trace body.now) }

@@ -1,12 +1,12 @@
 //! Places in a text.
 
-/// A stretch of a text: the places of its first byte and of the byte behind its last one, from 0.
+/// A stretch of a text: the places of its first byte and of the byte after its last one, from 0.
 #[derive(Clone, Copy, Debug, PartialEq, Eq)]
 pub struct Span {
     /// The place of the first byte.
     pub start: usize,
 
-    /// The place behind the last byte.
+    /// The place after the last byte.
     pub end: usize,
 }
 

@@ -140,7 +140,7 @@ pub enum TraceExpr {
     /// `catch`: the exception, the trace, and what follows where it is raised.
     Catch(Name, Box<TraceExpr>, Option<Box<TraceExpr>>),
 
-    /// `trap`: the same with an exception of its own.
+    /// `trap`: an exception of its own, the trace, and what follows where it is raised.
     Trap(Name, Box<TraceExpr>, Option<Box<TraceExpr>>),
 
     /// `try`: the trace, and what follows where it is stuck.

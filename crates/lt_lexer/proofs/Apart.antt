@@ -1,4 +1,4 @@
--- The tokens of a text, each with a blank byte behind it, are read as the same tokens.
+-- The tokens of a text, each with a blank byte after it, are read as the same tokens.
 use Rattle.std.proofs.Common.{◌≡◌, ◌⊎◌, inl, inr, ℕ, ◌+◌, ◌-◌, ◌<◌, ◌≤◌, Bool, true, false, not, ◌&&◌, ◌||◌, IsTrue, List, [], ◌∷◌, ◌++◌, map, length, drop, take, refl, ap, sym, ◌∙◌, arith, subst, append_assoc, length-append}
 use Rattle.std.specs.List.{list_all, AllByRecursion}
 use Rattle.std.specs.Char.{is_ascii_digit, is_ascii_alphabetic}
@@ -36,7 +36,7 @@ symbol-no_blank bytes h = ap has_no_blank h.2 ∙ each h.0
     each Open = refl
     each s = refl
 
--- a byte that is no blank, and bytes that have none behind it
+-- a byte that is no blank, and bytes that have none after it
 no_blank-cons : (b : ℕ) (bs : List ℕ) → is_blank b ≡ false → has_no_blank bs ≡ true → has_no_blank (b ∷ bs) ≡ true
 no_blank-cons b bs h k = both (not (is_blank b)) (has_no_blank bs) (ap not h) k
 
@@ -130,7 +130,7 @@ row_bytes rows = map (λ row. row.bytes) rows
 abbrev AreBlank : List Spaced → Type 0
 AreBlank rows = AllByRecursion (λ row. IsTrue (is_blank row.blank)) rows
 
--- its pieces: each token, and a blank behind it
+-- its pieces: each token, and a blank after it
 abbrev laid : List Token → List Spaced → List Piece
 laid [] rows = []
 laid (t ∷ ts) [] = []

@@ -48,7 +48,7 @@ count_by-number_bytes xs =
 point-starts : (b : ℕ) (bs : List ℕ) → is_point b ≡ begins_with (codes ".") (b ∷ bs)
 point-starts b bs = grind (arith, nat_tests)
 
--- behind a point stand digits
+-- after a point stand digits
 pub fraction_from_point : (text : List ℕ) (n : ℕ) → begins_with (codes ".") text ≡ true → n ≡ prefix_len is_ascii_digit (drop 1 text) → 1 + n ≡ length (fraction text)
 fraction_from_point [] n h d = absurd (cc)
 fraction_from_point (b ∷ bs) n h d =

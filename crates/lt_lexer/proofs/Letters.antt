@@ -40,7 +40,7 @@ digit-below b h = grind (arith, nat_tests)
 point-below : (b : ℕ) → is_point b ≡ true → b < 128
 point-below b h = grind (arith, nat_tests)
 
--- by its first byte: a digit, and more of the number behind it, or the point, and digits behind that
+-- by its first byte: a digit, and more of the number after it, or the point, and digits after that
 continues_step : (v : Bool) (b : ℕ) (bs : List ℕ) → (is_ascii_digit b && continues_number bs) ≡ v → (continues_number bs ≡ true → IsAscii bs) → continues_number (b ∷ bs) ≡ true → IsAscii (b ∷ bs)
 continues_step true b bs e more h = IsAscii-cons b bs (digit-below b (left_of (is_ascii_digit b) (continues_number bs) e)) (more (right_of (is_ascii_digit b) (continues_number bs) e))
 continues_step false b bs e more h =

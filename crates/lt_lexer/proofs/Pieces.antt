@@ -207,7 +207,7 @@ class_is text (fails number_too_long) h =
     let s = token_start Number h.bytes h.number in
     ap class (h.parts ∙ ap (λ l. l ++ h.after) s.parts) ∙ class-digit s.byte (s.after ++ h.after) s.starts.1
 
--- the text behind the two bytes that begin a comment
+-- the text after the two bytes that begin a comment
 same_inside : (x y : List ℕ) → codes "(*" ++ x ≡ codes "(*" ++ y → x ≡ y
 same_inside x y e = ap (λ l. drop 2 l) e
 

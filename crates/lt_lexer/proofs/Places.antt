@@ -35,16 +35,16 @@ all_bytes-more : (ps : List Piece) (p : Piece) → length (all_bytes (ps ++ p �
 all_bytes-more [] p = omega (arith, length-append (bytes_of p) [])
 all_bytes-more (q ∷ qs) p = omega (arith, length-append (bytes_of q) (all_bytes (qs ++ p ∷ [])), length-append (bytes_of q) (all_bytes qs), all_bytes-more qs p)
 
--- what stands behind the pieces of a text from a place on
+-- what stands after the pieces of a text from a place on
 after-pieces : (text : List ℕ) (from n : ℕ) (gs : List Piece) (rest : List ℕ) → Divides (drop from text) gs rest → n ≡ from + length (all_bytes gs) → drop n text ≡ rest
 after-pieces text from n gs rest h place =
     ap (λ m. drop m text) place ∙ sym (drop-drop (length (all_bytes gs)) from text) ∙ ap (drop (length (all_bytes gs))) (divides-all_bytes (drop from text) gs rest h) ∙ drop_at (all_bytes gs) rest (length (all_bytes gs)) refl
 
--- blanks and comments stand up to what is behind them
+-- blanks and comments stand up to what is after them
 gap : (text : List ℕ) (from n : ℕ) (gs : List Piece) (rest : List ℕ) → Divides (drop from text) gs rest → AreNoTokens gs → drop n text ≡ rest → IsGap text from n
 gap text from n gs rest h k here = let P : List ℕ → Type 0 = Divides (drop from text) gs in (gs, subst P (sym here) h, k)
 
--- the tokens among these pieces, behind some blanks and comments
+-- the tokens among these pieces, after some blanks and comments
 stand : (ps : List Piece) (text : List ℕ) (from : ℕ) (gs : List Piece) (rest : List ℕ) (n : ℕ) → Divides (drop from text) gs rest → AreNoTokens gs → Divides rest ps [] → n ≡ from + length (all_bytes gs) → n + length rest ≡ length text → StandInTurn text from (tokens_from n ps)
 stand [] text from gs rest n h k d place whole =
     let none : length rest ≡ 0 = ap length d in

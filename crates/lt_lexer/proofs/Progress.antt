@@ -27,7 +27,7 @@ total-divides : (text : List ℕ) (ps : List Piece) (rest : List ℕ) → Divide
 total-divides text [] rest h = omega (arith, ap length h)
 total-divides text (p ∷ ps) rest h = omega (arith, total-divides h.0 ps rest h.3, ap length h.1, length-append (bytes_of p) h.0)
 
--- one more piece, and its token behind the others
+-- one more piece, and its token after the others
 tokens_from-append : (place : ℕ) (ps : List Piece) (p : Piece) → tokens_from place (ps ++ p ∷ []) ≡ tokens_from place ps ++ token_at (place + total ps) p
 tokens_from-append place [] p = let here : place ≡ place + 0 = omega arith in append-nil (token_at place p) ∙ ap (λ n. token_at n p) here
 tokens_from-append place (q ∷ qs) p =

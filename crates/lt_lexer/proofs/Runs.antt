@@ -14,12 +14,12 @@ length-leading p (x ∷ xs) = elim (p x) as (λ v. length (cond v (x ∷ leading
 pub leading-short : (p : ℕ → Bool) (xs : List ℕ) → length (leading p xs) ≤ length xs
 leading-short p xs = omega (arith, length-leading p xs, prefix_len-le-length p xs)
 
--- they and the bytes behind them are the whole
+-- they and the bytes after them are the whole
 pub leading-after : (p : ℕ → Bool) (xs : List ℕ) → leading p xs ++ after_leading p xs ≡ xs
 leading-after p [] = refl
 leading-after p (x ∷ xs) = elim (p x) as (λ v. cond v (x ∷ leading p xs) [] ++ cond v (after_leading p xs) (x ∷ xs) ≡ x ∷ xs) [ true ↦ ap (λ l. x ∷ l) (leading-after p xs) | false ↦ refl ]
 
--- the bytes behind them
+-- the bytes after them
 pub drop-leading : (p : ℕ → Bool) (xs : List ℕ) → drop (length (leading p xs)) xs ≡ after_leading p xs
 drop-leading p [] = refl
 drop-leading p (x ∷ xs) = elim (p x) as (λ v. drop (length (cond v (x ∷ leading p xs) [])) (x ∷ xs) ≡ cond v (after_leading p xs) (x ∷ xs)) [ true ↦ drop-leading p xs | false ↦ refl ]

@@ -7,7 +7,7 @@ use Rattle.lt_lexer.specs.Source.{token_bytes}
 use Rattle.lt_lexer.specs.declared.token.Token.{Token}
 use Rattle.lt_lexer.specs.declared.token.TokenKind.{TokenKind}
 
--- the bytes of a token, and the blank byte behind it
+-- the bytes of a token, and the blank byte after it
 pub record Spaced : Type 0 where
   pub bytes : List ℕ
   pub blank : ℕ
@@ -25,7 +25,7 @@ pub record Unplaced : Type 0 where
 abbrev pub unplaced_token : List ℕ → Token → Unplaced
 unplaced_token text t = record { kind = t.kind; bytes = token_bytes text t }
 
--- The tokens of a text, each with a blank byte behind it, are read as the same tokens.
+-- The tokens of a text, each with a blank byte after it, are read as the same tokens.
 abbrev pub ReadsApart : Type 0
 ReadsApart =
     (text : List ℕ) (tokens : List Token) (rows : List Spaced)

@@ -10,7 +10,7 @@ use Rattle.lt_lexer.specs.Symbol.{IsSymbol}
 use Rattle.lt_lexer.specs.declared.token.TokenKind.{TokenKind}
 use Rattle.lt_lexer.specs.declared.token.TokenKind.TheVariants.{Word, Number, Symbol}
 
--- a letter, and letters, digits and _ behind it
+-- a letter, and letters, digits and _ after it
 abbrev pub is_word : List ℕ → Bool
 is_word [] = false
 is_word (b ∷ bs) = is_ascii_alphabetic b && list_all is_word_byte bs
@@ -57,14 +57,14 @@ IsLineEnd (b ∷ bs) = b ≡ line_feed
 pub data Piece : Type 0 where
   -- one blank byte
   blank : ℕ → Piece
-  -- what stands behind --
+  -- what stands after `--`
   line_comment : List ℕ → Piece
   -- what stands between (* and *)
   block_comment : List ℕ → Piece
   -- the bytes of a token
   token : TokenKind → List ℕ → Piece
 
--- the bytes of a piece, one behind another as they stand in the text
+-- the bytes of a piece, one after another as they stand in the text
 abbrev pub bytes_of : Piece → List ℕ
 bytes_of (blank b) = b ∷ []
 bytes_of (line_comment bytes) = codes "--" ++ bytes

@@ -30,8 +30,8 @@ IsSign text t sign = token_bytes text t ≡ spelled sign
 abbrev pub IsGap : List ℕ → ℕ → ℕ → Type 0
 IsGap text from to = (pieces : List Piece) × Divides (drop from text) pieces (drop to text) × AllByRecursion (λ p. kind_of p ≡ None) pieces
 
--- From a place on the tokens stand one behind another. Each is in the text, and the rules take its bytes as a token of
--- its kind where it stands; before each and behind the last one stand blanks and comments alone, if anything.
+-- From a place on the tokens stand one after another. Each is in the text, and the rules take its bytes as a token of
+-- its kind where it stands; before each and after the last one stand blanks and comments alone, if anything.
 abbrev pub StandInTurn : List ℕ → ℕ → List Token → Type 0
 StandInTurn text from [] = IsGap text from (length text)
 StandInTurn text from (t ∷ ts) =

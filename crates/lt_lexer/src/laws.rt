@@ -21,7 +21,7 @@ pub fn one_answer_belongs_to_a_text()
         IsTokenization text tokens → IsRefusal text refusal → ⊥ }
 {}
 
-/// The tokens of a text stand one behind another, each where its span says, and what stands between
+/// The tokens of a text stand one after another, each where its span says, and what stands between
 /// them and at both ends, if anything, are blanks and comments.
 pub fn tokens_stand_in_turn()
     ensures { (text : List ℕ) (tokens : List Token) →
@@ -36,7 +36,7 @@ pub fn a_token_is_one_sign()
         IsTokenOf text token → IsSign text token sign → IsSign text token other → sign ≡ other }
 {}
 
-/// The tokens of a text, written one behind another with a blank byte behind each, are read as the
+/// The tokens of a text, written one after another with a blank byte after each, are read as the
 /// same tokens.
 pub fn tokens_apart_are_the_same()
     ensures { ReadsApart }

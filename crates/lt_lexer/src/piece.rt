@@ -64,7 +64,7 @@ pub fn first_piece(text: &[u8], place: usize) -> Result<Piece, LexRefusal>
     }
 }
 
-// The block comment at `place`; `inside` is the text behind its `(*`.
+// The block comment at `place`; `inside` is the text after its `(*`.
 fn comment(inside: &[u8], place: usize) -> Result<Piece, LexRefusal>
     ensures { Gives place result (next_comment (closed inside.now)) }
 {
@@ -106,7 +106,7 @@ fn number(text: &[u8], place: usize) -> Result<Piece, LexRefusal>
     }
 }
 
-// How many bytes of a number follow its whole part: a point, and digits. `text` is what stands behind
+// How many bytes of a number follow its whole part: a point, and digits. `text` is what stands after
 // the whole part.
 #[tactic(auto, using(crate::proofs::Digits::fraction_cases))]
 fn fraction(text: &[u8]) -> usize

@@ -12,10 +12,10 @@ use std::str;
 /// What a token is.
 #[derive(Clone, Copy, Debug, PartialEq, Eq)]
 pub enum TokenKind {
-    /// A letter, and letters, digits and `_` behind it.
+    /// A letter, and letters, digits and `_` after it.
     Word,
 
-    /// Digits, and maybe a point behind them, with or without digits after it.
+    /// Digits, and maybe a point after them, with or without digits after it.
     Number,
 
     /// A [`Sign`] that is no word and no number.
@@ -42,7 +42,7 @@ impl Token {
         &text[self.span.start..self.span.end]
     }
 
-    /// The same as letters.
+    /// Those bytes as letters.
     pub fn letters<'a>(&self, text: &'a [u8]) -> &'a str
         requires { IsTokenOf text.now self.now }
         ensures bytes { result.now ≡ token_bytes text.now self.now }

@@ -87,7 +87,7 @@ four_in_five {xs = xs} {ys = ys} {zs = zs} {ws = ws} a b c d = record {
       (a.back (nil_left xs _ e), b.back (nil_left ys _ behind), c.back (nil_left zs _ inner) (nil_right ws _ last), d.back (nil_left ws _ last));
 }
 
--- one argument before others: what it breaks inside comes before the rule on their number, and whether it fits behind that
+-- one argument before others: what it breaks inside comes before the rule on their number, and whether it fits after that
 pub one_more : {P Q : Type 0} (inside fit others number fits : List TypeRefusal) → Agrees P (inside ++ fit) → Agrees Q (others ++ (number ++ fits)) → Agrees (P × Q) ((inside ++ others) ++ (number ++ (fit ++ fits)))
 one_more inside fit others number fits a b = record {
   clean = λ h.
@@ -160,7 +160,7 @@ tested {H} {rs} {o} p at a = record {
   back = λ e. let h = a.back (nil_left rs _ e) in (h.0, h.1, typed_back p at (a.is_shown h.0 h.1) (nil_right rs _ e));
 }
 
--- an expression of a wanted type, and what stands behind it
+-- an expression of a wanted type, and what stands after it
 pub wanted_clean : {H : TypeName → Type 0} {rs : List TypeRefusal} {o : Option TypeName} (kind : TypeName) (at : Span) → Types H rs o → H kind → typed (λ k. same_type k kind) o at ≡ []
 wanted_clean kind at a h = typed_clean (λ k. same_type k kind) at (a.is_shown kind h) (same-refl kind)
 
@@ -196,7 +196,7 @@ of_type_around {rs = rs} {others = others} kind at a b = record {
 pub only : (kind : TypeName) → Types (λ k. k ≡ kind) [] (Some kind)
 only kind = record { clean = λ k h. refl; is_shown = λ k h. ap Some (sym h); back = λ _. (kind, refl) }
 
--- a first value, which is judged where it stands and, for its type, behind the group
+-- a first value, which is judged where it stands and, for its type, after the group
 pub in_two : {H : TypeName → Type 0} {rs : List TypeRefusal} {o : Option TypeName} (kind : TypeName) (at : Span) → Types H rs o → AgreesInTwo (H kind) rs (typed (λ k. same_type k kind) o at)
 in_two kind at a = record { clean = λ h. (a.clean kind h, wanted_clean kind at a h); back = λ e f. wanted_back kind at a e f }
 

@@ -5,7 +5,7 @@ use Rattle.lt_types.specs.Refusals.{first_nonempty}
 use Rattle.lt_types.specs.declared.refusal.TypeRefusal.{TypeRefusal}
 use Rattle.lt_types.specs.declared.refusal.TypeRefusal.TheVariants.{Memory}
 
--- behind a front
+-- after a front
 pub Leads_more : {r : TypeRefusal} {xs : List TypeRefusal} (ys : List TypeRefusal) → Leads r xs → Leads r (xs ++ ys)
 Leads_more ys (first r rs) = first r (rs ++ ys)
 Leads_more ys (memory rs) = memory (rs ++ ys)

@@ -32,7 +32,7 @@ variable-known w o k e = ap (λ x. known w x ++ behind_pre w x) e
 pub macro-type : (o : Option Entry) (ps : _) (k : TypeName) → o ≡ Some (macro ps k) → option_map entry_type o ≡ Some k
 macro-type o ps k e = ap (option_map entry_type) e
 
--- a name behind `pre`
+-- a name after `pre`
 pre_back : (w : Word) (o : Option Entry) → known w o ++ behind_pre w o ≡ [] → (k : TypeName) × (o ≡ Some (variable k))
 pre_back w None e = absurd (cc)
 pre_back w (Some (variable k)) e = (k, refl)

@@ -1,4 +1,4 @@
--- What scopes are before and behind a list of names.
+-- What scopes are before and after a list of names.
 use Rattle.std.proofs.Common.{◌≡◌, ℕ, ◌+◌, ◌-◌, ◌<◌, ◌≤◌, get_or, List, [], ◌∷◌, ◌++◌, map, take, drop, length, refl, ap, sym, ◌∙◌, subst, arith}
 use Rattle.lt_ast.specs.declared.group.Group.{Group}
 use Rattle.lt_ast.specs.declared.group.Groups.{Groups, out-Groups}
@@ -84,11 +84,11 @@ exceptions_nothing names = since_nothing names
 
 -- ENDS OF SCOPES
 
--- behind groups
+-- after groups
 pub groups_end : (role : Role) (env : Environment) (gs : Groupings) → with_oldest_names (length env.names) (with_groups role env gs) ≡ env
 groups_end role env gs = groups_oldest (length env.names) role env gs (omega arith) ∙ ap (λ names. record env { names = names }) (oldest_all env.names)
 
--- behind parameters
+-- after parameters
 pub parameters_end : (env : Environment) (ps : Parameters) → with_oldest_names (length env.names) (with_parameters env ps) ≡ env
 parameters_end env s.no_parameters = ap (λ names. record env { names = names }) (oldest_all env.names)
 parameters_end env (s.parameters gs) = groups_end e.parameters env gs
@@ -97,14 +97,14 @@ pub parameters_more : (env : Environment) (ps : Parameters) → length env.names
 parameters_more env s.no_parameters = omega arith
 parameters_more env (s.parameters gs) = groups_more e.parameters env gs
 
--- behind a macro
+-- after a macro
 pub macro_end : (env : Environment) (m : Macro) → with_oldest_names (length env.names) (with_macro env m) ≡ env
 macro_end env (s.macro w ps kind m) = ap (λ names. record env { names = names }) (oldest_more (length env.names) _ env.names (omega arith) ∙ oldest_all env.names)
 
 pub macro_more : (env : Environment) (m : Macro) → length env.names ≤ length (with_macro env m).names
 macro_more env (s.macro w ps kind m) = omega arith
 
--- behind exceptions
+-- after exceptions
 names_more : (ws : List Word) (names : List (List ℕ)) → length names ≤ length (with_names ws names)
 names_more [] names = omega arith
 names_more (w ∷ ws) names = omega (arith, names_more ws (w.text ∷ names))
@@ -131,7 +131,7 @@ groups_refusals_list role env taken g = ap (groups_refusals role env taken) (gro
 pub with_groups_list : (role : Role) (env : Environment) (g : Groups) → with_groups role env (groupings g) ≡ with_groups role env (groups_of (map group_of (out-Groups g).items.items))
 with_groups_list role env g = ap (with_groups role env) (groups_list g)
 
--- the next one, with the environment behind it
+-- the next one, with the environment after it
 pub groups_next : (role : Role) (from : ℕ) (env behind : Environment) (items : List Group) (i : ℕ) (x : Group) → i < length items → x ≡ get_or items i x → from ≤ length env.names
     → group_refusals role env (declared_since from env) (group_of x) ≡ [] → behind ≡ with_group role env (group_of x)
     → groups_refusals role env (declared_since from env) (groups_of (map group_of (drop i items))) ≡ groups_refusals role behind (declared_since from behind) (groups_of (map group_of (drop (i + 1) items)))
@@ -172,7 +172,7 @@ macro_parts (MacroDecl' n ps kind b) = ap (λ p. s.macro (word n) p kind (meanin
 pub macro_params_first : (env : Environment) (d : MacroDecl) (r : TypeRefusal) → Leads r (parameters_refusals env (parameters_view (out-MacroDecl d).params)) → Leads r (macro_refusals env (macro_seen d))
 macro_params_first env d r h = subst (λ m. Leads r (macro_refusals env m)) (sym (macro_parts d)) (Leads_more _ h)
 
--- behind a node
+-- after a node
 pub inputs_and_outputs_end : (env : Environment) (ins outs : Groupings) → with_oldest_names (length env.names) (e.with_inputs_and_outputs env ins outs) ≡ env
 inputs_and_outputs_end env ins outs =
     groups_oldest (length env.names) variables (with_groups variables env ins) outs (groups_more variables env ins) ∙ groups_end variables env ins

@@ -53,7 +53,7 @@ abbrev pub with_names : List Word → List (List ℕ) → List (List ℕ)
 with_names [] names = names
 with_names (w ∷ ws) names = with_names ws (w.text ∷ names)
 
--- the same with bindings, all to one entry
+-- bindings of these names, all to one entry, put before those one by one
 abbrev pub with_bindings : Entry → List Word → List Binding → List Binding
 with_bindings entry [] names = names
 with_bindings entry (w ∷ ws) names = with_bindings entry ws (record { name = w.text; entry = entry } ∷ names)
@@ -69,11 +69,11 @@ group_entry variables kind ref = variable kind
 group_entry parameters kind true = variable kind
 group_entry parameters kind false = parameter kind
 
--- what is known behind a group
+-- what is known after a group
 abbrev pub with_group : Role → Environment → Grouping → Environment
 with_group role env (s.grouping ws kind ref range first) = record env { names = with_bindings (group_entry role kind ref) ws env.names }
 
--- what is known behind groups
+-- what is known after groups
 abbrev pub with_groups : Role → Environment → Groupings → Environment
 with_groups role env s.no_groups = env
 with_groups role env (s.one_group g gs) = with_groups role (with_group role env g) gs
@@ -111,15 +111,15 @@ abbrev pub with_parameters : Environment → Parameters → Environment
 with_parameters env s.no_parameters = env
 with_parameters env (s.parameters gs) = with_groups parameters env gs
 
--- what is known behind a macro: in its own body it isn't visible
+-- what is known after a macro: in its own body it isn't visible
 abbrev pub with_macro : Environment → Macro → Environment
 with_macro env (s.macro w ps kind m) = record env { names = record { name = w.text; entry = macro (parameters_of ps) kind } ∷ env.names }
 
--- what is known behind exceptions
+-- what is known after exceptions
 abbrev pub with_exceptions : Environment → List Word → Environment
 with_exceptions env ws = record env { exceptions = with_names ws env.exceptions }
 
--- what is known behind a declaration of a text
+-- what is known after a declaration of a text
 abbrev pub with_declaration : Environment → Declaration → Environment
 with_declaration env (s.node w ins outs x) = record env { nodes = w.text ∷ env.nodes }
 with_declaration env (s.macro_declaration m) = with_macro env m

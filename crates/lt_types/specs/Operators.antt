@@ -52,7 +52,7 @@ abbrev pub unary_gives : UnOp → TypeName → TypeName
 unary_gives u.Not kind = t.Bool
 unary_gives u.Neg kind = kind
 
--- the type of the whole behind an operator of this class, where the left operand has this one
+-- the type of the whole after an operator of this class, where the left operand has this one
 abbrev pub class_gives : OperatorClass → TypeName → TypeName
 class_gives Connective kind = t.Bool
 class_gives Equality kind = t.Bool
@@ -60,6 +60,6 @@ class_gives Order kind = t.Bool
 class_gives Arithmetic kind = kind
 class_gives Whole kind = kind
 
--- that behind an operator
+-- the type of the whole after an operator, where the left operand has this one
 abbrev pub binary_gives : BinOp → TypeName → TypeName
 binary_gives op kind = class_gives (class_of op) kind

@@ -1,7 +1,7 @@
 -- The rules that a program breaks, in the order of its text: the first of them is the answer, and of the rest only that there
 -- are none counts. A name that is declared, a name that is used, and each part of a construct come at their places; the
 -- construct's own rules come after its parts, the one with the smaller place first. An `assert` judges its condition's type
--- after its trace; a weight, a bound, an item and a macro's body are judged right behind their own expression; a range by its
+-- after its trace; a weight, a bound, an item and a macro's body are judged right after their own expression; a range by its
 -- ends' types, then their sizes, then their order; the number of arguments before their types. A rule that needs the type of
 -- an expression is judged only where the expression has one. A list that is named by a rule holds the refusals where the rule
 -- is broken.
@@ -84,7 +84,7 @@ alone w (Some (parameter k)) = []
 alone w (Some (macro [] k)) = []
 alone w (Some (macro (p ∷ ps) k)) = Arity w.span ∷ []
 
--- a name behind `pre` is that of a variable
+-- a name after `pre` is that of a variable
 abbrev pub behind_pre : Word → Option Entry → List TypeRefusal
 behind_pre w None = []
 behind_pre w (Some (variable k)) = []
@@ -279,7 +279,7 @@ abbrev mutual
 abbrev pub new_macro : Environment → Macro → List TypeRefusal
 new_macro env (s.macro w ps kind m) = unless (is_none (found env.names w.text)) (Twice w.span)
 
--- a declaration of a text, behind those before it
+-- a declaration of a text, after those before it
 abbrev pub declaration_refusals : Environment → Declaration → List TypeRefusal
 declaration_refusals env (s.node w ins outs x) =
     new_names env.nodes (w ∷ [])

@@ -172,7 +172,7 @@ abbrev mutual
 abbrev pub IsNewMacro : Environment → Macro → Type 0
 IsNewMacro env (s.macro w ps kind m) = found env.names w.text ≡ None
 
--- a declaration of a text, behind those before it
+-- a declaration of a text, after those before it
 abbrev pub IsDeclaration : Environment → Declaration → Type 0
 IsDeclaration env (s.node w ins outs x) =
     AreNew env.nodes (w ∷ [])

@@ -1,6 +1,6 @@
 //! Expressions.
 //!
-//! The functions of this module and of those for groups and traces call each other. Each says the same of its construct:
+//! The functions of this module and of those for groups and traces call each other. Each says this of its construct:
 //! where it is Ok, no rule is broken, and the scope is as it was; an error is the first rule that is broken, or want of
 //! memory.
 

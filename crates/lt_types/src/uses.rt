@@ -44,7 +44,7 @@ fn check_entry_alone(name: &Name, entry: &Entry) -> Result<TypeName, TypeRefusal
     }
 }
 
-// A name behind `pre`.
+// A name after `pre`.
 #[tactic(auto, using(crate::proofs::Leading::leads))]
 pub(crate) fn check_behind_pre(
     scope: &Scope,

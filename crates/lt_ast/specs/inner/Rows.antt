@@ -22,11 +22,11 @@ use Rattle.lt_ast.specs.Tokens.{Written, mark, name_token, in_parentheses, argum
 use Rattle.lt_ast.specs.Printed.{spaced}
 use Rattle.lt_ast.specs.View.{word, words, exp, argument, trace, interval, groupings}
 
--- Where a call answers Ok, it wrote these tokens behind what was written, each behind a blank.
+-- Where a call answers Ok, it wrote these tokens after what was written, each after a blank.
 abbrev pub Writes : {E : Type 0} → Result (Unit {0}) E → String Global → String Global → List Written → Type 0
 Writes result old new ts = OnOk result (string_bytes new ≡ string_bytes old ++ spaced ts)
 
--- a part behind its sign
+-- a part after its sign
 abbrev pub behind : {X : Type 0} → Sign → (X → List Written) → X → List Written
 behind sign tokens x = mark sign ∷ tokens x
 

@@ -20,7 +20,7 @@ abbrev pub leading : (ℕ → Bool) → List ℕ → List ℕ
 leading p [] = []
 leading p (b ∷ bs) = if p b then b ∷ leading p bs else []
 
--- and those behind them
+-- and those after them
 abbrev pub after_leading : (ℕ → Bool) → List ℕ → List ℕ
 after_leading p [] = []
 after_leading p (b ∷ bs) = if p b then after_leading p bs else b ∷ bs
@@ -31,17 +31,17 @@ pub data Next : Type 0 where
   next : Piece → List ℕ → Next
   fails : Flaw → Next
 
--- the bytes up to the next *), and those behind it
+-- the bytes up to the next *), and those after it
 pub record Comment : Type 0 where
   pub inside : List ℕ
   pub after : List ℕ
 
--- the same with one byte more in front
+-- a comment cut so, with one byte more before it
 abbrev pub comment_more : ℕ → Option Comment → Option Comment
 comment_more b None = None
 comment_more b (Some parts) = Some (record { inside = b ∷ parts.inside; after = parts.after })
 
--- the text behind a (*, cut at the first *)
+-- the text after a (*, cut at the first *)
 abbrev pub closed : List ℕ → Option Comment
 closed [] = None
 closed (b ∷ bs) =
@@ -53,7 +53,7 @@ abbrev pub next_comment : Option Comment → Next
 next_comment None = fails open_comment
 next_comment (Some parts) = next (block_comment parts.inside) parts.after
 
--- the bytes of a number behind its first digits: a point, and digits
+-- the bytes of a number after its first digits: a point, and digits
 abbrev pub fraction : List ℕ → List ℕ
 fraction [] = []
 fraction (b ∷ bs) = if is_point b then b ∷ leading is_ascii_digit bs else []

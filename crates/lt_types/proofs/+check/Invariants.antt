@@ -56,7 +56,7 @@ invariant-traces::check_parts-loop-part l =
       refusals : alternatives_refusals l.fn.scope (alternatives l.parts) ≡ alternatives_refusals l.fn.scope (alternatives_of (map part_of (drop l.part-index l.part-items)));
     }
 
--- and behind the rest stands the scope that stands behind all of it
+-- and after the rest stands the scope that stands after all of it
 abbrev pub invariant-groups::check_groups-loop-group : goal.invariant-groups::check_groups-loop-group
 invariant-groups::check_groups-loop-group l =
     record {

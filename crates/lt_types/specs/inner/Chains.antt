@@ -16,7 +16,7 @@ use Rattle.lt_types.specs.declared.refusal.TypeRefusal.{TypeRefusal}
 abbrev pub SideOf : Type 0
 SideOf = BinOp × Bor Expr × Span
 
--- the rules that such sides break behind an expression of this type, the innermost first
+-- the rules that such sides break after an expression of this type, the innermost first
 abbrev pub sides_refusals : Environment → Option TypeName → List SideOf → List TypeRefusal
 sides_refusals env shown [] = []
 sides_refusals env shown (p ∷ ps) = exp_refusals env (exp p.1.now) ++ (operands (binary_takes p.0) shown (type_of env (exp p.1.now)) p.2 ++ sides_refusals env (option_map (binary_gives p.0) shown) ps)

@@ -12,7 +12,7 @@ abbrev pub Checks : {X : Type 0} → Result X TypeRefusal → List TypeRefusal �
 Checks (Ok x) rs = rs ≡ []
 Checks (Err r) rs = Leads r rs
 
--- the same, and where it is Ok, it is the type that is shown
+-- The answer is Ok with the type that is shown, or the first of these rules where one is broken.
 abbrev pub Answers : Result TypeName TypeRefusal → List TypeRefusal → Option TypeName → Type 0
 Answers (Ok k) rs shown = (rs ≡ []) × (shown ≡ Some k)
 Answers (Err r) rs shown = Leads r rs
