@@ -30,30 +30,58 @@ const WORDS: &str = "
 18446744073709551615 1 0 ==> 10082901677460505370
 18446744073709551615 1000000 16777215 ==> 128566075295983809
 
-and the word after it
+words on both sides of the middle of a step, and at the ends of the step after it
+7 41 8388607 ==> 16445178109641304500
+7 41 8388608 ==> 13257892256656105868
+7 41 16777215 ==> 11503520911172112529
+7 42 0 ==> 5823930217766135656
+7 42 8388608 ==> 447829329535368272
+
+a word and the word after it, also into the second half of a step
 0 1 0 on ==> 670457862477091661 945580710927154822
+7 41 8388607 on ==> 16445178109641304500 13257892256656105868
 ";
 
-/// Puts the word of a seed at a step and a slot, in any of the ways to it, or the words from there on.
+/// Puts the word of a seed at a step and a slot, if all ways lead to it, or the words from there on.
 pub fn put_word(found: &mut String, given: &str) -> Result<(), Fail> {
     let (seed, place) = halves(given, " ")?;
     let (step, slot) = halves(place, " ")?;
     let (seed, step) = (seed.parse()?, step.parse()?);
     let words = StepWords::new(seed, step);
-    if slot == "0 on" {
-        let mut words = words.starting_at(0);
-        let first = words.next_word();
-        write!(found, "{first} {}", words.next_word())?;
-        return Ok(());
+    if let Some(slot) = slot.strip_suffix(" on") {
+        return put_two(found, &words, slot.parse()?);
     }
     let slot = slot.parse()?;
     if slot >= SLOTS {
         return Err(Fail::new("a slot"));
     }
     let at_once = word(seed, step, slot);
-    if at_once == words.word(slot) {
+    if at_once == words.word(slot) && at_once == stepped_to(seed, step).word(slot) {
         write!(found, "{at_once}")?;
     }
+    Ok(())
+}
+
+// The words of a step, come to from the step before, if there is one.
+fn stepped_to(seed: u64, step: u64) -> StepWords {
+    match step.checked_sub(1) {
+        Some(before) => {
+            let mut words = StepWords::new(seed, before);
+            words.next_step();
+            words
+        }
+        None => StepWords::new(seed, step),
+    }
+}
+
+// Puts the word at a slot of a step, and the one after it.
+fn put_two(found: &mut String, words: &StepWords, slot: u32) -> Result<(), Fail> {
+    if slot >= SLOTS - 1 {
+        return Err(Fail::new("a slot"));
+    }
+    let mut words = words.starting_at(slot);
+    let first = words.next_word();
+    write!(found, "{first} {}", words.next_word())?;
     Ok(())
 }
 
@@ -128,7 +156,7 @@ pub fn put_target(found: &mut String, given: &str) -> Result<(), Fail> {
 
 #[test]
 fn draws_are_those_of_other_programs(rt: HostRuntime) -> Result<(), Fail> {
-    check(&rt, rt.alloc(), &Subject::Words, WORDS, 15)?;
+    check(&rt, rt.alloc(), &Subject::Words, WORDS, 21)?;
     check(&rt, rt.alloc(), &Subject::Picks, PICKS, 11)?;
     check(&rt, rt.alloc(), &Subject::Targets, TARGETS, 22)
 }

@@ -1,4 +1,5 @@
 pub mod WordLemmas
+pub mod JumpLemmas
 pub mod PickLemmas
 pub mod TargetLemmas
 pub mod Public

@@ -8,7 +8,7 @@ use Rattle.rand_pcg.specs.Pcg.{multiplier_128, pcg64}
 use Rattle.lt_draw.specs.Word.{place_of, generator_of, generator_at, WordsAreAnswers}
 
 -- so many steps and then so many are the sum of them
-state_after-add : (w m p a b s : ℕ) → state_after w m p b (state_after w m p a s) ≡ state_after w m p (a + b) s
+pub state_after-add : (w m p a b s : ℕ) → state_after w m p b (state_after w m p a s) ≡ state_after w m p (a + b) s
 unfolding state_after
 state_after-add w m p zero b s = rw zero-add refl
 state_after-add w m p (suc a) b s = rw suc-add (state_after-add w m p a b _)

@@ -4,3 +4,5 @@ pub mod Word
 pub mod Pick
 -- the number of a range that a word aims at
 pub mod Target
+-- words of the private functions alone
+pub mod inner

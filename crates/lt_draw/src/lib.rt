@@ -9,6 +9,7 @@
 //! `specs/Target.antt` what a word decides.
 #![tactic(auto)]
 
+mod jumps;
 mod laws;
 mod targets;
 mod weights;

@@ -1,8 +1,12 @@
 //! Words of a seed.
 
 ghost use Rattle.std.specs.Prelude.{◌≡◌, ◌<◌, ◌+◌};
+ghost use Rattle.rand_pcg.specs.Lcg.{advance};
+ghost use Rattle.rand_pcg.specs.Pcg.{multiplier_128};
 ghost use Rattle.lt_draw.specs.Word.{SlotOfSeed, StepOfSeed, generator_at, place_of, slots, word_at};
+ghost use Rattle.lt_draw.specs.inner.Half.{half};
 
+use crate::jumps::jump_half;
 use rand_core::SeedableRng;
 use rand_core::utils::NextWord;
 use rand_pcg::Pcg64;
@@ -10,6 +14,9 @@ use std::marker::Model;
 
 // How many slots a step has.
 const SLOTS: u32 = 1 << 24;
+
+// How many slots half a step has.
+const HALF: u32 = 1 << 23;
 
 /// The word of a seed at a slot of a step.
 pub fn word(seed: u64, step: u64, slot: u32) -> u64
@@ -35,14 +42,25 @@ fn generator_at(seed: u64, place: u128) -> Pcg64
     generator
 }
 
+// A generator, once it has given so many words more.
+fn moved_on(generator: &Pcg64, words: u32) -> Pcg64
+    ensures { result ≡ advance 128 multiplier_128 words generator.now }
+{
+    let mut moved = generator.clone().unwrap();
+    moved.advance(u128::from(words));
+    moved
+}
+
 /// The words of one step of a seed.
 ///
-/// The way to the step is gone once, so a word costs the way to its slot alone.
+/// The way to the step is gone once, so a word costs the way to its slot alone, from the step's first slot or from
+/// the middle of the step. The words of the step after begin one known jump after the middle.
 #[derive(Drop)]
 pub struct StepWords {
     seed: u64,
     step: u64,
     start: Pcg64,
+    middle: Pcg64,
 }
 
 impl Model for StepWords {
@@ -50,7 +68,8 @@ impl Model for StepWords {
 
     ghost view = { λ words. record { seed = words.seed; step = words.step } };
 
-    ghost invariant = { λ words. words.start ≡ generator_at words.seed (place_of words.step 0) };
+    ghost invariant = { λ words. (words.start ≡ generator_at words.seed (place_of words.step 0)) ×
+        (words.middle ≡ generator_at words.seed (place_of words.step half)) };
 }
 
 impl StepWords {
@@ -58,11 +77,24 @@ impl StepWords {
     pub fn new(seed: u64, step: u64) -> StepWords
         ensures { result ≡ record { seed = seed; step = step } }
     {
+        let start = generator_at(seed, place_of(step, 0));
+        let middle = jump_half(&start);
         StepWords {
             seed,
             step,
-            start: generator_at(seed, place_of(step, 0)),
+            start,
+            middle,
         }
+    }
+
+    /// On to the words of the next step.
+    pub fn next_step(&mut self)
+        requires { self.old.step < u64.MAX }
+        ensures { self.new ≡ record self.old { step = self.old.step + 1 } }
+    {
+        self.step += 1;
+        self.start = jump_half(&self.middle);
+        self.middle = jump_half(&self.start);
     }
 
     /// The word at a slot.
@@ -78,8 +110,11 @@ impl StepWords {
         requires { slot < slots }
         ensures { result ≡ record { seed = self.now.seed; step = self.now.step; slot = slot } }
     {
-        let mut generator = self.start.clone().unwrap();
-        generator.advance(u128::from(slot));
+        let generator = if slot < HALF {
+            moved_on(&self.start, slot)
+        } else {
+            moved_on(&self.middle, slot - HALF)
+        };
         SlotWords {
             seed: self.seed,
             step: self.step,

@@ -1,0 +1,3 @@
+-- Words of the private functions alone.
+-- half a step
+pub mod Half
