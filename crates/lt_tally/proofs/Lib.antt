@@ -1,0 +1,3 @@
+pub mod Weighings
+pub mod Greatest
+pub mod Public
