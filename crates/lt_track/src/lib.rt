@@ -1,0 +1,32 @@
+//! Where a run stands in a scenario's body, as marks in the body itself.
+//!
+//! A [`Track`] is a term of which each node has its marks: where the run stands, and where it goes on behind the leaf that
+//! was reached last. [`track_of`] makes it of a body, once. [`follow`] goes along a path in the tree of what it offers, and
+//! says what stands there; [`reach`] does so from the root. [`go_on`] goes on behind the leaf that was reached last. None of
+//! the three takes memory.
+//!
+//! Contracts see a track as the term that is still to be done, `standing` of `specs/View.antt`. `specs/Walk.antt` says what
+//! it is to follow a path. No program uses this crate yet: it is for an instant that makes no tree.
+#![tactic(auto)]
+
+mod choices;
+mod following;
+mod going_on;
+mod laws;
+mod making;
+mod over;
+mod reaching;
+mod scopes;
+mod track;
+mod walk;
+
+pub use following::follow;
+pub use going_on::go_on;
+pub use laws::{
+    arrivals_are_nodes, body_is_at_start, choices_stay_narrow, numbers_stay, steps_grow_by_one,
+};
+pub use making::track_of;
+pub use over::is_over;
+pub use reaching::reach;
+pub use track::{Mark, Marks, Parts, Track};
+pub use walk::{Reached, Walk};

@@ -1,0 +1,207 @@
+//! Walks along paths.
+
+ghost use Rattle.std.specs.Prelude.{◌≡◌, ◌<◌, ◌≤◌, ◌+◌, ◌++◌, ℕ, List, [], ◌∷◌, length, map, take, vec_capacity};
+ghost use Rattle.lt_track.specs.Walk.{State, closed, held, next_choice, next_side, rooms, setting_out, settled};
+
+use lt_term::{Last, Weight};
+
+/// What stands where a walk ends.
+#[derive(Clone, Copy)]
+pub enum Reached {
+    /// A leaf: the term is over, and takes no instant.
+    Vanish,
+
+    /// A leaf at which nothing can be done.
+    Nothing,
+
+    /// A leaf: an exception is raised.
+    Raised(u32),
+
+    /// A leaf: one instant, in which the constraints hold that the walk has met.
+    Go,
+
+    /// A choice between two trees, by their order.
+    Ordered,
+
+    /// A choice among trees, by the weights that the walk has met.
+    Weighted,
+}
+
+/// What a path says of a choice between two trees.
+#[derive(Clone, Copy)]
+pub(crate) enum Side {
+    /// It ends there.
+    End,
+
+    /// It leads into the first.
+    First,
+
+    /// It leads into the second.
+    Second,
+}
+
+/// What a walk along a path takes with it. All its room is reserved when it is made.
+#[derive(Drop)]
+pub struct Walk {
+    /// How many choices of the path were taken.
+    pub taken: usize,
+
+    /// The constraints of the instant that was reached.
+    pub fired: Vec<u32>,
+
+    /// The locals in scope of the instant that was reached.
+    pub lasts: Vec<(u32, Last)>,
+
+    /// The locals in scope of the weights that were reached.
+    pub scope: Vec<(u32, Last)>,
+
+    /// These weights.
+    pub weights: Vec<Weight>,
+}
+
+impl Walk {
+    // Sets out from the root.
+    pub(crate) fn set_out(&mut self)
+        ensures holds { (path : List ℕ) → held path self.new ≡ setting_out path }
+        ensures rooms { rooms self.new ≡ rooms self.old }
+        ensures fired { self.new.fired.items ≡ [] }
+        ensures lasts { self.new.lasts.items ≡ [] }
+        ensures scope { self.new.scope.items ≡ [] }
+    {
+        self.taken = 0;
+        self.fired.clear();
+        self.lasts.clear();
+        self.scope.clear();
+        self.weights.clear();
+    }
+
+    // The next choice of a path between two trees.
+    pub(crate) fn side(&mut self, path: &[u32]) -> Side
+        ensures next { next_side (held path.now self.old).rest ≡
+            (result, (held path.now self.new).rest) }
+        ensures holds { held path.now self.new ≡
+            record (held path.now self.old) { rest = (held path.now self.new).rest } }
+        ensures fired { self.new.fired ≡ self.old.fired }
+        ensures lasts { self.new.lasts ≡ self.old.lasts }
+        ensures scope { self.new.scope ≡ self.old.scope }
+        ensures weights { self.new.weights ≡ self.old.weights }
+        ensures rooms { rooms self.new ≡ rooms self.old }
+    {
+        match self.choice(path) {
+            None => Side::End,
+            Some(choice) => {
+                if choice == 0 {
+                    Side::First
+                } else {
+                    Side::Second
+                }
+            }
+        }
+    }
+
+    // The next choice of a path.
+    pub(crate) fn choice(&mut self, path: &[u32]) -> Option<u32>
+        ensures next { next_choice (held path.now self.old).rest ≡
+            (result, (held path.now self.new).rest) }
+        ensures holds { held path.now self.new ≡
+            record (held path.now self.old) { rest = (held path.now self.new).rest } }
+        ensures fired { self.new.fired ≡ self.old.fired }
+        ensures lasts { self.new.lasts ≡ self.old.lasts }
+        ensures scope { self.new.scope ≡ self.old.scope }
+        ensures weights { self.new.weights ≡ self.old.weights }
+        ensures rooms { rooms self.new ≡ rooms self.old }
+    {
+        if self.taken >= path.len() {
+            return None;
+        }
+        let choice = path[self.taken];
+        self.taken += 1;
+        Some(choice)
+    }
+
+    // Meets a constraint.
+    pub(crate) fn meet(&mut self, constraint: u32)
+        requires { length self.old.fired.items < (rooms self.old).fired }
+        ensures holds { (path : List ℕ) →
+            held path self.new ≡
+            record (held path self.old) { fired = self.old.fired.items ++ constraint ∷ [] } }
+        ensures len { length self.new.fired.items ≡ length self.old.fired.items + 1 }
+        ensures lasts { self.new.lasts ≡ self.old.lasts }
+        ensures scope { self.new.scope ≡ self.old.scope }
+        ensures weights { self.new.weights ≡ self.old.weights }
+        ensures rooms { rooms self.new ≡ rooms self.old }
+    {
+        self.fired.push_reserved(constraint);
+    }
+
+    // Takes all constraints but the first ones back, where no instant was reached.
+    pub(crate) fn settle(&mut self, reached: Reached, fired: usize)
+        ensures holds { (path : List ℕ) →
+            held path self.new ≡ settled reached fired (held path self.old) }
+        ensures few { length self.new.fired.items ≤ length self.old.fired.items }
+        ensures lasts { self.new.lasts ≡ self.old.lasts }
+        ensures scope { self.new.scope ≡ self.old.scope }
+        ensures weights { self.new.weights ≡ self.old.weights }
+        ensures rooms { rooms self.new ≡ rooms self.old }
+    {
+        match reached {
+            Reached::Go => {}
+            _ => self.fired.truncate(fired),
+        }
+    }
+
+    // Takes all constraints and locals of an instant back but the first ones.
+    pub(crate) fn keep(&mut self, fired: usize, lasts: usize)
+        ensures holds { (path : List ℕ) →
+            held path self.new ≡
+            record (held path self.old)
+            { fired = take fired self.old.fired.items; lasts = take lasts self.old.lasts.items } }
+        ensures few_fired { length self.new.fired.items ≤ length self.old.fired.items }
+        ensures few_lasts { length self.new.lasts.items ≤ length self.old.lasts.items }
+        ensures scope { self.new.scope ≡ self.old.scope }
+        ensures weights { self.new.weights ≡ self.old.weights }
+        ensures rooms { rooms self.new ≡ rooms self.old }
+    {
+        self.fired.truncate(fired);
+        self.lasts.truncate(lasts);
+    }
+
+    // Enters the scope of a local.
+    pub(crate) fn open(&mut self, local: u32, last: Last)
+        requires lasts { length self.old.lasts.items < (rooms self.old).lasts }
+        requires scope { length self.old.scope.items < (rooms self.old).scope }
+        ensures holds { (path : List ℕ) →
+            held path self.new ≡
+            record (held path self.old) { lasts = self.old.lasts.items ++ (local, last) ∷
+            []; scope = self.old.scope.items ++ (local, last) ∷ [] } }
+        ensures len_lasts { length self.new.lasts.items ≡ length self.old.lasts.items + 1 }
+        ensures len_scope { length self.new.scope.items ≡ length self.old.scope.items + 1 }
+        ensures fired { self.new.fired ≡ self.old.fired }
+        ensures weights { self.new.weights ≡ self.old.weights }
+        ensures rooms { rooms self.new ≡ rooms self.old }
+    {
+        self.lasts.push_reserved((local, last));
+        self.scope.push_reserved((local, last));
+    }
+
+    // Leaves the scope of a local: an instant keeps the locals in scope of instants, and a choice
+    // by weight those of weights; all others but the first ones are taken back.
+    pub(crate) fn close(&mut self, reached: Reached, lasts: usize, scope: usize)
+        ensures holds { (path : List ℕ) →
+            held path self.new ≡ closed reached lasts scope (held path self.old) }
+        ensures few_lasts { length self.new.lasts.items ≤ length self.old.lasts.items }
+        ensures few_scope { length self.new.scope.items ≤ length self.old.scope.items }
+        ensures fired { self.new.fired ≡ self.old.fired }
+        ensures weights { self.new.weights ≡ self.old.weights }
+        ensures rooms { rooms self.new ≡ rooms self.old }
+    {
+        match reached {
+            Reached::Go => self.scope.truncate(scope),
+            Reached::Weighted => self.lasts.truncate(lasts),
+            _ => {
+                self.lasts.truncate(lasts);
+                self.scope.truncate(scope);
+            }
+        }
+    }
+}
