@@ -50,8 +50,10 @@ fn push_weights(walk: &mut Walk, parts: &Parts)
         (rooms walk.old).weights }
     ensures holds { (path : List ℕ) →
         held path walk.new ≡
-        record (held path walk.old) { weights = map weight walk.old.weights.items ++
-        weights_in (choices_of parts.now) } }
+        record (held path walk.old) {
+          weights = map weight walk.old.weights.items ++
+              weights_in (choices_of parts.now);
+        } }
     ensures fired { walk.new.fired ≡ walk.old.fired }
     ensures lasts { walk.new.lasts ≡ walk.old.lasts }
     ensures scope { walk.new.scope ≡ walk.old.scope }

@@ -172,8 +172,11 @@ impl Walk {
         requires scope { length self.old.scope.items < (rooms self.old).scope }
         ensures holds { (path : List ℕ) →
             held path self.new ≡
-            record (held path self.old) { lasts = self.old.lasts.items ++ (local, last) ∷
-            []; scope = self.old.scope.items ++ (local, last) ∷ [] } }
+            record (held path self.old) {
+              lasts = self.old.lasts.items ++ (local, last) ∷
+                  [];
+              scope = self.old.scope.items ++ (local, last) ∷ [];
+            } }
         ensures len_lasts { length self.new.lasts.items ≡ length self.old.lasts.items + 1 }
         ensures len_scope { length self.new.scope.items ≡ length self.old.scope.items + 1 }
         ensures fired { self.new.fired ≡ self.old.fired }
