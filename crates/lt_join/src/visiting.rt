@@ -7,6 +7,7 @@ ghost use Rattle.lt_term.specs.View.{kinds_of};
 ghost use Rattle.lt_lazy.specs.Shown.{Shows};
 ghost use Rattle.lt_lazy.specs.Tree.{Leads, below};
 ghost use Rattle.lt_track.specs.Narrow.{HasNarrowChoices};
+ghost use Rattle.lt_track.specs.Tallied.{IsTallied};
 ghost use Rattle.lt_track.specs.View.{body, nodes, standing};
 ghost use Rattle.lt_track.specs.Walk.{IsRoomy, rooms};
 ghost use Rattle.lt_join.specs.Numbered.{numbered};
@@ -39,6 +40,7 @@ pub fn visit<L: Looker>(
     ensures same_capacity { vec_capacity weights.new ≡ vec_capacity weights.old }
     ensures same_body { body track.new ≡ body track.old }
     ensures same_standing { standing track.new ≡ standing track.old }
+    ensures tallied { IsTallied track.old → IsTallied track.new }
     ensures same_rooms { rooms walk.new ≡ rooms walk.old }
     ensures same_judge { L.judge looker.new ≡ L.judge looker.old }
     ensures same_stops { L.stops looker.new ≡ L.stops looker.old }

@@ -1,21 +1,37 @@
 //! The term behind a leaf.
 
-ghost use Rattle.std.specs.Prelude.{◌≡◌, slice_index_or};
+ghost use Rattle.std.specs.Prelude.{◌≡◌, slice_index_or, true};
 ghost use Rattle.lt_term.specs.Process.{dead};
 ghost use Rattle.lt_term.specs.Advanced.{advanced, next_last, value_among};
+ghost use Rattle.lt_track.specs.Tallied.{AreTallied, HasTalliedParts, IsTallied, IsWhole, extent_of};
 ghost use Rattle.lt_track.specs.View.{body, choices_of, next, next_each, standing, standing_each};
 
+use crate::extents::settle;
 use crate::track::{Mark, Parts, Track};
 use lt_num::Value;
 use lt_term::Last;
 
 /// Goes on behind the leaf that was reached last, with these values of locals in the scopes that
 /// are entered.
-#[cycle(going)]
-#[tactic(auto, using(crate::proofs::Advances::goes))]
 pub fn go_on(track: &mut Track, values: &[(u32, Value)])
+    requires { IsTallied track.old }
     ensures same_body { body track.new ≡ body track.old }
     ensures goes_on { standing track.new ≡ advanced values.now (next track.old) }
+    ensures tallied { IsTallied track.new }
+{
+    step(track, values);
+    settle(track);
+}
+
+// Goes on, but for how large what is then offered is.
+#[cycle(going)]
+#[tactic(auto, using(crate::proofs::Advances::goes))]
+fn step(track: &mut Track, values: &[(u32, Value)])
+    requires { IsTallied track.old }
+    ensures same_body { body track.new ≡ body track.old }
+    ensures goes_on { standing track.new ≡ advanced values.now (next track.old) }
+    ensures parts { HasTalliedParts track.new }
+    ensures whole { extent_of true track.new ≡ extent_of true track.old }
 {
     match track {
         Track::Eps | Track::Dead | Track::Raise(_) => {}
@@ -101,16 +117,21 @@ pub fn go_on(track: &mut Track, values: &[(u32, Value)])
 // Goes on in a part of a term.
 #[cycle(going)]
 fn go_on_in(part: &mut Box<Track>, values: &[(u32, Value)])
+    requires { IsTallied part.old.value }
     ensures same_body { body part.new.value ≡ body part.old.value }
     ensures goes_on { standing part.new.value ≡ advanced values.now (next part.old.value) }
+    ensures tallied { IsTallied part.new.value }
 {
-    go_on(part, values);
+    step(part, values);
+    settle(part);
 }
 
 // Goes on in one of some terms.
 #[cycle(going)]
 fn go_on_part(parts: &mut Parts, place: u32, values: &[(u32, Value)])
+    requires { AreTallied parts.old }
     ensures same_choices { choices_of parts.new ≡ choices_of parts.old }
+    ensures tallied { AreTallied parts.new }
     ensures goes_on { slice_index_or (standing_each parts.new) place dead ≡
         advanced values.now (slice_index_or (next_each parts.old) place dead) }
 {
@@ -129,7 +150,9 @@ fn go_on_part(parts: &mut Parts, place: u32, values: &[(u32, Value)])
 // The same, behind a box.
 #[cycle(going)]
 fn go_on_in_part(parts: &mut Box<Parts>, place: u32, values: &[(u32, Value)])
+    requires { AreTallied parts.old.value }
     ensures same_choices { choices_of parts.new.value ≡ choices_of parts.old.value }
+    ensures tallied { AreTallied parts.new.value }
     ensures goes_on { slice_index_or (standing_each parts.new.value) place dead ≡
         advanced values.now (slice_index_or (next_each parts.old.value) place dead) }
 {

@@ -3,23 +3,28 @@
 //! A [`Track`] is a term of which each node has its marks: where the run stands, and where it goes on behind the leaf that
 //! was reached last. [`track_of`] makes it of a body, once. [`follow`] goes along a path in the tree of what it offers, and
 //! says what stands there; [`reach`] does so from the root. [`go_on`] goes on behind the leaf that was reached last. None of
-//! the three takes memory.
+//! the three takes memory. Each node keeps how large what it offers is, so that [`size`] looks at the root alone.
 //!
 //! Contracts see a track as the term that is still to be done, `standing` of `specs/View.antt`. `specs/Walk.antt` says what
 //! it is to follow a path. No program uses this crate yet: it is for an instant that makes no tree.
 #![tactic(auto)]
 
 mod choices;
+mod extent;
+mod extents;
 mod following;
 mod going_on;
 mod laws;
 mod making;
 mod over;
+mod raising;
 mod reaching;
 mod scopes;
 mod track;
 mod walk;
 
+pub use extent::Extent;
+pub use extents::size;
 pub use following::follow;
 pub use going_on::go_on;
 pub use laws::{

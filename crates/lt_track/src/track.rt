@@ -3,6 +3,7 @@
 ghost use Rattle.std.specs.Prelude.{◌≡◌};
 ghost use Rattle.lt_track.specs.Marks.{are_new, is_new, is_outside, last_of, marked};
 
+use crate::extent::Extent;
 use lt_term::Last;
 
 /// How far a run has come in a term.
@@ -83,6 +84,12 @@ pub struct Marks {
 
     /// Where it goes on behind the leaf that was reached last.
     pub next: Mark,
+
+    /// How large what it offers at its beginning is.
+    pub whole: Extent,
+
+    /// How large what it offers where the run stands is.
+    pub rest: Extent,
 }
 
 impl Marks {
