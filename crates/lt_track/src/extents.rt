@@ -19,7 +19,7 @@ use lt_tally::{
 
 impl Marks {
     /// How large what it offers is, at its beginning or where the run stands.
-    pub(crate) fn extent(&self, is_fresh: bool) -> Extent
+    pub fn extent(&self, is_fresh: bool) -> Extent
         ensures { result ≡ extent_in is_fresh self.now }
     {
         if is_fresh { self.whole } else { self.rest }
@@ -135,12 +135,12 @@ fn tally_by(track: &Track, is_fresh: bool, raised: u64) -> Tally
             now => followed(part_tally(first, now.is_new()), part_tally(second, true)),
         },
         Track::Loop(marks, body) => match marks.standing(is_fresh) {
-            Mark::Inside => followed(part_tally(body, false), looped(body)),
-            _ => looped(body),
+            Mark::Inside => followed(part_tally(body, false), loop_tally(body)),
+            _ => loop_tally(body),
         },
         Track::Count(marks, _, body) => match marks.standing(is_fresh) {
-            Mark::Counted(_) => followed(part_tally(body, false), counted(body)),
-            _ => counted(body),
+            Mark::Counted(_) => followed(part_tally(body, false), count_tally(body)),
+            _ => count_tally(body),
         },
         Track::Any(marks, parts) => match marks.standing(is_fresh) {
             Mark::Chosen(place) => chosen_tally(parts, place),
@@ -181,24 +181,24 @@ fn tally_by(track: &Track, is_fresh: bool, raised: u64) -> Tally
     }
 }
 
-// The tally of what a part of a term offers.
-pub(crate) fn part_tally(part: &Box<Track>, is_fresh: bool) -> Tally
+/// The tally of what a part of a term offers, as it is kept.
+pub fn part_tally(part: &Box<Track>, is_fresh: bool) -> Tally
     requires { IsTallied part.now.value }
     ensures { IsTallyOf result (begun is_fresh part.now.value) }
 {
     tally_of(part, is_fresh)
 }
 
-// The tally of a loop that begins a turn.
-fn looped(again: &Box<Track>) -> Tally
+/// The tally of a loop that begins a turn.
+pub fn loop_tally(again: &Box<Track>) -> Tally
     requires { IsTallied again.now.value }
     ensures { IsTallyOf result (loop (body again.now.value)) }
 {
     either(followed(part_tally(again, true), one_other()), one_vanish())
 }
 
-// The tally of a counted loop that begins a turn.
-fn counted(again: &Box<Track>) -> Tally
+/// The tally of a counted loop that begins a turn.
+pub fn count_tally(again: &Box<Track>) -> Tally
     requires { IsTallied again.now.value }
     ensures { (i done : ℕ) → IsTallyOf result (count i done (body again.now.value)) }
 {

@@ -24,7 +24,7 @@ mod track;
 mod walk;
 
 pub use extent::Extent;
-pub use extents::size;
+pub use extents::{count_tally, loop_tally, part_tally, size};
 pub use following::follow;
 pub use going_on::go_on;
 pub use laws::{
@@ -32,6 +32,7 @@ pub use laws::{
 };
 pub use making::track_of;
 pub use over::is_over;
+pub use raising::part_raises;
 pub use reaching::reach;
 pub use track::{Mark, Marks, Parts, Track};
 pub use walk::{Reached, Walk};

@@ -112,9 +112,10 @@ fn raises(track: &Track, is_fresh: bool, exception: u32) -> u64
     }
 }
 
-/// The same of a part of a term.
+/// How many leaves of what a part of a term offers, at its beginning or where the run stands, raise an exception: 65,537 where
+/// there are more. It goes through the part once.
 #[cycle(raises)]
-pub(crate) fn part_raises(part: &Box<Track>, is_fresh: bool, exception: u32) -> u64
+pub fn part_raises(part: &Box<Track>, is_fresh: bool, exception: u32) -> u64
     requires { IsTallied part.now.value }
     ensures few { result ≤ 65537 }
     ensures is { IsRaisedBy result exception (begun is_fresh part.now.value) }

@@ -36,7 +36,7 @@ pub enum Mark {
 
 impl Mark {
     /// Whether a part of a term with this mark begins anew.
-    pub(crate) fn is_new(self) -> bool
+    pub fn is_new(self) -> bool
         ensures { result ≡ is_new self }
     {
         match self {
@@ -46,7 +46,7 @@ impl Mark {
     }
 
     /// Whether the scope of a local with this mark is not entered yet.
-    pub(crate) fn is_outside(self) -> bool
+    pub fn is_outside(self) -> bool
         ensures { result ≡ is_outside self }
     {
         match self {
@@ -56,7 +56,7 @@ impl Mark {
     }
 
     /// What the local of a scope with this mark had in the instant before.
-    pub(crate) fn last(self) -> Last
+    pub fn last(self) -> Last
         ensures { result ≡ last_of self }
     {
         match self {
@@ -66,7 +66,7 @@ impl Mark {
     }
 
     /// Whether the two sides of a term with this mark begin anew.
-    pub(crate) fn are_new(self) -> bool
+    pub fn are_new(self) -> bool
         ensures { result ≡ are_new self }
     {
         match self {
@@ -94,7 +94,7 @@ pub struct Marks {
 
 impl Marks {
     /// Where a run stands, or the beginning.
-    pub(crate) fn standing(&self, is_fresh: bool) -> Mark
+    pub fn standing(&self, is_fresh: bool) -> Mark
         ensures { result ≡ marked is_fresh self.now.at }
     {
         if is_fresh { Mark::Fresh } else { self.at }

@@ -22,20 +22,20 @@ returns-in_default-standing c =
 pub returns-in-Inside : goal.returns-in-Inside
 returns-in-Inside c =
     over_kinds _ _ (begun c.args.is_fresh c.args.track.now) (λ k. loop_offers k c.args.is_fresh c.args.track.now c.in-Loop.marks.at c.in-Loop.body.value c.in-Inside.ensures (ap standing c.in-Loop.is) (ap body c.in-Loop.is))
-    (λ k. c.followed-in-Inside.ensures _ _ _ (c.part_tally-in-Inside.ensures k) (c.looped.ensures k))
+    (λ k. c.followed-in-Inside.ensures _ _ _ (c.part_tally-in-Inside.ensures k) (c.loop_tally.ensures k))
 
 pub returns-in_default-standing-2 : goal.returns-in_default-standing-2
 returns-in_default-standing-2 c =
-    over_kinds _ _ (begun c.args.is_fresh c.args.track.now) (λ k. ap (offers_of k) (begun_is c.args.is_fresh c.args.track.now c.in-Loop.marks.at c.standing-in-Loop.result (λ l. loop_at l (body c.in-Loop.body.value) (standing c.in-Loop.body.value)) c.standing-in-Loop.ensures (ap standing c.in-Loop.is) (ap body c.in-Loop.is) ∙ loop_new k c.standing-in-Loop.result (body c.in-Loop.body.value) (standing c.in-Loop.body.value) c.in_default-standing-2.not-Inside)) (λ k. c.looped-in_default-standing-2.ensures k)
+    over_kinds _ _ (begun c.args.is_fresh c.args.track.now) (λ k. ap (offers_of k) (begun_is c.args.is_fresh c.args.track.now c.in-Loop.marks.at c.standing-in-Loop.result (λ l. loop_at l (body c.in-Loop.body.value) (standing c.in-Loop.body.value)) c.standing-in-Loop.ensures (ap standing c.in-Loop.is) (ap body c.in-Loop.is) ∙ loop_new k c.standing-in-Loop.result (body c.in-Loop.body.value) (standing c.in-Loop.body.value) c.in_default-standing-2.not-Inside)) (λ k. c.loop_tally-in_default-standing-2.ensures k)
 
 pub returns-in-Counted : goal.returns-in-Counted
 returns-in-Counted c =
     over_kinds _ _ (begun c.args.is_fresh c.args.track.now) (λ k. count_offers k c.args.is_fresh c.args.track.now c.in-Count.marks.at c.in-Count.field-1 c.in-Counted.field-0 c.in-Count.body.value c.in-Counted.ensures (ap standing c.in-Count.is) (ap body c.in-Count.is))
-    (λ k. c.followed-in-Counted.ensures _ _ _ (c.part_tally-in-Counted.ensures k) (c.counted.ensures c.in-Count.field-1 c.in-Counted.field-0 k))
+    (λ k. c.followed-in-Counted.ensures _ _ _ (c.part_tally-in-Counted.ensures k) (c.count_tally.ensures c.in-Count.field-1 c.in-Counted.field-0 k))
 
 pub returns-in_default-standing-3 : goal.returns-in_default-standing-3
 returns-in_default-standing-3 c =
-    over_kinds _ _ (begun c.args.is_fresh c.args.track.now) (λ k. ap (offers_of k) (begun_is c.args.is_fresh c.args.track.now c.in-Count.marks.at c.standing-in-Count.result (λ l. count_at l c.in-Count.field-1 (body c.in-Count.body.value) (standing c.in-Count.body.value)) c.standing-in-Count.ensures (ap standing c.in-Count.is) (ap body c.in-Count.is) ∙ count_new k c.standing-in-Count.result c.in-Count.field-1 (body c.in-Count.body.value) (standing c.in-Count.body.value) c.in_default-standing-3.not-Counted)) (λ k. c.counted-in_default-standing-3.ensures c.in-Count.field-1 0 k)
+    over_kinds _ _ (begun c.args.is_fresh c.args.track.now) (λ k. ap (offers_of k) (begun_is c.args.is_fresh c.args.track.now c.in-Count.marks.at c.standing-in-Count.result (λ l. count_at l c.in-Count.field-1 (body c.in-Count.body.value) (standing c.in-Count.body.value)) c.standing-in-Count.ensures (ap standing c.in-Count.is) (ap body c.in-Count.is) ∙ count_new k c.standing-in-Count.result c.in-Count.field-1 (body c.in-Count.body.value) (standing c.in-Count.body.value) c.in_default-standing-3.not-Counted)) (λ k. c.count_tally-in_default-standing-3.ensures c.in-Count.field-1 0 k)
 
 pub returns-in_default-standing-5 : goal.returns-in_default-standing-5
 returns-in_default-standing-5 c =

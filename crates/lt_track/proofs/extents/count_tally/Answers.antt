@@ -2,7 +2,7 @@ use Rattle.std.proofs.Common.{suc, []}
 use Rattle.lt_term.specs.Process.{count}
 use Rattle.lt_term.specs.Tree.{branch, leaf, more, no_branch, nothing, stop, vanish}
 use Rattle.lt_track.specs.View.{body}
-use Rattle.lt_track.proofs.extents.counted.Goals as goal
+use Rattle.lt_track.proofs.extents.count_tally.Goals as goal
 
 pub returns : goal.returns
 returns c = λ i done k. c.with_part.ensures (more i done) [] _ (branch (stop i done) (leaf vanish) no_branch)
