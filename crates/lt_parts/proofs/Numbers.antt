@@ -20,22 +20,22 @@ both : (a b : Bool) → IsTrue a → IsTrue b → IsTrue (a && b)
 both true b h k = k
 both false b h k = h
 
-left_of : (a b : Bool) → IsTrue (a && b) → IsTrue a
+pub left_of : (a b : Bool) → IsTrue (a && b) → IsTrue a
 left_of true b h = refl
 left_of false b h = h
 
-right_of : (a b : Bool) → IsTrue (a && b) → IsTrue b
+pub right_of : (a b : Bool) → IsTrue (a && b) → IsTrue b
 right_of true b h = h
 right_of false b h = absurd (cc)
 
-within_one : (t : Table) (ns : List ℕ) (n : ℕ) → n < table_len t → IsTrue (are_within t ns) → IsTrue (are_within t (ns ++ n ∷ []))
+pub within_one : (t : Table) (ns : List ℕ) (n : ℕ) → n < table_len t → IsTrue (are_within t ns) → IsTrue (are_within t (ns ++ n ∷ []))
 within_one t [] n h k = both (nat_lt n (table_len t)) true (lt_true n (table_len t) h) refl
   where
     lt_true : (a b : ℕ) → a < b → IsTrue (nat_lt a b)
     lt_true a b h = grind (arith, nat_tests)
 within_one t (m ∷ ns) n h k = both (nat_lt m (table_len t)) _ (left_of (nat_lt m (table_len t)) _ k) (within_one t ns n h (right_of (nat_lt m (table_len t)) _ k))
 
-map_one : (t : Table) (ns : List ℕ) (n : ℕ) → map (at t) (ns ++ n ∷ []) ≡ map (at t) ns ++ at t n ∷ []
+pub map_one : (t : Table) (ns : List ℕ) (n : ℕ) → map (at t) (ns ++ n ∷ []) ≡ map (at t) ns ++ at t n ∷ []
 map_one t [] n = refl
 map_one t (m ∷ ns) n = ap (λ es. at t m ∷ es) (map_one t ns n)
 

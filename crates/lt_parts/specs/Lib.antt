@@ -8,5 +8,11 @@ pub mod PartView
 pub mod Agreement
 -- How loaded constraints and comparisons hold.
 pub mod Holding
+-- When two expressions are one.
+pub mod Same
+-- How many atoms conjuncts have.
+pub mod Atoms
+-- Which scenarios have too many of them in one.
+pub mod Scenario
 -- Words of private contracts.
 pub mod inner

@@ -2,10 +2,11 @@
 use Rattle.std.specs.Prelude.{◌≡◌, ◌<◌, ℕ, Bool, not, nat_eq, nat_lt, IsTrue, List, [], ◌∷◌, ◌++◌, length, map, max, slice_index_or, if◌then◌else◌}
 use Rattle.std.specs.List.{list_all, list_any}
 use Rattle.lt_formula.specs.Expression.{Expression}
-use Rattle.lt_formula.specs.Table.{spelled}
+use Rattle.lt_formula.specs.Table.{HasEachOnce, spelled}
 use Rattle.lt_formula.specs.View.{table_expressions, table_kinds, table_len}
 use Rattle.lt_formula.specs.declared.table.Table.{Table}
-use Rattle.lt_parts.specs.Outline.{Outlines, atoms_in}
+use Rattle.lt_parts.specs.Atoms.{most_atoms}
+use Rattle.lt_parts.specs.Outline.{Outlines, atoms_in, conjuncts_of}
 use Rattle.lt_space.specs.Formula.{Formula, atom}
 use Rattle.lt_space.specs.Meaning.{is_known}
 use Rattle.lt_space.specs.declared.formula.Atom.TheVariants.{Flag}
@@ -26,7 +27,7 @@ is_known_at t n = is_known (table_kinds t) (at t n)
 
 -- a number behind others, unless it is among them
 abbrev pub with_number : List ℕ → ℕ → List ℕ
-with_number found n = if list_any (λ k. nat_eq k n) found then found else found ++ n ∷ []
+with_number found n = if list_any (nat_eq n) found then found else found ++ n ∷ []
 
 -- the numbers that pass a test behind others, each once
 abbrev pub with_numbers : (ℕ → Bool) → List ℕ → List ℕ → List ℕ
@@ -70,3 +71,9 @@ AreParts t (e ∷ es) (p ∷ ps) = IsPart t e p × AreParts t es ps
 abbrev pub most_atoms_of : List Piece → ℕ
 most_atoms_of [] = 0
 most_atoms_of (p ∷ ps) = max (length p.atoms) (most_atoms_of ps)
+
+-- The greatest number of atoms of one part of a constraint is that of one conjunct, where the table has each expression once.
+abbrev pub PartsHaveItsAtoms : Type 0
+PartsHaveItsAtoms = (t : Table) (e : Expression) (pieces : List Piece) →
+    HasEachOnce (table_expressions t) → AreParts t (conjuncts_of (table_kinds t) e) pieces →
+    most_atoms_of pieces ≡ most_atoms (table_kinds t) e

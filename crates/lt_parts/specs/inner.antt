@@ -1,3 +1,5 @@
 -- Words of private contracts.
 pub mod Collected
+pub mod Crowded
 pub mod Flags
+pub mod Numbered

@@ -1,7 +1,9 @@
 //! The parts of a constraint.
 
 ghost use Rattle.std.specs.Prelude.{◌≡◌, ◌<◌, ℕ, List, IfOk, map};
-ghost use Rattle.lt_formula.specs.View.{table_kinds, table_len};
+ghost use Rattle.lt_formula.specs.Table.{HasEachOnce};
+ghost use Rattle.lt_formula.specs.View.{table_expressions, table_kinds, table_len};
+ghost use Rattle.lt_parts.specs.Atoms.{most_atoms};
 ghost use Rattle.lt_parts.specs.Outline.{conjuncts_of};
 ghost use Rattle.lt_parts.specs.Part.{AreParts, IsPart, Piece, at, most_atoms_of};
 ghost use Rattle.lt_parts.specs.PartView.{piece_of};
@@ -36,19 +38,29 @@ pub fn parts(alloc: Global, table: &Table, exp: u32) -> Result<Vec<Part>, Memory
     Ok(parts)
 }
 
-/// The greatest number of atoms of one part of a constraint.
+/// The greatest number of atoms of one part of a constraint. It takes a time in proportion to the constraint's length.
 ///
 /// # Errors
 ///
 /// Want of memory.
 pub fn most_atoms(alloc: Global, table: &Table, exp: u32) -> Result<usize, Memory>
     requires { exp < table_len table.now }
-    ensures { IfOk result (λ most. (pieces : List Piece) ×
+    ensures parts { IfOk result (λ most. (pieces : List Piece) ×
         AreParts table.now (conjuncts_of (table_kinds table.now) (at table.now exp)) pieces ×
         (most ≡ most_atoms_of pieces)) }
+    ensures most { IfOk result (λ most.
+        most ≡ most_atoms (table_kinds table.now) (at table.now exp)) }
 {
     let found = parts(alloc, table, exp)?;
+    has_each_once(table);
     Ok(greatest(&found))
+}
+
+// Equal expressions of a table have one number.
+fn has_each_once(table: &Table)
+    ensures { HasEachOnce (table_expressions table.now) }
+{
+    table.len();
 }
 
 // The greatest number of atoms of some parts.
@@ -77,7 +89,7 @@ fn part(alloc: Global, table: &Table, exp: u32) -> Result<Part, Memory>
     };
     Ok(Part {
         conjunct: outline(alloc, table, exp, &atoms.numbers)?,
-        atoms: atoms.numbers,
+        atoms: atoms.numbers.as_slice().to_vec(alloc)?,
         known,
     })
 }

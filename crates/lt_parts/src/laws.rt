@@ -2,6 +2,8 @@
 
 ghost use Rattle.lt_parts.specs.Agreement.{PartsAgree};
 ghost use Rattle.lt_parts.specs.Holding.{IntsHoldExactly, LoadedHolds, RealsHoldExactly};
+ghost use Rattle.lt_parts.specs.Part.{PartsHaveItsAtoms};
+ghost use Rattle.lt_parts.specs.Same.{SameIsOne};
 
 use lt_linear::comparisons_are_exact;
 
@@ -24,3 +26,13 @@ pub fn comparisons_hold_exactly()
 {
     comparisons_are_exact();
 }
+
+/// The test of two expressions finds exactly those that are one.
+pub fn same_is_one()
+    ensures { SameIsOne }
+{}
+
+/// The greatest number of atoms of one part of a constraint is that of one of its conjuncts.
+pub fn parts_have_its_atoms()
+    ensures { PartsHaveItsAtoms }
+{}

@@ -8,6 +8,7 @@ ghost use Rattle.lt_parts.specs.inner.Flags.{IsFlagAt};
 ghost use Rattle.lt_space.specs.FormulaView.{boxed_view, formula_view};
 
 use crate::collecting::is_comparison;
+use indexmap::IndexSet;
 use lt_formula::{BinaryOperator, Memory, Shape, Table};
 use lt_space::{Atom, Formula, connected};
 use std::alloc::Global;
@@ -22,11 +23,11 @@ pub(crate) fn outline(
     alloc: Global,
     table: &Table,
     exp: u32,
-    atoms: &[u32],
+    atoms: &IndexSet<u32>,
 ) -> Result<Formula, Memory>
     requires { exp < table_len table.now }
     ensures { IfOk result (λ formula.
-        Outlines (IsFlagOf table.now atoms.now) (table_kinds table.now) (at table.now exp)
+        Outlines (IsFlagOf table.now atoms.now.keys) (table_kinds table.now) (at table.now exp)
         (formula_view formula)) }
 {
     if table.facts(exp).is_known {
@@ -58,11 +59,11 @@ fn boxed_outline(
     alloc: Global,
     table: &Table,
     exp: u32,
-    atoms: &[u32],
+    atoms: &IndexSet<u32>,
 ) -> Result<Box<Formula>, Memory>
     requires { exp < table_len table.now }
     ensures { IfOk result (λ formula.
-        Outlines (IsFlagOf table.now atoms.now) (table_kinds table.now) (at table.now exp)
+        Outlines (IsFlagOf table.now atoms.now.keys) (table_kinds table.now) (at table.now exp)
         (boxed_view formula)) }
 {
     let formula = outline(alloc, table, exp, atoms)?;
@@ -74,10 +75,10 @@ fn comparison(
     alloc: Global,
     operator: BinaryOperator,
     exp: u32,
-    atoms: &[u32],
+    atoms: &IndexSet<u32>,
 ) -> Result<Formula, Memory>
     ensures { IfOk result (λ formula.
-        OutlinesComparison (λ f. IsFlagAt atoms.now exp f) operator (formula_view formula)) }
+        OutlinesComparison (λ f. IsFlagAt atoms.now.keys exp f) operator (formula_view formula)) }
 {
     let formula = flag(exp, atoms)?;
     match operator {
@@ -87,18 +88,18 @@ fn comparison(
 }
 
 // The flag of an atom.
-fn flag(exp: u32, atoms: &[u32]) -> Result<Formula, Memory>
-    ensures { IfOk result (λ formula. IsFlagAt atoms.now exp (formula_view formula)) }
+fn flag(exp: u32, atoms: &IndexSet<u32>) -> Result<Formula, Memory>
+    ensures { IfOk result (λ formula. IsFlagAt atoms.now.keys exp (formula_view formula)) }
 {
     let place = place_of(exp, atoms).ok_or(Memory)?;
     Ok(Formula::Atom(Atom::Flag(place)))
 }
 
 // The place of a number among others, if it is there and has a number.
-fn place_of(exp: u32, atoms: &[u32]) -> Option<u32>
-    ensures { IfSome result (λ place. (place < length atoms.now) ×
-        (slice_index_or atoms.now place 0 ≡ exp)) }
+fn place_of(exp: u32, atoms: &IndexSet<u32>) -> Option<u32>
+    ensures { IfSome result (λ place. (place < length atoms.now.keys) ×
+        (slice_index_or atoms.now.keys place 0 ≡ exp)) }
 {
-    let place = atoms.iter().position(|atom| *atom == exp)?;
+    let place = atoms.get_index_of(&exp)?;
     u32::try_from(place).ok()
 }
