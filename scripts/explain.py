@@ -36,6 +36,7 @@ CODES = {
     "expand.NonLinear": "Of two values that are multiplied or divided, one has to be known before.",
     "expand.ControllableCondition": "An `if` between numbers can't depend on what is drawn now.",
     "expand.ControllableWeight": "A weight can't depend on what is drawn in the same instant.",
+    "run.TooManyAtoms": "A constraint joins over 16 conditions by other words than `and`: split it.",
     "run.NeedsController": "The scenario has inputs: name their giver by --sut or by --replay.",
 }
 

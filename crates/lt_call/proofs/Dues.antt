@@ -6,6 +6,7 @@ use Rattle.lt_play.specs.Rules.{known_scene}
 use Rattle.lt_frontend.specs.Laws.{TextsHaveOnePrintedAnswer, TextsHaveOneScenarioAnswer}
 use Rattle.lt_frontend.specs.Prepared.{IsPrintedAnswer, IsScenarioAnswer}
 use Rattle.lt_frontend.specs.declared.refusal.Refusal.{Refusal as Reason}
+use Rattle.lt_parts.specs.Scenario.{has_too_many_atoms}
 use Rattle.lt_stress.specs.Scenario.{scenario_text, variables_of}
 use Rattle.lt_term.specs.Scene.{Scene}
 use Rattle.lt_args.specs.Settings.{default_decimals, longest_text, longest_replay}
@@ -14,7 +15,7 @@ use Rattle.lt_args.specs.declared.words.Mode.{Mode}
 use Rattle.lt_args.specs.declared.words.Mode.TheVariants as mode
 use Rattle.lt_loop.specs.InputSource.{InputSource, from_nobody, from_program, from_trace, talk_of}
 use Rattle.lt_call.specs.Run.{files_of}
-use Rattle.lt_call.specs.Due.{Answer, Contents, HasScene, HasShortTrace, IsDue, IsServed, IsShort, by_all, by_number, by_scenario, has_file, refuses, writes, plays, stresses, stressed, unstressed, too_long, no_scenario, unserved, long_trace, runs, unprinted, prints}
+use Rattle.lt_call.specs.Due.{Answer, Contents, HasFewAtoms, HasScene, HasShortTrace, IsDue, IsServed, IsShort, by_all, by_number, by_scenario, has_file, refuses, writes, plays, stresses, stressed, unstressed, too_long, no_scenario, too_many_atoms, unserved, long_trace, runs, unprinted, prints}
 use Rattle.lt_call.specs.Laws.{ContentsHaveOneDueAnswer}
 use Rattle.lt_call.specs.declared.status.Refusal.TheVariants as refusal
 
@@ -45,9 +46,14 @@ served r c false s = by_scenario r (refuses refusal.NeedsController)
 abbrev are_given : Request → Scene → Bool
 are_given r s = is_served (talk_of r.inputs) (known_scene s)
 
+-- of a scenario, by whether a conjunct has too many atoms
+abbrev limited : Request → Contents → Bool → Scene → Answer
+limited r c true s = by_scenario r (refuses refusal.TooManyAtoms)
+limited r c false s = served r c (are_given r s) s
+
 -- of what a text has as a scenario
 abbrev of_scene : Request → Contents → Result Scene Reason → Answer
-of_scene r c (Ok s) = served r c (are_given r s) s
+of_scene r c (Ok s) = limited r c (has_too_many_atoms s) s
 of_scene r c (Err reason) = by_scenario r (refuses (refusal.Scenario reason))
 
 -- of what it has in print
@@ -81,16 +87,20 @@ long_file from_nobody c e = absurd (cc)
 long_file (from_program command) c e = absurd (cc)
 long_file (from_trace name) c e = (name, refl, leb-false (length c.replay) longest_replay e)
 
-pub traced_due : (r : Request) (c : Contents) (s : Scene) (short : Bool) → is_short r.inputs c ≡ short → r.mode ≡ mode.Run → IsShort c → HasScene r c s → IsServed r s → IsDue r c (traced r short s)
-traced_due r c s true e run fits has given = runs s run fits has given (short_trace r.inputs c e)
-traced_due r c s false e run fits has given = let file = long_file r.inputs c e in long_trace s file.0 run fits has given file.1 file.2
+pub traced_due : (r : Request) (c : Contents) (s : Scene) (short : Bool) → is_short r.inputs c ≡ short → r.mode ≡ mode.Run → IsShort c → HasScene r c s → HasFewAtoms s → IsServed r s → IsDue r c (traced r short s)
+traced_due r c s true e run fits has few given = runs s run fits has few given (short_trace r.inputs c e)
+traced_due r c s false e run fits has few given = let file = long_file r.inputs c e in long_trace s file.0 run fits has few given file.1 file.2
 
-served_due : (r : Request) (c : Contents) (s : Scene) (given : Bool) → are_given r s ≡ given → r.mode ≡ mode.Run → IsShort c → HasScene r c s → IsDue r c (served r c given s)
-served_due r c s true e run fits has = traced_due r c s (is_short r.inputs c) refl run fits has e
-served_due r c s false e run fits has = unserved s run fits has e
+served_due : (r : Request) (c : Contents) (s : Scene) (given : Bool) → are_given r s ≡ given → r.mode ≡ mode.Run → IsShort c → HasScene r c s → HasFewAtoms s → IsDue r c (served r c given s)
+served_due r c s true e run fits has few = traced_due r c s (is_short r.inputs c) refl run fits has few e
+served_due r c s false e run fits has few = unserved s run fits has few e
+
+limited_due : (r : Request) (c : Contents) (s : Scene) (many : Bool) → has_too_many_atoms s ≡ many → r.mode ≡ mode.Run → IsShort c → HasScene r c s → IsDue r c (limited r c many s)
+limited_due r c s true e run fits has = too_many_atoms s run fits has e
+limited_due r c s false e run fits has = served_due r c s (are_given r s) refl run fits has e
 
 scene_due : (r : Request) (c : Contents) (x : Result Scene Reason) → r.mode ≡ mode.Run → IsShort c → IsScenarioAnswer r.decimals r.node c.scenario x → IsDue r c (of_scene r c x)
-scene_due r c (Ok s) run fits is = served_due r c s (are_given r s) refl run fits is
+scene_due r c (Ok s) run fits is = limited_due r c s (has_too_many_atoms s) refl run fits is
 scene_due r c (Err reason) run fits is = no_scenario reason run fits is
 
 print_due : (r : Request) (c : Contents) (x : Result (List ℕ) Reason) → r.mode ≡ mode.Print → IsShort c → IsPrintedAnswer c.scenario x → IsDue r c (of_print r x)
@@ -130,15 +140,20 @@ trace_long from_nobody c name e h = absurd (cc)
 trace_long (from_program command) c name e h = absurd (cc)
 trace_long (from_trace other) c name e h = lt-leb (length c.replay) longest_replay h
 
-served_as : (r : Request) (c : Contents) (s : Scene) (short : Bool) → IsServed r s → is_short r.inputs c ≡ short → traced r short s ≡ of_scene r c (Ok s)
-served_as r c s short given e = sym (ap (λ b. served r c b s) given ∙ ap (λ b. traced r b s) e)
+-- that of a scenario whose conjuncts have few atoms
+few_as : (r : Request) (c : Contents) (s : Scene) → HasFewAtoms s → of_scene r c (Ok s) ≡ served r c (are_given r s) s
+few_as r c s few = ap (λ b. limited r c b s) few
+
+served_as : (r : Request) (c : Contents) (s : Scene) (short : Bool) → HasFewAtoms s → IsServed r s → is_short r.inputs c ≡ short → traced r short s ≡ of_scene r c (Ok s)
+served_as r c s short few given e = sym (few_as r c s few ∙ ap (λ b. served r c b s) given ∙ ap (λ b. traced r b s) e)
 
 row : (r : Request) (c : Contents) (answer : Answer) → IsDue r c answer → Row r c answer
 row r c answer (too_long has l) = long has l refl
 row r c answer (no_scenario reason m fits is) = run (Err reason) m fits is refl
-row r c answer (unserved s m fits has e) = run (Ok s) m fits has (sym (ap (λ b. served r c b s) e))
-row r c answer (long_trace s name m fits has given e l) = run (Ok s) m fits has (served_as r c s false given (trace_long r.inputs c name e l))
-row r c answer (runs s m fits has given short) = run (Ok s) m fits has (served_as r c s true given (trace_short r.inputs c short))
+row r c answer (too_many_atoms s m fits has e) = run (Ok s) m fits has (sym (ap (λ b. limited r c b s) e))
+row r c answer (unserved s m fits has few e) = run (Ok s) m fits has (sym (few_as r c s few ∙ ap (λ b. served r c b s) e))
+row r c answer (long_trace s name m fits has few given e l) = run (Ok s) m fits has (served_as r c s false few given (trace_long r.inputs c name e l))
+row r c answer (runs s m fits has few given short) = run (Ok s) m fits has (served_as r c s true few given (trace_short r.inputs c short))
 row r c answer (unprinted reason m fits is) = print (Err reason) m fits is refl
 row r c answer (prints text m fits is) = print (Ok text) m fits is refl
 row r c answer (unstressed n reason m is) = number n (Err reason) m is refl

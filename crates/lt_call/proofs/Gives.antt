@@ -20,6 +20,7 @@ use Rattle.lt_frontend.specs.declared.refusal.Unprepared.{Unprepared}
 use Rattle.lt_frontend.specs.declared.refusal.Unprepared.TheVariants as unprepared
 use Rattle.lt_args.specs.Asked.{given_word}
 use Rattle.lt_frontend.specs.declared.refusal.Refusal.{Refusal as Reason}
+use Rattle.lt_parts.specs.Scenario.{has_too_many_atoms}
 use Rattle.lt_rif.specs.declared.end.Who.{Who}
 use Rattle.lt_term.specs.Scene.{Scene}
 use Rattle.lt_args.specs.Settings.{longest_text, longest_replay}
@@ -30,7 +31,7 @@ use Rattle.lt_call.proofs.Dues.{is_short, traced, traced_due, traced_files}
 use Rattle.lt_call.specs.Call.{GivesDue, IsCounted, IsText, IsTrace, Says, blames}
 use Rattle.lt_loop.specs.InputSource.{trace_of, InputSource, from_nobody, from_program, from_trace}
 use Rattle.lt_call.specs.Run.{files_of}
-use Rattle.lt_call.specs.Due.{Answer, Contents, HasScene, IsDue, IsServed, has_file, refuses, writes, too_long, no_scenario, unserved, long_trace, runs, unprinted, prints, stressed, unstressed}
+use Rattle.lt_call.specs.Due.{Answer, Contents, HasFewAtoms, HasScene, IsDue, IsServed, has_file, refuses, writes, too_long, no_scenario, too_many_atoms, unserved, long_trace, runs, unprinted, prints, stressed, unstressed}
 use Rattle.lt_call.specs.Given.{Gives, IsDone, PutsNothing, refused, written, cut, done, by_file as file_cut, by_memory}
 use Rattle.lt_call.specs.Laws.{ContentsHaveOneDueAnswer}
 use Rattle.lt_call.specs.inner.Parts as parts
@@ -137,9 +138,10 @@ no_file r n has e = let both : false ≡ true = sym (ap has_file e) ∙ has in c
 first_file : (r : Request) (c : Contents) (answer : Answer) → has_file r.mode ≡ true → IsDue r c answer → take 1 answer.files ≡ r.file ∷ []
 first_file r c answer file (too_long also l) = refl
 first_file r c answer file (no_scenario reason m fits is) = refl
-first_file r c answer file (unserved s m fits has e) = refl
-first_file r c answer file (long_trace s name m fits has given e l) = refl
-first_file r c answer file (runs s m fits has given short) = refl
+first_file r c answer file (too_many_atoms s m fits has e) = refl
+first_file r c answer file (unserved s m fits has few e) = refl
+first_file r c answer file (long_trace s name m fits has few given e l) = refl
+first_file r c answer file (runs s m fits has few given short) = refl
 first_file r c answer file (unprinted reason m fits is) = refl
 first_file r c answer file (prints text m fits is) = refl
 first_file r c answer file (unstressed n reason m is) = absurd (no_file r n file m)
@@ -159,11 +161,17 @@ pub no_scene : (r : Request) (told : List ℕ → Option (List ℕ)) (text : Lis
 no_scene r told text reason old m fits is =
     by_text r told text (record { work = refuses (refusal.Scenario reason); files = r.file ∷ [] }) old old [] (status.Refused (refusal.Scenario reason)) refl refl (λ trace. no_scenario reason m fits is) (λ trace. refused (refusal.Scenario reason) (nothing (without_files old)))
 
+-- a scenario with too many atoms in one conjunct
+pub crowded : (r : Request) (told : List ℕ → Option (List ℕ)) (text : List ℕ) (s : Scene) (old : Outside Sources) → r.mode ≡ mode.Run → length text ≤ longest_text → HasScene r (record { scenario = text; replay = [] }) s →
+    has_too_many_atoms s ≡ true → GivesForText r told text old old [] (status.Refused refusal.TooManyAtoms)
+crowded r told text s old m fits has many =
+    by_text r told text (record { work = refuses refusal.TooManyAtoms; files = r.file ∷ [] }) old old [] (status.Refused refusal.TooManyAtoms) refl refl (λ trace. too_many_atoms s m fits has many) (λ trace. refused refusal.TooManyAtoms (nothing (without_files old)))
+
 -- a scenario whose inputs nobody gives values
 pub not_served : (r : Request) (told : List ℕ → Option (List ℕ)) (text : List ℕ) (s : Scene) (old : Outside Sources) → r.mode ≡ mode.Run → length text ≤ longest_text → HasScene r (record { scenario = text; replay = [] }) s →
-    (IsServed r s → ⊥) → GivesForText r told text old old [] (status.Refused refusal.NeedsController)
-not_served r told text s old m fits has un =
-    by_text r told text (record { work = refuses refusal.NeedsController; files = r.file ∷ [] }) old old [] (status.Refused refusal.NeedsController) refl refl (λ trace. unserved s m fits has (never _ un)) (λ trace. refused refusal.NeedsController (nothing (without_files old)))
+    HasFewAtoms s → (IsServed r s → ⊥) → GivesForText r told text old old [] (status.Refused refusal.NeedsController)
+not_served r told text s old m fits has few un =
+    by_text r told text (record { work = refuses refusal.NeedsController; files = r.file ∷ [] }) old old [] (status.Refused refusal.NeedsController) refl refl (λ trace. unserved s m fits has few (never _ un)) (λ trace. refused refusal.NeedsController (nothing (without_files old)))
   where
     never : (b : Bool) → (b ≡ true → ⊥) → b ≡ false
     never true h = absurd (h refl)
@@ -213,55 +221,55 @@ both_files : (r : Request) (short : Bool) (s : Scene) (name : List ℕ) → r.in
 both_files r short s name e = traced_files r short s ∙ ap (λ g. r.file ∷ files_of g) e
 
 -- that couldn't be read
-pub trace_failed : (r : Request) (told : List ℕ → Option (List ℕ)) (text name : List ℕ) (s : Scene) (old new : Outside Sources) → r.mode ≡ mode.Run → length text ≤ longest_text → HasScene r (record { scenario = text; replay = [] }) s → IsServed r s → r.inputs ≡ from_trace name →
+pub trace_failed : (r : Request) (told : List ℕ → Option (List ℕ)) (text name : List ℕ) (s : Scene) (old new : Outside Sources) → r.mode ≡ mode.Run → length text ≤ longest_text → HasScene r (record { scenario = text; replay = [] }) s → HasFewAtoms s → IsServed r s → r.inputs ≡ from_trace name →
     new.inputs.files.asked ≡ old.inputs.files.asked ++ name ∷ [] → PutsNothing (without_files old) (without_files new) → GivesForText r told text old new [] (status.Device device.File 0)
-trace_failed r told text name s old new m fits has given e f puts = λ asked a.
+trace_failed r told text name s old new m fits has few given e f puts = λ asked a.
     let trace = some_trace r.inputs told in
     let c : Contents = record { scenario = text; replay = trace.0 } in
     let short = is_short r.inputs c in
-    (trace.0, trace.1, (traced r short s, traced_due r c s short refl m fits has given, file_cut 2 (omega arith) (two_asked asked r.file name _ _ a f ∙ ap (λ fs. asked ++ take 2 fs) (sym (both_files r short s name e))) puts))
+    (trace.0, trace.1, (traced r short s, traced_due r c s short refl m fits has few given, file_cut 2 (omega arith) (two_asked asked r.file name _ _ a f ∙ ap (λ fs. asked ++ take 2 fs) (sym (both_files r short s name e))) puts))
 
 -- memory ran out in reading it
-pub trace_unread : (r : Request) (told : List ℕ → Option (List ℕ)) (text : List ℕ) (s : Scene) (old new : Outside Sources) → r.mode ≡ mode.Run → length text ≤ longest_text → HasScene r (record { scenario = text; replay = [] }) s → IsServed r s →
+pub trace_unread : (r : Request) (told : List ℕ → Option (List ℕ)) (text : List ℕ) (s : Scene) (old new : Outside Sources) → r.mode ≡ mode.Run → length text ≤ longest_text → HasScene r (record { scenario = text; replay = [] }) s → HasFewAtoms s → IsServed r s →
     new.inputs.files.asked ≡ old.inputs.files.asked → PutsNothing (without_files old) (without_files new) → GivesForText r told text old new [] status.Memory
-trace_unread r told text s old new m fits has given f puts = λ asked a.
+trace_unread r told text s old new m fits has few given f puts = λ asked a.
     let trace = some_trace r.inputs told in
     let c : Contents = record { scenario = text; replay = trace.0 } in
     let short = is_short r.inputs c in
-    (trace.0, trace.1, (traced r short s, traced_due r c s short refl m fits has given, by_memory 1 (f ∙ a ∙ ap (λ fs. asked ++ take 1 fs) (sym (traced_files r short s))) puts))
+    (trace.0, trace.1, (traced r short s, traced_due r c s short refl m fits has few given, by_memory 1 (f ∙ a ∙ ap (λ fs. asked ++ take 1 fs) (sym (traced_files r short s))) puts))
 
 -- too long a one
-pub trace_too_long : (r : Request) (told : List ℕ → Option (List ℕ)) (text name : List ℕ) (s : Scene) (old new : Outside Sources) → r.mode ≡ mode.Run → length text ≤ longest_text → HasScene r (record { scenario = text; replay = [] }) s → IsServed r s → r.inputs ≡ from_trace name →
+pub trace_too_long : (r : Request) (told : List ℕ → Option (List ℕ)) (text name : List ℕ) (s : Scene) (old new : Outside Sources) → r.mode ≡ mode.Run → length text ≤ longest_text → HasScene r (record { scenario = text; replay = [] }) s → HasFewAtoms s → IsServed r s → r.inputs ≡ from_trace name →
     WhereTold (told name) (λ b. longest_replay < length b) → new.inputs.files.asked ≡ old.inputs.files.asked ++ name ∷ [] → PutsNothing (without_files old) (without_files new) → GivesForText r told text old new [] (status.Refused refusal.TooLong)
-trace_too_long r told text name s old new m fits has given e h f puts = λ asked a.
+trace_too_long r told text name s old new m fits has few given e h f puts = λ asked a.
     let bytes = long_bytes longest_replay (told name) h in (
       bytes.0,
       file_trace r.inputs name told bytes.0 e bytes.1,
       (
         record { work = refuses refusal.TooLong; files = r.file ∷ files_of r.inputs },
-        long_trace s name m fits has given e bytes.2,
+        long_trace s name m fits has few given e bytes.2,
         done [] (status.Refused refusal.TooLong) (two_asked asked r.file name _ _ a f ∙ ap (λ g. asked ++ (r.file ∷ files_of g)) (sym e)) (refused refusal.TooLong puts),
       ),
     )
 
 -- one that wasn't read, for this reason
-pub trace_not_read : {V : Type 0} → (r : Request) (told : List ℕ → Option (List ℕ)) (text name : List ℕ) (s : Scene) (old new : Outside Sources) (x : Result V FileRefusal) (why : FileRefusal) → r.mode ≡ mode.Run → length text ≤ longest_text → HasScene r (record { scenario = text; replay = [] }) s → IsServed r s → r.inputs ≡ from_trace name →
+pub trace_not_read : {V : Type 0} → (r : Request) (told : List ℕ → Option (List ℕ)) (text name : List ℕ) (s : Scene) (old new : Outside Sources) (x : Result V FileRefusal) (why : FileRefusal) → r.mode ≡ mode.Run → length text ≤ longest_text → HasScene r (record { scenario = text; replay = [] }) s → HasFewAtoms s → IsServed r s → r.inputs ≡ from_trace name →
     x ≡ Err why → (x ≡ Err file.TooLong → WhereTold (told name) (λ b. longest_replay < length b)) → (x ≢ Err file.Memory → new.inputs.files.asked ≡ old.inputs.files.asked ++ name ∷ []) → (x ≡ Err file.Memory → new.inputs.files.asked ≡ old.inputs.files.asked) →
     PutsNothing (without_files old) (without_files new) → GivesForText r told text old new [] (status_unread why)
-trace_not_read r told text name s old new x file.Failed m fits has given e is long asks none puts = trace_failed r told text name s old new m fits has given e (asks (λ memory. cc)) puts
-trace_not_read r told text name s old new x file.TooLong m fits has given e is long asks none puts = trace_too_long r told text name s old new m fits has given e (long is) (asks (λ memory. cc)) puts
-trace_not_read r told text name s old new x file.Memory m fits has given e is long asks none puts = trace_unread r told text s old new m fits has given (none is) puts
+trace_not_read r told text name s old new x file.Failed m fits has few given e is long asks none puts = trace_failed r told text name s old new m fits has few given e (asks (λ memory. cc)) puts
+trace_not_read r told text name s old new x file.TooLong m fits has few given e is long asks none puts = trace_too_long r told text name s old new m fits has few given e (long is) (asks (λ memory. cc)) puts
+trace_not_read r told text name s old new x file.Memory m fits has few given e is long asks none puts = trace_unread r told text s old new m fits has few given (none is) puts
 
 -- a run of it, or of a scenario without one
-ran_with : (r : Request) (told : List ℕ → Option (List ℕ)) (text trace : List ℕ) (s : Scene) (old new : Outside Sources) (names : List (List ℕ)) (t : Status) (asked : List (List ℕ)) → r.mode ≡ mode.Run → length text ≤ longest_text → HasScene r (record { scenario = text; replay = [] }) s → IsServed r s →
+ran_with : (r : Request) (told : List ℕ → Option (List ℕ)) (text trace : List ℕ) (s : Scene) (old new : Outside Sources) (names : List (List ℕ)) (t : Status) (asked : List (List ℕ)) → r.mode ≡ mode.Run → length text ≤ longest_text → HasScene r (record { scenario = text; replay = [] }) s → HasFewAtoms s → IsServed r s →
     is_short r.inputs (record { scenario = text; replay = trace }) ≡ true → IsTrace r.inputs told trace → new.inputs.files.asked ≡ asked ++ (r.file ∷ files_of r.inputs) → GivesRun r trace s (without_files old) (without_files new) names t →
     (trace : List ℕ) × IsTrace r.inputs told trace × ((answer : Answer) × IsDue r (record { scenario = text; replay = trace }) answer × Gives r (record { scenario = text; replay = trace }) answer asked old new names t)
-ran_with r told text trace s old new names t asked m fits has given short is a (inl h) = (trace, is, (traced r true s, traced_due r (record { scenario = text; replay = trace }) s true short m fits has given, done names t a h))
-ran_with r told text trace s old new names t asked m fits has given short is a (inr h) =
+ran_with r told text trace s old new names t asked m fits has few given short is a (inl h) = (trace, is, (traced r true s, traced_due r (record { scenario = text; replay = trace }) s true short m fits has few given, done names t a h))
+ran_with r told text trace s old new names t asked m fits has few given short is a (inr h) =
     let c : Contents = record { scenario = text; replay = trace } in
     let P : List (List ℕ) → Status → Type 0 = λ ns x. Gives r c (traced r true s) asked old new ns x in
     let all : new.inputs.files.asked ≡ asked ++ take (length (r.file ∷ files_of r.inputs)) (r.file ∷ files_of r.inputs) = a ∙ ap (λ fs. asked ++ fs) (sym (taken (r.file ∷ files_of r.inputs))) in
-    (trace, is, (traced r true s, traced_due r c s true short m fits has given, subst (λ ns. P ns t) (sym h.0) (subst (λ x. P [] x) (sym h.1) (by_memory (length (r.file ∷ files_of r.inputs)) all h.2))))
+    (trace, is, (traced r true s, traced_due r c s true short m fits has few given, subst (λ ns. P ns t) (sym h.0) (subst (λ x. P [] x) (sym h.1) (by_memory (length (r.file ∷ files_of r.inputs)) all h.2))))
   where
     taken : (fs : List (List ℕ)) → take (length fs) fs ≡ fs
     taken [] = refl
@@ -272,22 +280,22 @@ trace_fits from_nobody c h = refl
 trace_fits (from_program command) c h = refl
 trace_fits (from_trace name) c h = le-leb (length c.replay) longest_replay h
 
-pub ran_from : (r : Request) (told : List ℕ → Option (List ℕ)) (text trace items name : List ℕ) (s : Scene) (old new : Outside Sources) (names : List (List ℕ)) (t : Status) → r.mode ≡ mode.Run → length text ≤ longest_text → HasScene r (record { scenario = text; replay = [] }) s → IsServed r s → r.inputs ≡ from_trace name →
+pub ran_from : (r : Request) (told : List ℕ → Option (List ℕ)) (text trace items name : List ℕ) (s : Scene) (old new : Outside Sources) (names : List (List ℕ)) (t : Status) → r.mode ≡ mode.Run → length text ≤ longest_text → HasScene r (record { scenario = text; replay = [] }) s → HasFewAtoms s → IsServed r s → r.inputs ≡ from_trace name →
     trace ≡ items → WhereTold (told name) (λ b. items ≡ b) → length items ≤ longest_replay → new.inputs.files.asked ≡ old.inputs.files.asked ++ name ∷ [] → GivesRun r trace s (without_files old) (without_files new) names t → GivesForText r told text old new names t
-ran_from r told text trace items name s old new names t m fits has given e same told_items short_items f h = λ asked a.
+ran_from r told text trace items name s old new names t m fits has few given e same told_items short_items f h = λ asked a.
     let is : WhereTold (told name) (λ b. trace ≡ b) = subst (λ x. WhereTold (told name) (λ b. x ≡ b)) (sym same) told_items in
     let short : length trace ≤ longest_replay = subst (λ (x : List ℕ). length x ≤ longest_replay) (sym same) short_items in
-    ran_with r told text trace s old new names t asked m fits has given (trace_fits r.inputs _ short) (file_trace r.inputs name told trace e is) (two_asked asked r.file name _ _ a f ∙ ap (λ g. asked ++ (r.file ∷ files_of g)) (sym e)) h
+    ran_with r told text trace s old new names t asked m fits has few given (trace_fits r.inputs _ short) (file_trace r.inputs name told trace e is) (two_asked asked r.file name _ _ a f ∙ ap (λ g. asked ++ (r.file ∷ files_of g)) (sym e)) h
 
 no_files : (g : InputSource) → trace_of g ≡ None → files_of g ≡ []
 no_files from_nobody e = refl
 no_files (from_program command) e = refl
 no_files (from_trace name) e = absurd (cc)
 
-pub ran_alone : (r : Request) (told : List ℕ → Option (List ℕ)) (text : List ℕ) (s : Scene) (old new : Outside Sources) (names : List (List ℕ)) (t : Status) → r.mode ≡ mode.Run → length text ≤ longest_text → HasScene r (record { scenario = text; replay = [] }) s → IsServed r s → trace_of r.inputs ≡ None →
+pub ran_alone : (r : Request) (told : List ℕ → Option (List ℕ)) (text : List ℕ) (s : Scene) (old new : Outside Sources) (names : List (List ℕ)) (t : Status) → r.mode ≡ mode.Run → length text ≤ longest_text → HasScene r (record { scenario = text; replay = [] }) s → HasFewAtoms s → IsServed r s → trace_of r.inputs ≡ None →
     new.inputs.files.asked ≡ old.inputs.files.asked → GivesRun r [] s (without_files old) (without_files new) names t → GivesForText r told text old new names t
-ran_alone r told text s old new names t m fits has given e f h = λ asked a.
-    ran_with r told text [] s old new names t asked m fits has given (trace_fits r.inputs _ (omega arith)) (untraced r.inputs told e) (f ∙ a ∙ ap (λ fs. asked ++ (r.file ∷ fs)) (sym (no_files r.inputs e))) h
+ran_alone r told text s old new names t m fits has few given e f h = λ asked a.
+    ran_with r told text [] s old new names t asked m fits has few given (trace_fits r.inputs _ (omega arith)) (untraced r.inputs told e) (f ∙ a ∙ ap (λ fs. asked ++ (r.file ∷ fs)) (sym (no_files r.inputs e))) h
 
 -- Printing.
 

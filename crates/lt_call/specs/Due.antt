@@ -4,6 +4,7 @@ use Rattle.lt_loop.specs.Stands.{is_served}
 use Rattle.lt_play.specs.Rules.{known_scene}
 use Rattle.lt_frontend.specs.Prepared.{IsScenarioAnswer, IsPrintedAnswer}
 use Rattle.lt_frontend.specs.declared.refusal.Refusal.{Refusal as Reason}
+use Rattle.lt_parts.specs.Scenario.{has_too_many_atoms}
 use Rattle.lt_stress.specs.Run.{IsRefusedFor, IsSceneOf}
 use Rattle.lt_term.specs.Scene.{Scene}
 use Rattle.lt_args.specs.Settings.{longest_text, longest_replay}
@@ -64,6 +65,10 @@ IsShort contents = length contents.scenario ≤ longest_text
 abbrev pub HasScene : Request → Contents → Scene → Type 0
 HasScene request contents scene = IsScenarioAnswer request.decimals request.node contents.scenario (Ok scene)
 
+-- no conjunct of its constraints has more atoms than it may have
+abbrev pub HasFewAtoms : Scene → Type 0
+HasFewAtoms scene = has_too_many_atoms scene ≡ false
+
 -- its inputs are given values, or it has none
 abbrev pub IsServed : Request → Scene → Type 0
 IsServed request scene = is_served (talk_of request.inputs) (known_scene scene) ≡ true
@@ -80,12 +85,24 @@ pub data IsDue (request : Request) (contents : Contents) : Answer → Type 0 whe
   too_long : has_file request.mode ≡ true → longest_text < length contents.scenario → IsDue request contents (by_scenario request (refuses refusal.TooLong))
   -- in the mode `run`: it has no scenario, for this reason
   no_scenario : (reason : Reason) → request.mode ≡ mode.Run → IsShort contents → IsScenarioAnswer request.decimals request.node contents.scenario (Err reason) → IsDue request contents (by_scenario request (refuses (refusal.Scenario reason)))
+  -- a conjunct of some constraint of the scenario has too many atoms
+  too_many_atoms : (scene : Scene) → request.mode ≡ mode.Run → IsShort contents →
+      HasScene request contents scene → has_too_many_atoms scene ≡ true →
+      IsDue request contents (by_scenario request (refuses refusal.TooManyAtoms))
   -- the scenario has inputs, which nobody gives values
-  unserved : (scene : Scene) → request.mode ≡ mode.Run → IsShort contents → HasScene request contents scene → is_served (talk_of request.inputs) (known_scene scene) ≡ false → IsDue request contents (by_scenario request (refuses refusal.NeedsController))
+  unserved : (scene : Scene) → request.mode ≡ mode.Run → IsShort contents →
+      HasScene request contents scene → HasFewAtoms scene →
+      is_served (talk_of request.inputs) (known_scene scene) ≡ false →
+      IsDue request contents (by_scenario request (refuses refusal.NeedsController))
   -- an earlier trace gives them values, and is too long
-  long_trace : (scene : Scene) (name : List ℕ) → request.mode ≡ mode.Run → IsShort contents → HasScene request contents scene → IsServed request scene → request.inputs ≡ from_trace name → longest_replay < length contents.replay → IsDue request contents (by_all request (refuses refusal.TooLong))
+  long_trace : (scene : Scene) (name : List ℕ) → request.mode ≡ mode.Run → IsShort contents →
+      HasScene request contents scene → HasFewAtoms scene → IsServed request scene →
+      request.inputs ≡ from_trace name → longest_replay < length contents.replay →
+      IsDue request contents (by_all request (refuses refusal.TooLong))
   -- it isn't, and the scenario is run
-  runs : (scene : Scene) → request.mode ≡ mode.Run → IsShort contents → HasScene request contents scene → IsServed request scene → HasShortTrace request.inputs contents → IsDue request contents (by_all request (plays scene))
+  runs : (scene : Scene) → request.mode ≡ mode.Run → IsShort contents →
+      HasScene request contents scene → HasFewAtoms scene → IsServed request scene →
+      HasShortTrace request.inputs contents → IsDue request contents (by_all request (plays scene))
   -- in the mode `print`: it has no printed form, for this reason
   unprinted : (reason : Reason) → request.mode ≡ mode.Print → IsShort contents → IsPrintedAnswer contents.scenario (Err reason) → IsDue request contents (by_scenario request (refuses (refusal.Scenario reason)))
   -- its printed form is put out

@@ -12,7 +12,7 @@ ghost use Rattle.lt_args.specs.Asked.{request as request_of};
 ghost use Rattle.lt_args.specs.Settings.{longest_text};
 ghost use Rattle.lt_args.specs.Words.{IsWithin};
 ghost use Rattle.lt_args.specs.declared.words.Mode.TheVariants.{Run};
-ghost use Rattle.lt_call.specs.Due.{HasScene, IsServed};
+ghost use Rattle.lt_call.specs.Due.{HasFewAtoms, HasScene, IsServed};
 ghost use Rattle.lt_call.specs.Given.{status_of};
 ghost use Rattle.lt_call.specs.inner.CallResultView.{names_of};
 ghost use Rattle.lt_call.specs.inner.Parts.{AnswersRun, AnswersText};
@@ -25,6 +25,7 @@ use lt_drive::DriveEnd;
 use lt_frontend::scenario_of;
 use lt_io::{Files, Sink, Spawner};
 use lt_loop::{Core, InputSource, Setup};
+use lt_parts::has_too_many_atoms;
 use lt_play::Player;
 use lt_session::{SessionEnd, Sides, blame_has_a_cause, play};
 use lt_term::Scenario;
@@ -55,7 +56,7 @@ pub fn run_text<F: Files, P: Spawner, S: Sink>(
     }
 }
 
-// Runs the scenario of a text, where its inputs are given values. An earlier trace is read that is to be played again.
+// Runs the scenario of a text, where no conjunct of its constraints has too many atoms.
 fn run_scenario<F: Files, P: Spawner, S: Sink>(
     alloc: Global,
     request: &Request<'_>,
@@ -70,6 +71,36 @@ fn run_scenario<F: Files, P: Spawner, S: Sink>(
     requires mode { request.now.mode ≡ Run }
     requires scene { HasScene (request_of request.now) (record { scenario = text.now; replay = [] })
         (scene scenario) }
+    ensures { AnswersText (request_of request.now) text.now
+        (around (F.state files.old) (P.state spawner.old) (S.state trace.old))
+        (around (F.state files.new) (P.state spawner.new) (S.state trace.new))
+        (names_of result) result.status }
+{
+    // A law that the proof needs: where memory runs out, an answer is due all the same.
+    contents_have_one_due_answer();
+    match has_too_many_atoms(alloc, &scenario) {
+        Ok(false) => run_served(alloc, request, text, scenario, files, spawner, trace),
+        Ok(true) => not_run(scenario, Status::Refused(Refusal::TooManyAtoms)),
+        Err(_) => not_run(scenario, Status::Memory),
+    }
+}
+
+// Runs the scenario of a text, where its inputs are given values. An earlier trace is read that is to be played again.
+fn run_served<F: Files, P: Spawner, S: Sink>(
+    alloc: Global,
+    request: &Request<'_>,
+    text: &[u8],
+    scenario: Scenario,
+    files: &mut F,
+    spawner: &mut P,
+    trace: &mut S,
+) -> CallResult
+    requires within { IsWithin (request_of request.now) }
+    requires short { length text.now ≤ longest_text }
+    requires mode { request.now.mode ≡ Run }
+    requires scene { HasScene (request_of request.now) (record { scenario = text.now; replay = [] })
+        (scene scenario) }
+    requires few { HasFewAtoms (scene scenario) }
     ensures { AnswersText (request_of request.now) text.now
         (around (F.state files.old) (P.state spawner.old) (S.state trace.old))
         (around (F.state files.new) (P.state spawner.new) (S.state trace.new))

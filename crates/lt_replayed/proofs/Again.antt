@@ -19,7 +19,7 @@ use Rattle.lt_args.specs.Settings.{most_seed}
 use Rattle.lt_args.specs.Words.{Request}
 use Rattle.lt_args.specs.declared.words.Mode.TheVariants as mode
 use Rattle.lt_call.specs.Run.{run_of}
-use Rattle.lt_call.specs.Due.{Answer, Contents, HasScene, IsDue, IsServed, IsShort, Work, by_all, plays}
+use Rattle.lt_call.specs.Due.{Answer, Contents, HasFewAtoms, HasScene, IsDue, IsServed, IsShort, Work, by_all, plays}
 use Rattle.lt_call.specs.Due as due
 use Rattle.lt_call.specs.Laws.{ContentsHaveOneDueAnswer, IsUncut, IsWhole, UncutCallsAreWhole}
 use Rattle.lt_call.specs.Lines.{status_lines}
@@ -36,6 +36,7 @@ use Rattle.lt_replayed.proofs.Traces.{grew_by, same_text, told_now}
 pub record Runs (request : Request) (contents : Contents) (answer : Answer) (scene : Scene) : Type 0 where
   pub run : request.mode ≡ mode.Run
   pub short : IsShort contents
+  pub few : HasFewAtoms scene
   pub served : IsServed request scene
   pub work : answer.work ≡ plays scene
 
@@ -48,11 +49,12 @@ module _ (one : TextsHaveOneScenarioAnswer) (request : Request) (contents : Cont
   ran_due : (c o : List ℕ) (names : List (List ℕ)) (old new : Outside Sources) (ending : Ending) (answer : Answer) → IsDue request contents answer → IsWhole request contents.replay c o answer.work names old new (status.Ran ending) → Runs request contents answer scene
   ran_due c o names old new ending _ (due.too_long file long) whole = absurd (cc whole.0)
   ran_due c o names old new ending _ (due.no_scenario reason run short why) whole = absurd (cc whole.0)
-  ran_due c o names old new ending _ (due.unserved other run short also none) whole = absurd (cc whole.0)
-  ran_due c o names old new ending _ (due.long_trace other name run short also served by long) whole = absurd (cc whole.0)
-  ran_due c o names old new ending _ (due.runs other run short also served fits) whole =
+  ran_due c o names old new ending _ (due.too_many_atoms other run short also many) whole = absurd (cc whole.0)
+  ran_due c o names old new ending _ (due.unserved other run short also few none) whole = absurd (cc whole.0)
+  ran_due c o names old new ending _ (due.long_trace other name run short also few served by long) whole = absurd (cc whole.0)
+  ran_due c o names old new ending _ (due.runs other run short also few served fits) whole =
       let same = one_scene one request contents scene other has also in
-      record { run = run; short = short; served = subst (IsServed request) same served; work = ap plays same }
+      record { run = run; short = short; few = subst HasFewAtoms same few; served = subst (IsServed request) same served; work = ap plays same }
   ran_due c o names old new ending _ (due.unprinted reason print short why) whole = absurd (cc whole.0)
   ran_due c o names old new ending _ (due.prints text print short why) whole = absurd (cc whole.0)
   ran_due c o names old new ending _ (due.unstressed n reason way why) whole = absurd (cc whole.0)
@@ -115,7 +117,7 @@ replayed_calls_are_the_same dues one wholes replays request contents scene told 
     let whole = wholes request contents told names asked old new (status.Ran ending) c o answer.0 first.tell first.gives uncut first.sides answer.1 in
     let runs = ran_due one request contents scene first.has_scene first.running c o names old new ending answer.0 answer.1 whole in
     let played : IsWhole request contents.replay c o (plays scene) names old new (status.Ran ending) = subst (λ (w : Work). IsWhole request contents.replay c o w names old new (status.Ran ending)) runs.work whole in
-    let again_due : IsDue r' contents' (by_all r' (plays scene)) = due.runs scene runs.run runs.short first.has_scene refl first.short in
+    let again_due : IsDue r' contents' (by_all r' (plays scene)) = due.runs scene runs.run runs.short first.has_scene runs.few refl first.short in
     let again_played = wholes r' contents' told' names' asked' old' new' s' bytes o (by_all r' (plays scene)) second.tell second.gives second.uncut (refl, beside.apart tt second.oracle) again_due in
     let run = run_on request scene c o in
     let e = played.0 in

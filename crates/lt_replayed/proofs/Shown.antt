@@ -324,9 +324,10 @@ due_runs : TextsHaveOneScenarioAnswer → (request : Request) (text : List ℕ) 
     IsScenarioAnswer request.decimals request.node text (Ok scene) → IsDue request contents answer → RunsIt request scene answer.work
 due_runs one request text scene contents _ run read has (due.too_long file long) = record { runs = λ other e. absurd (cc e); writes_not = λ printed e. absurd (cc e); stresses_not = λ n x e. absurd (cc e) }
 due_runs one request text scene contents _ run read has (due.no_scenario reason way short why) = record { runs = λ other e. absurd (cc e); writes_not = λ printed e. absurd (cc e); stresses_not = λ n x e. absurd (cc e) }
-due_runs one request text scene contents _ run read has (due.unserved other way short also none) = record { runs = λ x e. absurd (cc e); writes_not = λ printed e. absurd (cc e); stresses_not = λ n x e. absurd (cc e) }
-due_runs one request text scene contents _ run read has (due.long_trace other name way short also served by long) = record { runs = λ x e. absurd (cc e); writes_not = λ printed e. absurd (cc e); stresses_not = λ n x e. absurd (cc e) }
-due_runs one request text scene contents _ run read has (due.runs other way short also served fits) =
+due_runs one request text scene contents _ run read has (due.too_many_atoms other way short also many) = record { runs = λ x e. absurd (cc e); writes_not = λ printed e. absurd (cc e); stresses_not = λ n x e. absurd (cc e) }
+due_runs one request text scene contents _ run read has (due.unserved other way short also few none) = record { runs = λ x e. absurd (cc e); writes_not = λ printed e. absurd (cc e); stresses_not = λ n x e. absurd (cc e) }
+due_runs one request text scene contents _ run read has (due.long_trace other name way short also few served by long) = record { runs = λ x e. absurd (cc e); writes_not = λ printed e. absurd (cc e); stresses_not = λ n x e. absurd (cc e) }
+due_runs one request text scene contents _ run read has (due.runs other way short also few served fits) =
     let there : IsScenarioAnswer request.decimals request.node text (Ok other) = subst (λ (t : List ℕ). IsScenarioAnswer request.decimals request.node t (Ok other)) read also in
     let answers : Ok other ≡ Ok scene = (one request.decimals request.node text).1 (Ok other) (Ok scene) there has in
     let same : other ≡ scene = cc in
