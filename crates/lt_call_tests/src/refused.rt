@@ -109,6 +109,64 @@ fn nodes_without_a_scenario_are_refused(rt: HostRuntime) -> Result<(), Fail> {
     check_rows(&rt, "$ print\nis printed", 8, WITHOUT_SCENARIO)
 }
 
+const TOO_MANY_ATOMS: &str = r#"
+## a conjunct of more than 16 atoms is refused
+f is node z() returns (a, b, c, d, e, f, g, h, i, j, k, l, m, n, o, p, q: bool; x, y: int [0;1]) =
+= 3 lurette: refused run.TooManyAtoms
+
+f is a or b or c or d or e or f or g or h or i or j or k or l or m or n or o or p or q
+
+-- No instant comes to it.
+f is { a |> assert a or b or c or d or e or f or g or h or i or j or k or l or m or n or o or p or q in b }
+
+-- It stands among other conjuncts.
+f is a and (b => a or b or c or d or e or f or g or h or i or j or k or l or m or n or o or p or q) and x = y
+
+-- A comparison that is denied is another one.
+f is a or b or c or d or e or f or g or h or i or j or k or l or m or n or o or x = y or x <> y
+
+-- A comparison that is known is one too.
+f is a or b or c or d or e or f or g or h or i or j or k or l or m or n or o or p or pre x = 1
+
+## that comes before the inputs
+$ --node z
+f is node z(u: bool) returns (a, b, c, d, e, f, g, h, i, j, k, l, m, n, o, p, q: bool) =
+
+f is a or b or c or d or e or f or g or h or i or j or k or l or m or n or o or p or q
+= 3 lurette: refused run.TooManyAtoms
+
+f is a or b or c or d or e or f or g or h or i or j or k or l or m or n or o or p or u
+= 3 lurette: refused run.TooManyAtoms
+
+f is a or b or c or d or e or f or g or h or i or j or k or l or m or n or o or p
+= 3 lurette: refused run.NeedsController
+
+## there may be 16 atoms, and any number of conjuncts
+f is node z() returns (a, b, c, d, e, f, g, h, i, j, k, l, m, n, o, p: bool) =
+> #seed 0\n#inputs "a":bool "b":bool "c":bool "d":bool "e":bool "f":bool "g":bool "h":bool "i":bool "j":bool "k":bool "l":bool "m":bool "n":bool "o":bool "p":bool\n#outputs
+> #step 1\n<<16 times t >>#outs
+> #end normal 1
+
+f is (a or b or c or d or e or f or g or h or i or j or k or l or m or n or o or p) and a and b and c and d and e and f and g and h and i and j and k and l and m and n and o and p
+
+-- An atom that occurs again is no further one.
+f is (a or b or c or d or e or f or g or h or i or j or k or l or m or n or o or p or not a or (b and p)) and a and b and c and d and e and f and g and h and i and j and k and l and m and n and o and p
+
+## a constraint may have as many conjuncts or repeated atoms as fit into a scenario
+> #seed 0\n#inputs "b":bool\n#outputs
+> #step 1\nt #outs
+> #end normal 1
+
+f is node z() returns (b: bool) = <<4999 times b and >>b
+
+f is node z() returns (b: bool) = <<4999 times b or >>b
+"#;
+
+#[test]
+fn conjuncts_of_too_many_atoms_are_refused(rt: HostRuntime) -> Result<(), Fail> {
+    check_rows(&rt, "$ run f", 12, TOO_MANY_ATOMS)
+}
+
 #[test]
 fn ranges_are_judged_and_macros_put_in(rt: HostRuntime) -> Result<(), Fail> {
     check_rows(
