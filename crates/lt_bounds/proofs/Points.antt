@@ -87,7 +87,7 @@ at_least_max v low q true h k = h
 at_least_max v low q false h k = k
 
 -- a value stays inside where a term leaves it
-inside_cut : (a m v : ℤ) (range : Range) → IsWithin range v → ((a *ℤ v) +ℤ m) ≤ℤ pos 0 → IsWithin (cut a m range) v
+pub inside_cut : (a m v : ℤ) (range : Range) → IsWithin range v → ((a *ℤ v) +ℤ m) ≤ℤ pos 0 → IsWithin (cut a m range) v
 inside_cut (pos zero) m v range w h = w
 inside_cut (pos (suc a)) m v range w h = (w.0, at_most_min v range.high _ _ w.1 (under a v (neg_ℤ m) (omega (arith, ints))))
 inside_cut (negsuc a) m v range w h = (at_least_max v range.low _ _ w.0 (over a v (neg_ℤ m) (omega (arith, ints))), w.1)

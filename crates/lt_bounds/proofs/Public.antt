@@ -1,10 +1,10 @@
 -- What the proofs of other crates may cite of this one.
-use Rattle.std.specs.Prelude.{◌≡◌, ◌*◌, ◌++◌, ◌<◌, ℕ, List, [], ◌∷◌, length, slice_set, ℤ, ◌*ℤ◌, ◌≤ℤ◌}
+use Rattle.std.specs.Prelude.{◌≡◌, ◌*◌, ◌++◌, ◌<◌, ℕ, List, [], ◌∷◌, length, slice_set, ℤ, pos, ◌*ℤ◌, ◌+ℤ◌, ◌≤ℤ◌}
 use Rattle.lt_num.specs.Range.{IsWithin}
 use Rattle.lt_num.specs.declared.range.Range.{Range}
 use Rattle.lt_bounds.specs.Ranges.{range_at, AreSome, IsNarrower}
 use Rattle.lt_bounds.specs.Rows.{AreWhole, ReachesAll, rows_in}
-use Rattle.lt_bounds.specs.Tightening.{least_of, greatest_of, NoPointIsLost}
+use Rattle.lt_bounds.specs.Tightening.{cut, least_of, greatest_of, NoPointIsLost}
 use Rattle.lt_bounds.proofs.Passes as passes
 use Rattle.lt_bounds.proofs.Points as points
 use Rattle.lt_bounds.proofs.Steps as steps
@@ -56,3 +56,7 @@ rows_none = passes.rows_none
 -- a row after others
 pub rows_pushed : (width count : ℕ) (cells row : List ℤ) → 0 < width → length cells ≡ count * width → length row ≡ width → rows_in width (cells ++ row) ≡ rows_in width cells ++ row ∷ []
 rows_pushed = passes.rows_pushed
+
+-- a value stays inside where a term leaves it
+pub inside_cut : (a m v : ℤ) (range : Range) → IsWithin range v → ((a *ℤ v) +ℤ m) ≤ℤ pos 0 → IsWithin (cut a m range) v
+inside_cut = points.inside_cut

@@ -16,4 +16,4 @@ mod tightening;
 pub use laws::no_point_is_lost;
 pub use rows::Rows;
 pub use sums::{greatest_of, least_of};
-pub use tightening::{Tight, tighten};
+pub use tightening::{Tight, cut_in_row, tighten};

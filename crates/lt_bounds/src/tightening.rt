@@ -129,9 +129,9 @@ fn is_broken(row: &[i128]) -> bool
     row[variables] > 0
 }
 
-// The range that a term of a row leaves to its variable, where `least` is the row's least value; none
-// where it has no number.
-fn cut_in_row(coefficient: i128, least: i128, range: Range) -> Option<Range>
+/// The range that a term of a row leaves to its variable, where `least` is the row's least value; none where it has no
+/// number.
+pub fn cut_in_row(coefficient: i128, least: i128, range: Range) -> Option<Range>
     requires some { range.low ≤ℤ range.high }
     requires reach { unsigned_abs coefficient * size_of range < 2 ^ 126 }
     requires least { unsigned_abs least < 2 ^ 126 }

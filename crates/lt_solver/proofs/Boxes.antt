@@ -10,7 +10,8 @@ use Rattle.lt_bounds.proofs.Public.{narrower_more, narrower_same}
 use Rattle.lt_bounds.specs.Ranges.{AreSome, IsNarrower}
 use Rattle.lt_linear.specs.Form.{is_raw}
 use Rattle.lt_solver.specs.Domains.{is_domain, are_domains}
-use Rattle.lt_solver.specs.inner.Levels.{AreBoxes, AreDomains, boxes_of, levels_of, work_of}
+use Rattle.lt_propagation.specs.Domains.{AreDomains}
+use Rattle.lt_solver.specs.inner.Levels.{AreBoxes, boxes_of, levels_of, work_of}
 use Rattle.lt_num.specs.Bounds.{most_raw}
 use Rattle.lt_num.specs.declared.range.Range.{Range}
 use Rattle.lt_solver.proofs.Levels.{levels-le}
@@ -87,11 +88,11 @@ module _ (targets : List ℤ) (whole : List Range) (most : ℕ) (d : AreDomains 
       let room = b.1 in
       (narrower_more whole box new b.0 n, omega arith, b.2)
 
-  -- it is parted
-  pub boxes_parted : (box first second : List Range) (boxes : List (List Range)) → AreBoxes targets whole most (box ∷ boxes) → IsNarrower box first → IsNarrower box second → suc (levels_of targets first) ≤ levels_of targets box → suc (levels_of targets second) ≤ levels_of targets box
+  -- it is split
+  pub boxes_split : (box first second : List Range) (boxes : List (List Range)) → AreBoxes targets whole most (box ∷ boxes) → IsNarrower box first → IsNarrower box second → suc (levels_of targets first) ≤ levels_of targets box → suc (levels_of targets second) ≤ levels_of targets box
       → AreBoxes targets whole most (first ∷ second ∷ boxes)
   unfolding AreBoxes
-  boxes_parted box first second boxes b n m h k =
+  boxes_split box first second boxes b n m h k =
       let room = b.1 in (narrower_more whole box first b.0 n, omega arith, (narrower_more whole box second b.0 m, omega arith, b.2))
 
   pub boxes_room : (box : List Range) (boxes : List (List Range)) (height : ℕ) → AreBoxes targets whole most (box ∷ boxes) → length boxes ≡ height → 0 < levels_of targets box → height < most
@@ -106,9 +107,9 @@ pub work_popped : (targets : List ℤ) (box : List Range) (boxes : List (List Ra
 unfolding work_of
 work_popped targets box boxes = let some = work_some targets box in omega arith
 
-pub work_parted : (targets : List ℤ) (box first second : List Range) (boxes : List (List Range)) → suc (levels_of targets first) ≤ levels_of targets box → suc (levels_of targets second) ≤ levels_of targets box → work_of targets (first ∷ second ∷ boxes) < work_of targets (box ∷ boxes)
+pub work_split : (targets : List ℤ) (box first second : List Range) (boxes : List (List Range)) → suc (levels_of targets first) ≤ levels_of targets box → suc (levels_of targets second) ≤ levels_of targets box → work_of targets (first ∷ second ∷ boxes) < work_of targets (box ∷ boxes)
 unfolding work_of
-work_parted targets box first second boxes h k =
+work_split targets box first second boxes h k =
     let one = part (levels_of targets first) h in
     let other = part (levels_of targets second) k in
     let some = work_some targets first in

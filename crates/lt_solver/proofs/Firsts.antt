@@ -54,7 +54,7 @@ with_first-or : (v : ℤ) (a b : Option (List ℤ)) → with_first v (or_else a 
 with_first-or v None b = refl
 with_first-or v (Some vs) b = refl
 
--- Behind variables with one number each, a variable's range may be parted.
+-- Behind variables with one number each, a variable's range may be split.
 pub split_solution : (holds : List ℤ → Bool) (ranges : List Range) (targets : List ℤ) (i : ℕ) (first second : Range) → AreFixed i ranges → i < length ranges → length targets ≡ length ranges
     → raws_from (get_or targets i (pos 0)) (range_at ranges i) ≡ raws_from (get_or targets i (pos 0)) first ++ raws_from (get_or targets i (pos 0)) second
     → first_solution holds ranges targets ≡ or_else (first_solution holds (set ranges i first) targets) (first_solution holds (set ranges i second) targets)
@@ -82,7 +82,7 @@ renamed : (xs : List ℤ) (a b : ℤ) (rest : List ℤ) → xs ≡ a ∷ rest �
 renamed xs a b rest e f = e ∙ ap (λ v. v ∷ rest) (sym f)
 
 -- the first number of a range comes first
-first_is : (t low high : ℤ) → low ≤ℤ high → (rest : List ℤ) × (raws_from t (range_of low high) ≡ first_raw t (range_of low high) ∷ rest)
+pub first_is : (t low high : ℤ) → low ≤ℤ high → (rest : List ℤ) × (raws_from t (range_of low high) ≡ first_raw t (range_of low high) ∷ rest)
 first_is t low high some =
     by_lt_z high t
     (λ over. (raws_of (range_of (low +ℤ pos 1) high), renamed _ _ _ _ (from_above t low high over ∙ raws_of-more low high some) (is_low (int_lt high t) (lt_true high t over))))
@@ -100,7 +100,7 @@ first_is t low high some =
     is_max : (b : Bool) → b ≡ false → (if b then low else int_max low t) ≡ int_max low t
     is_max b e = ap (λ b. if b then low else int_max low t) e
 
-first_within : (t low high : ℤ) → low ≤ℤ high → IsWithin (range_of low high) (first_raw t (range_of low high))
+pub first_within : (t low high : ℤ) → low ≤ℤ high → IsWithin (range_of low high) (first_raw t (range_of low high))
 first_within t low high some = by_over (int_lt high t) refl
   where
     over : int_lt high t ≡ false → t ≤ℤ high

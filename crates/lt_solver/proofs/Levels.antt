@@ -1,4 +1,4 @@
--- How often boxes can be parted.
+-- How often boxes can be split.
 use Rattle.std.proofs.Common.{◌≡◌, ℕ, zero, suc, ◌+◌, ◌*◌, ◌^◌, ◌<◌, ◌≤◌, Bool, true, false, List, [], ◌∷◌, length, set, get_or, ℤ, pos, ◌+ℤ◌, ◌-ℤ◌, ◌≤ℤ◌, ◌*ℤ◌, ◌<ℤ◌, inl, inr, unsigned_abs, refl, arith}
 use Rattle.std.specs.Prelude.{nat_le, if◌then◌else◌}
 use Rattle.std.proofs.Math.Nat.{pow-le-pow_right, pow-succ'}
@@ -8,7 +8,8 @@ use Rattle.std.proofs.lemmas.Int.{ints, by_lt_z}
 use Rattle.lt_bounds.specs.Ranges.{IsNarrower, range_at}
 use Rattle.lt_num.specs.Range.{count_of}
 use Rattle.lt_solver.proofs.Gaps.{gap_above}
-use Rattle.lt_solver.specs.inner.Levels.{AreDomains, halvings, halvings_up_to, level_of, levels_of, target_inside}
+use Rattle.lt_propagation.specs.Domains.{AreDomains}
+use Rattle.lt_solver.specs.inner.Levels.{halvings, halvings_up_to, level_of, levels_of, target_inside}
 use Rattle.lt_num.specs.Bounds.{most_raw}
 use Rattle.lt_num.specs.declared.range.Range.{Range}
 use Rattle.lt_solver.proofs.Order.{range_of}
@@ -90,7 +91,7 @@ count_less a b low high h k l =
 pub count_most : (low high : ℤ) → low ≤ℤ high → unsigned_abs low ≤ most_raw → unsigned_abs high ≤ most_raw → count_of (range_of low high) ≤ 2 ^ 41
 count_most low high some h k = let gap = gap_above low (high +ℤ pos 1) (omega (arith, ints)) in omega (arith, ints)
 
--- a range in another one can be parted no more often
+-- a range in another one can be split no more often
 level-le : (t a b low high : ℤ) → a ≤ℤ low → low ≤ℤ high → high ≤ℤ b → count_of (range_of a b) ≤ 2 ^ 41 → level_of t (range_of low high) ≤ level_of t (range_of a b)
 level-le t a b low high h k l m =
     let halves = halvings-le (count_of (range_of low high)) (count_of (range_of a b)) (count_less a b low high h k l) m in
@@ -100,7 +101,7 @@ level-le t a b low high h k l m =
     (λ inside. let one = inside_one t low high over inside in let other = inside_one t a b (omega (arith, ints)) (omega (arith, ints)) in omega arith))
     (λ below. let none = inside_below t low high below in omega arith)
 
--- parts at the target can be parted less often
+-- parts at the target can be split less often
 pub level_from : (t low high : ℤ) → low <ℤ t → t ≤ℤ high → count_of (range_of low high) ≤ 2 ^ 41 → suc (level_of t (range_of t high)) ≤ level_of t (range_of low high)
 level_from t low high h k m =
     let halves = halvings-le (count_of (range_of t high)) (count_of (range_of low high)) (count_less low high t high (omega (arith, ints)) k (omega (arith, ints))) m in
@@ -123,7 +124,7 @@ level_half t a b low high h k l two half none m =
     let halves = halvings-less (count_of (range_of low high)) (count_of (range_of a b)) (omega (arith, ints)) (omega (arith, ints)) m in
     omega arith
 
--- a narrower box can be parted no more often
+-- a narrower box can be split no more often
 pub levels-le : (targets : List ℤ) (a b : List Range) → AreDomains a → IsNarrower a b → levels_of targets b ≤ levels_of targets a
 levels-le [] a b d n = omega arith
 levels-le (t ∷ ts) [] [] d n = omega arith
@@ -136,7 +137,7 @@ levels-le (t ∷ ts) (r ∷ a) (s ∷ b) d n =
     let tail = levels-le ts a b d.1 n.1 in
     omega arith
 
--- a box in which a variable's range is a part can be parted less often
+-- a box in which a variable's range is a part can be split less often
 pub levels-less : (targets : List ℤ) (ranges : List Range) (i : ℕ) (r : Range) → i < length ranges → length targets ≡ length ranges → suc (level_of (get_or targets i (pos 0)) r) ≤ level_of (get_or targets i (pos 0)) (range_at ranges i) → suc (levels_of targets (set ranges i r)) ≤ levels_of targets ranges
 levels-less [] [] i r l e h = absurd (omega (arith, l))
 levels-less [] (s ∷ rs) i r l e h = absurd (omega (arith, e))
@@ -148,7 +149,7 @@ halvings_most : (n : ℕ) → halvings n ≤ 41
 unfolding halvings
 halvings_most n = at_most 41 n
 
--- no box can be parted more than 42 times for each variable
+-- no box can be split more than 42 times for each variable
 pub levels_most : (targets : List ℤ) (ranges : List Range) → levels_of targets ranges ≤ length ranges * 42
 levels_most [] ranges = omega arith
 levels_most (t ∷ ts) [] = omega arith

@@ -4,20 +4,20 @@ mod Gaps
 mod Order
 -- First solutions of boxes.
 mod Firsts
--- How often boxes can be parted.
+-- What is fixed first.
+mod Leads
+-- One turn of a dive.
+mod Dives
+-- How often boxes can be split.
 mod Levels
 -- Boxes on a stack.
 mod Boxes
--- Verdicts on formulas.
-mod Verdicts
--- Verdicts on gates.
-mod Gates
--- What is seen at a box.
-mod Looks
+-- No point leaves a truth unknown.
+mod Decided
+-- What is found of boxes.
+mod Classes
 -- One turn of the search.
 mod Turns
--- Rows that follow from a formula.
-mod Conjuncts
 -- The ranges of a scope.
 mod Scopes
 -- What answers say of points.

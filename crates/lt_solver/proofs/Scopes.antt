@@ -6,7 +6,7 @@ use Rattle.lt_bounds.specs.Ranges.{IsNarrower, range_at}
 use Rattle.lt_bounds.proofs.Public.{narrower_length}
 use Rattle.lt_num.specs.declared.range.Range.{Range}
 use Rattle.lt_space.specs.Need.{range_in, ranges_in, zero_alone}
-use Rattle.lt_solver.specs.inner.Levels.{AreDomains}
+use Rattle.lt_propagation.specs.Domains.{AreDomains}
 
 -- there are as many
 pub length-ranges_in : (scope : List Bool) (ranges : List Range) → length (ranges_in scope ranges) ≡ length ranges
@@ -44,6 +44,10 @@ pub in_all : (scope : List Bool) (ranges written : List Range) (i : ℕ) → len
 in_all scope ranges written i long all whole =
     sym (whole ∙ ap (λ rs. take i written ++ ranges_in (drop i scope) rs) (drop_end ranges i (omega (arith, long, all)))
     ∙ ap (λ rs. take i written ++ rs) (no_ranges (drop i scope)) ∙ append-nil (take i written) ∙ take_all i written (omega (arith, all)))
+
+-- a list that was written over in place has some, if it had
+pub kept_some : {X : Type 0} (n : ℕ) (items new : List X) → n ≡ length items → length new ≡ length items → 0 < length items → 0 < length (take n (new ++ drop (length new) items))
+kept_some n items new count same some = omega (arith, count, same, some, length-take n (new ++ drop (length new) items), length-append new (drop (length new) items))
 
 -- a box that was narrowed in place has as many
 pub written_length : (scope : List Bool) (ranges items box new : List Range) (n : ℕ) → n ≡ length items → items ≡ ranges_in scope ranges → box ≡ items → IsNarrower box new → length (take n (new ++ drop (length new) items)) ≡ length ranges

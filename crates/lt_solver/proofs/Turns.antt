@@ -8,11 +8,12 @@ use Rattle.lt_bounds.proofs.Public.{narrower_more, narrower_same, narrower_set, 
 use Rattle.lt_bounds.specs.Ranges.{IsNarrower, range_at}
 use Rattle.lt_formula.specs.Solution.{IsPointOf, first_solution, or_else}
 use Rattle.lt_num.specs.Bounds.{most_raw}
-use Rattle.lt_solver.specs.inner.Levels.{AreBoxes, AreDomains, boxes_of, level_of, levels_of, target_inside, work_of}
-use Rattle.lt_solver.specs.inner.Search.{IsParted}
+use Rattle.lt_propagation.specs.Domains.{AreDomains}
+use Rattle.lt_solver.specs.inner.Levels.{AreBoxes, boxes_of, level_of, levels_of, target_inside, work_of}
+use Rattle.lt_solver.specs.inner.Split.{IsSplit}
 use Rattle.lt_solver.specs.inner.Points.{AreFixed, first_among}
 use Rattle.lt_num.specs.declared.range.Range.{Range}
-use Rattle.lt_solver.proofs.Boxes.{boxes_push, boxes_pop, domains_narrower, top_narrower, boxes_narrowed, boxes_parted, boxes_room, work_narrowed, work_parted}
+use Rattle.lt_solver.proofs.Boxes.{boxes_push, boxes_pop, domains_narrower, top_narrower, boxes_narrowed, boxes_split, boxes_room, work_narrowed, work_split}
 use Rattle.lt_solver.proofs.Firsts.{split_solution}
 use Rattle.lt_solver.proofs.Levels.{levels-less, level_half, count_most, inside_above, inside_below}
 use Rattle.lt_solver.proofs.Order.{range_of, or_else-assoc}
@@ -44,7 +45,7 @@ pushed width height cells after box e f is = (
   ap length is ∙ omega (arith, length-append cells box),
 )
 
--- a range with several numbers can be parted
+-- a range with several numbers can be split
 level_some : (t low high : ℤ) → low <ℤ high → unsigned_abs low ≤ most_raw → unsigned_abs high ≤ most_raw → 0 < level_of t (range_of low high)
 level_some t low high l a b =
     let half = level_half t low high low low (omega (arith, ints)) (omega (arith, ints)) (omega (arith, ints)) l (omega (arith, ints)) (outside t low) (count_most low high (omega (arith, ints)) a b) in
@@ -77,9 +78,9 @@ module _ (targets : List ℤ) (whole : List Range) (most : ℕ) (d : AreDomains 
       let sizes = sizes_at new i turn_domains in
       boxes_room targets whole most d new boxes height inside_new h (levels_some targets new i l e (level_some (get_or targets i (pos 0)) (range_at new i).low (range_at new i).high several sizes.0 sizes.1))
 
--- a box is parted, of which the second part is put on the stack
+-- a box is split, of which the second part is put on the stack
 module _ (targets : List ℤ) (whole : List Range) (most : ℕ) (d : AreDomains whole) (box new : List Range) (height : ℕ) (cells : List Range) (inside : AreBoxes targets whole most (box ∷ boxes_of (length whole) height cells)) (narrow : IsNarrower box new)
-    (i : ℕ) (parted grown : List Range) (l : i < length new) (e : length targets ≡ length new) (p : IsParted (get_or targets i (pos 0)) i new parted cells grown) (count : length cells ≡ height * length whole) where
+    (i : ℕ) (parted grown : List Range) (l : i < length new) (e : length targets ≡ length new) (p : IsSplit (get_or targets i (pos 0)) i new parted cells grown) (count : length cells ≡ height * length whole) where
   new_narrower : IsNarrower whole new
   new_narrower = turn_narrower targets whole most d box new (boxes_of (length whole) height cells) inside narrow
 
@@ -101,20 +102,20 @@ module _ (targets : List ℤ) (whole : List Range) (most : ℕ) (d : AreDomains 
 
   -- .. the parts are boxes, ..
   pub turn_boxes : AreBoxes targets whole most (parted ∷ boxes_of (length whole) (height + 1) grown)
-  turn_boxes = rw (p.parted_is, push.0) (boxes_parted targets whole most d new (set new i p.first) (set new i p.second) (boxes_of (length whole) height cells) (boxes_narrowed targets whole most d box new (boxes_of (length whole) height cells) inside narrow) (narrower_set new new i p.first same p.are.first_is.0) (narrower_set new new i p.second same p.are.second_is.0) first_less second_less)
+  turn_boxes = rw (p.split_is, push.0) (boxes_split targets whole most d new (set new i p.first) (set new i p.second) (boxes_of (length whole) height cells) (boxes_narrowed targets whole most d box new (boxes_of (length whole) height cells) inside narrow) (narrower_set new new i p.first same p.are.first_is.0) (narrower_set new new i p.second same p.are.second_is.0) first_less second_less)
 
   -- .. there is less left to do, ..
   pub turn_work : work_of targets (parted ∷ boxes_of (length whole) (height + 1) grown) < work_of targets (box ∷ boxes_of (length whole) height cells)
   turn_work =
-      let less = work_parted targets new (set new i p.first) (set new i p.second) (boxes_of (length whole) height cells) first_less second_less in
+      let less = work_split targets new (set new i p.first) (set new i p.second) (boxes_of (length whole) height cells) first_less second_less in
       let no_more = work_narrowed targets box new (boxes_of (length whole) height cells) (domains_narrower whole box d (top_narrower targets whole most d box (boxes_of (length whole) height cells) inside)) narrow in
-      rw (p.parted_is, push.0) (omega arith)
+      rw (p.split_is, push.0) (omega arith)
 
   -- .. and the first solution is that of the parts.
   pub turn_left : (holds : List ℤ → Bool) (answer : Option (List ℤ)) → answer ≡ or_else (first_solution holds box targets) (first_among holds targets (boxes_of (length whole) height cells)) → first_solution holds box targets ≡ first_solution holds new targets → AreFixed i new
       → answer ≡ or_else (first_solution holds parted targets) (first_among holds targets (boxes_of (length whole) (height + 1) grown))
   turn_left holds answer left sees fixed =
-      rw (p.parted_is, push.0)
+      rw (p.split_is, push.0)
       (left ∙ ap (λ o. or_else o (first_among holds targets (boxes_of (length whole) height cells))) (sees ∙ split_solution holds new targets i p.first p.second fixed l e p.are.in_order)
       ∙ sym (or_else-assoc (first_solution holds (set new i p.first) targets) (first_solution holds (set new i p.second) targets) (first_among holds targets (boxes_of (length whole) height cells))))
 

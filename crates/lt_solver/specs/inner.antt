@@ -1,6 +1,8 @@
 -- Words of private contracts.
 pub mod Points
+pub mod Lead
+pub mod Dive
 pub mod Levels
-pub mod Gates
-pub mod Search
-pub mod Conjuncts
+pub mod Classified
+pub mod Split
+pub mod Roomy

@@ -1,20 +1,21 @@
 //! Answers within a budget.
 
-ghost use Rattle.std.specs.Prelude.{◌≡◌, ◌≤◌, ◌*◌, suc, false, length, slice_index_or, vec_capacity};
+ghost use Rattle.std.specs.Prelude.{◌≡◌, ◌≤◌, ℕ, false, length, slice_index_or, vec_capacity};
 ghost use Rattle.lt_formula.specs.Limits.{most_variables};
 ghost use Rattle.lt_formula.specs.Solution.{first_solution};
+ghost use Rattle.lt_propagation.specs.Domains.{AreDomains};
 ghost use Rattle.lt_space.specs.CircuitView.{circuit_len};
 ghost use Rattle.lt_space.specs.Need.{need, range_in, ranges_in};
-ghost use Rattle.lt_solver.specs.Answers.{Tells};
 ghost use Rattle.lt_space.specs.SpaceView.{space_circuit};
-ghost use Rattle.lt_solver.specs.inner.Levels.{AreDomains};
+ghost use Rattle.lt_solver.specs.Answers.{Tells};
+ghost use Rattle.lt_solver.specs.inner.Classified.{passes};
 ghost use Rattle.lt_solver.specs.inner.Points.{first_point, first_raw};
-ghost use Rattle.lt_solver.specs.inner.Search.{passes};
+ghost use Rattle.lt_solver.specs.inner.Roomy.{IsRoomy};
 
-use crate::gathering::{RowRoom, gather};
+use crate::classifying::BoxRoom;
 use crate::search::search;
-use crate::verdict::Verdict;
 use lt_num::Range;
+use lt_propagation::find_ties;
 use lt_space::Space;
 
 /// What a search answers.
@@ -39,11 +40,17 @@ pub(crate) struct Room {
     /// The boxes that are left.
     pub(crate) stack: Vec<Range>,
 
-    /// A verdict on each gate.
-    pub(crate) verdicts: Vec<Verdict>,
+    /// Room for what is found of a box.
+    pub(crate) boxes: BoxRoom,
 
-    /// Room for rows that follow from the formula.
-    pub(crate) rows: RowRoom,
+    /// Gates by their forms, of any circuit.
+    pub(crate) latest: Vec<u32>,
+
+    /// For each gate an earlier one with the same form, or else itself.
+    pub(crate) same: Vec<u32>,
+
+    /// A mark for each variable that may be halved where a reason is sought why a box has no solution.
+    pub(crate) hard: Vec<bool>,
 }
 
 /// Finds the first solution of a space within the ranges of a scope, in the order from targets, where the need is
@@ -61,35 +68,30 @@ pub(crate) fn answer_within(
     requires few { length ranges.now ≤ most_variables }
     requires targets { length targets.now ≡ length ranges.now }
     requires values { length values.old ≡ length ranges.now }
-    requires current { length room.old.current.items ≡ length ranges.now }
-    requires stack { length ranges.now * 42 * length ranges.now ≤ vec_capacity room.old.stack }
-    requires verdicts { circuit_len (space_circuit space.now) ≤ vec_capacity room.old.verdicts }
-    requires width { room.old.rows.rows.width ≡ suc (length ranges.now) }
-    requires row { room.old.rows.rows.width ≤ vec_capacity room.old.rows.row }
-    requires marks { circuit_len (space_circuit space.now) ≤ vec_capacity room.old.rows.marks }
+    requires roomy { IsRoomy (length ranges.now) (circuit_len (space_circuit space.now)) room.old }
     ensures tells { Tells result values.new
         (first_solution (passes space.now) (ranges_in scope.now ranges.now) targets.now)
         (need scope.now ranges.now) budget }
-    ensures current { length room.new.current.items ≡ length room.old.current.items }
-    ensures stack { vec_capacity room.old.stack ≤ vec_capacity room.new.stack }
-    ensures verdicts { vec_capacity room.new.verdicts ≡ vec_capacity room.old.verdicts }
-    ensures width { room.new.rows.rows.width ≡ room.old.rows.rows.width }
-    ensures row { vec_capacity room.new.rows.row ≡ vec_capacity room.old.rows.row }
-    ensures marks { vec_capacity room.new.rows.marks ≡ vec_capacity room.old.rows.marks }
+    ensures roomy { (gates : ℕ) → IsRoomy (length ranges.now) gates room.old →
+        IsRoomy (length ranges.now) gates room.new }
+    ensures gates { vec_capacity room.new.boxes.refuter.kleenes ≡
+        vec_capacity room.old.boxes.refuter.kleenes }
 {
     let need = space.need(scope, ranges);
     if need > u128::from(budget) {
         return Answer::Budget(need);
     }
     write_ranges(scope, ranges, &mut room.current);
-    gather(space, &mut room.rows);
+    find_ties(space.circuit(), &mut room.latest, &mut room.same);
     if search(
         space,
-        &room.rows.rows,
+        &room.same,
         targets,
+        &room.hard,
+        budget,
         &mut room.current,
         &mut room.stack,
-        &mut room.verdicts,
+        &mut room.boxes,
     ) {
         write_first(targets, &room.current, values);
         Answer::Solution

@@ -5,21 +5,20 @@
 //! its target, with which those before it extend to such a point. The [`Answer`] is the need of the search exactly where
 //! that is over the budget. No memory is taken but by [`Workspace::make`].
 //!
-//! The search goes over boxes of points, depth first in the order from the targets. At each it asks for a look, which may
-//! find that the box has no solution, or no other points, or tighten it; or the box is parted. `specs/Answers.antt` says what
-//! is answered, and `specs/Verdict.antt` what is known of a formula over a box.
+//! The search goes over boxes of points, depth first in the order from the targets. Each box is classified: what the formula
+//! says of it narrows it, a dive along the first numbers may end at its first solution, and a reason may be found why it has
+//! none; else it is split. `specs/Answers.antt` says what is answered.
 #![tactic(auto)]
 
 mod answering;
-mod gathering;
-mod judging;
+mod classifying;
+mod diving;
 mod laws;
-mod looking;
-mod parting;
 mod search;
-mod verdict;
+mod splitting;
+mod widening;
 mod workspace;
 
 pub use answering::Answer;
-pub use laws::{answers_say, verdicts_agree};
+pub use laws::answers_say;
 pub use workspace::Workspace;

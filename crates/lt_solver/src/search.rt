@@ -1,59 +1,66 @@
-//! The search: boxes are looked at and parted, depth first, in the order from the targets.
+//! The search: boxes are classified and split, depth first, in the order from the targets.
 
-ghost use Rattle.std.specs.Prelude.{◌≡◌, ◌*◌, ◌-◌, ◌≤◌, true, drop, take, length, List, Some, None, ℤ, if◌then◌else◌, vec_len, vec_capacity};
+ghost use Rattle.std.specs.Prelude.{◌≡◌, ◌*◌, ◌+◌, ◌-◌, ◌≤◌, true, drop, take, length, List, Some, None, ℤ, if◌then◌else◌, vec_len, vec_capacity};
 ghost use Rattle.lt_bounds.specs.Ranges.{IsNarrower};
-ghost use Rattle.lt_bounds.specs.Rows.{AreWhole, ReachesAll, SatisfyAll, rows_of};
 ghost use Rattle.lt_formula.specs.Limits.{most_variables};
-ghost use Rattle.lt_formula.specs.Solution.{IsPointOf, first_solution};
+ghost use Rattle.lt_formula.specs.Solution.{first_solution};
 ghost use Rattle.lt_space.specs.CircuitView.{circuit_len};
 ghost use Rattle.lt_space.specs.SpaceView.{space_circuit};
-ghost use Rattle.lt_solver.specs.inner.Levels.{AreDomains, levels_of};
+ghost use Rattle.lt_propagation.specs.Ties.{AreTies};
+ghost use Rattle.lt_propagation.specs.Domains.{AreDomains};
+ghost use Rattle.lt_solver.specs.inner.Levels.{levels_of};
 ghost use Rattle.lt_solver.specs.inner.Points.{first_point};
-ghost use Rattle.lt_solver.specs.inner.Search.{passes};
+ghost use Rattle.lt_solver.specs.inner.Classified.{passes};
 
-use crate::looking::{Sight, look};
-use crate::parting::part_box;
-use crate::verdict::Verdict;
-use lt_bounds::Rows;
+use crate::classifying::{BoxRoom, BoxStatus, classify};
+use crate::splitting::split_box;
 use lt_num::Range;
 use lt_space::Space;
 
 /// Finds the first solution within a box, which is then the first point of `current`; the answer says whether there
-/// is one. The rows are to follow from the formula. `stack` and `verdicts` are room: none is taken here.
+/// is one. `stack` and `room` are room: none is taken here.
 pub(crate) fn search(
     space: &Space,
-    rows: &Rows,
+    same: &[u32],
     targets: &[i64],
+    hard: &[bool],
+    steps: u64,
     current: &mut [Range],
     stack: &mut Vec<Range>,
-    verdicts: &mut Vec<Verdict>,
+    room: &mut BoxRoom,
 ) -> bool
     requires domains { AreDomains current.old }
     requires few { length current.old ≤ most_variables }
     requires targets { length targets.now ≡ length current.old }
-    requires whole { AreWhole rows.now.width rows.now.cells.items current.old }
-    requires reaches { ReachesAll (rows_of rows.now) current.old }
-    requires implied { (values : List ℤ) → IsPointOf current.old values →
-        passes space.now values ≡ true → SatisfyAll (rows_of rows.now) values }
+    requires ties { AreTies (space_circuit space.now) same.now }
+    requires hard { length hard.now ≡ length current.old }
     requires stack { levels_of targets.now current.old * length current.old ≤
         vec_capacity stack.old }
-    requires verdicts { circuit_len (space_circuit space.now) ≤ vec_capacity verdicts.old }
+    requires widened { length current.old + circuit_len (space_circuit space.now) ≤
+        vec_capacity room.old.widened }
+    requires copy { length current.old + circuit_len (space_circuit space.now) ≤
+        vec_capacity room.old.refuter.current }
+    requires kleenes { circuit_len (space_circuit space.now) ≤
+        vec_capacity room.old.refuter.kleenes }
     ensures found { first_solution (passes space.now) current.old targets.now ≡
         (if result then Some (first_point targets.now current.new) else None) }
     ensures narrower { IsNarrower current.old current.new }
     ensures stack { vec_capacity stack.old ≤ vec_capacity stack.new }
-    ensures verdicts { vec_capacity verdicts.new ≡ vec_capacity verdicts.old }
+    ensures widened { vec_capacity room.old.widened ≤ vec_capacity room.new.widened }
+    ensures copy { vec_capacity room.old.refuter.current ≤ vec_capacity room.new.refuter.current }
+    ensures kleenes { vec_capacity room.new.refuter.kleenes ≡
+        vec_capacity room.old.refuter.kleenes }
 {
     stack.clear();
     let mut height: usize = 0;
     'boxes: loop {
-        match look(space, rows, current, verdicts) {
-            Sight::Everything => return true,
-            Sight::Several(variable) => {
-                part_box(variable, targets, current, stack);
+        match classify(space, same, targets, hard, steps, current, room) {
+            BoxStatus::Solved => return true,
+            BoxStatus::Undecided(variable) => {
+                split_box(variable, targets, current, stack);
                 height += 1;
             }
-            Sight::Nothing => {
+            BoxStatus::Infeasible => {
                 if height == 0 {
                     return false;
                 }

@@ -1,19 +1,19 @@
 //! Room for searches over some variables, taken once.
 
-ghost use Rattle.std.specs.Prelude.{◌≡◌, ◌≤◌, ◌*◌, suc, IfOk, IsTrue, length, vec_capacity};
+ghost use Rattle.std.specs.Prelude.{◌≡◌, ◌≤◌, IfOk, IsTrue, length, vec_capacity};
 ghost use Rattle.lt_formula.specs.Limits.{most_variables};
 ghost use Rattle.lt_solver.specs.Domains.{are_domains};
+ghost use Rattle.lt_solver.specs.inner.Roomy.{IsRoomy};
 
 use crate::answering::{Answer, Room, answer_within};
-use crate::gathering::RowRoom;
-use lt_bounds::Rows;
+use crate::classifying::BoxRoom;
 use lt_formula::Memory;
 use lt_num::Range;
 use lt_space::Space;
 use std::alloc::Global;
 
-// How many rows are gathered at most.
-const MOST_ROWS: usize = 256;
+// How many gates by their forms are remembered.
+const LATEST: usize = 256;
 
 /// The ranges of variables, room for searches within them, and the values of the last solution.
 #[derive(Drop)]
@@ -23,11 +23,7 @@ pub struct Workspace {
     values: Vec<i64>,
     ghost domains: { IsTrue (are_domains ranges.items) },
     ghost few: { length ranges.items ≤ most_variables },
-    ghost current: { length room.current.items ≡ length ranges.items },
-    ghost stack: { length ranges.items * 42 * length ranges.items ≤ vec_capacity room.stack },
-    ghost width: { room.rows.rows.width ≡ suc (length ranges.items) },
-    ghost row: { room.rows.rows.width ≤ vec_capacity room.rows.row },
-    ghost marks: { vec_capacity room.verdicts ≤ vec_capacity room.rows.marks },
+    ghost roomy: { IsRoomy (length ranges.items) (vec_capacity room.boxes.refuter.kleenes) room },
     ghost long: { length values.items ≡ length ranges.items },
 }
 
@@ -52,24 +48,11 @@ impl Workspace {
         ensures ranges { IfOk result (λ w. workspace_ranges w ≡ ranges.now) }
         ensures gates { IfOk result (λ w. gates ≤ workspace_gates w) }
     {
-        let count = ranges.len();
-        let room = Room {
-            current: copied(alloc, ranges)?,
-            stack: Vec::with_capacity(alloc, count * 42 * count)?,
-            verdicts: Vec::with_capacity(alloc, gates)?,
-            rows: RowRoom {
-                rows: Rows {
-                    width: count + 1,
-                    cells: Vec::with_capacity(alloc, MOST_ROWS * (count + 1))?,
-                },
-                row: Vec::with_capacity(alloc, count + 1)?,
-                marks: Vec::with_capacity(alloc, gates)?,
-            },
-        };
+        let room = make_room(alloc, ranges, gates)?;
         Ok(Workspace {
             ranges: copied(alloc, ranges)?,
             room,
-            values: vec![in alloc; 0; count]?,
+            values: vec![in alloc; 0; ranges.len()]?,
         })
     }
 
@@ -113,6 +96,24 @@ impl Workspace {
     {
         &self.values
     }
+}
+
+// Room for searches within some ranges, for circuits of up to so many gates.
+fn make_room(alloc: Global, ranges: &[Range], gates: usize) -> Result<Room, Memory>
+    requires few { length ranges.now ≤ most_variables }
+    ensures roomy { IfOk result (λ room.
+        IsRoomy (length ranges.now) (vec_capacity room.boxes.refuter.kleenes) room) }
+    ensures gates { IfOk result (λ room. gates ≤ vec_capacity room.boxes.refuter.kleenes) }
+{
+    let count = ranges.len();
+    Ok(Room {
+        current: copied(alloc, ranges)?,
+        stack: Vec::with_capacity(alloc, count * 42 * count)?,
+        boxes: BoxRoom::make(alloc, count, gates)?,
+        latest: vec![in alloc; 0; LATEST]?,
+        same: Vec::with_capacity(alloc, gates)?,
+        hard: vec![in alloc; false; count]?,
+    })
 }
 
 // The same ranges.

@@ -2,7 +2,7 @@ use Rattle.std.proofs.Common.{◌≡◌, ◌*◌, ◌≤◌, ◌∷◌, length, 
 use Rattle.lt_formula.specs.Solution.{first_solution, or_else}
 use Rattle.lt_solver.specs.inner.Levels.{AreBoxes, boxes_of, levels_of, work_of}
 use Rattle.lt_solver.specs.inner.Points.{first_among}
-use Rattle.lt_solver.specs.inner.Search.{passes}
+use Rattle.lt_solver.specs.inner.Classified.{passes}
 use Rattle.lt_solver.proofs.search.search.Given as goal
 
 -- It is left to the box at hand and to those on the stack, which has room for their parts.
@@ -14,7 +14,9 @@ invariant-boxes l = record {
   len : length l.stack.items ≡ l.height * length l.fn.current;
   count : vec_len l.stack ≡ l.height * length l.fn.current;
   room : vec_capacity l.fn.stack ≤ vec_capacity l.stack;
-  verdicts : vec_capacity l.verdicts ≡ vec_capacity l.fn.verdicts;
+  widened : vec_capacity l.fn.room.widened ≤ vec_capacity l.room.widened;
+  copy : vec_capacity l.fn.room.refuter.current ≤ vec_capacity l.room.refuter.current;
+  kleenes : vec_capacity l.room.refuter.kleenes ≡ vec_capacity l.fn.room.refuter.kleenes;
 }
 
 abbrev pub decreases-boxes : goal.decreases-boxes

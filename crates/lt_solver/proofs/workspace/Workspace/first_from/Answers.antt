@@ -1,5 +1,5 @@
 use Rattle.std.proofs.Common.{subst, sym}
-use Rattle.lt_solver.specs.inner.Levels.{AreDomains}
+use Rattle.lt_propagation.specs.Domains.{AreDomains}
 use Rattle.lt_solver.proofs.Boxes.{domains_from}
 use Rattle.lt_solver.proofs.workspace.Workspace.first_from.Goals as goal
 

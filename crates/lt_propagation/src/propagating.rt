@@ -1,0 +1,347 @@
+//! Boxes of wide points, narrowed by what each gate says of its sign, of its parts and of variables.
+
+ghost use Rattle.std.specs.Prelude.{◌≡◌, ◌≢◌, ◌<◌, ◌≤◌, ◌+◌, ◌≤ℤ◌, ℕ, List, ℤ, length, not, pos, slice_index_or, take};
+ghost use Rattle.std.specs.Ordering.{int_eq};
+ghost use Rattle.lt_bounds.specs.Ranges.{IsNarrower, AreSome, range_at};
+ghost use Rattle.lt_formula.specs.Solution.{IsPointOf};
+ghost use Rattle.lt_num.specs.Bounds.{most_decimals};
+ghost use Rattle.lt_space.specs.Circuit.{are_terms, formula_at};
+ghost use Rattle.lt_space.specs.CircuitView.{circuit_formulas, circuit_len, circuit_terms};
+ghost use Rattle.lt_space.specs.Evaluated.{Where};
+ghost use Rattle.lt_space.specs.Formula.{holds};
+ghost use Rattle.lt_propagation.specs.Domains.{AreDomains};
+ghost use Rattle.lt_propagation.specs.Ties.{AreTies};
+ghost use Rattle.lt_propagation.specs.Kleene.{Agrees};
+ghost use Rattle.lt_propagation.specs.Wide.{Keeps, wide};
+ghost use Rattle.lt_propagation.specs.inner.Demands.{Knows};
+
+use crate::comparing::{lower_comparison, raise_comparison};
+use crate::evaluation::evaluate_flag;
+use crate::kleene::Kleene;
+use crate::narrowing::{demand, kleene_at, narrow};
+use crate::tying::tie_all;
+use lt_num::Range;
+use lt_space::{Circuit, Gate};
+
+// How often the gates are gone through at most.
+const MOST_PASSES: u32 = 8;
+
+/// Narrows a box by what the gates say, and says whether it may have wide points.
+pub fn propagate(
+    circuit: &Circuit,
+    same: &[u32],
+    root: u32,
+    decimals: u32,
+    count: usize,
+    ranges: &mut [Range],
+) -> bool
+    requires ties { AreTies circuit.now same.now }
+    requires root { root < circuit_len circuit.now }
+    requires decimals { decimals ≤ most_decimals }
+    requires long { length ranges.old ≡ count + circuit_len circuit.now }
+    requires domains { AreDomains ranges.old }
+    ensures keeps { Keeps decimals circuit.now result ranges.old ranges.new }
+    ensures narrower { IsNarrower ranges.old ranges.new }
+    ensures domains { AreDomains ranges.new }
+{
+    for _ in 0..MOST_PASSES {
+        let mut changed = false;
+        if !raise_and_tie(circuit, same, root, decimals, count, ranges, &mut changed) {
+            return false;
+        }
+        if !lower_all(circuit, root, decimals, count, ranges, &mut changed) {
+            return false;
+        }
+        if !changed {
+            return true;
+        }
+    }
+    true
+}
+
+// Narrows the signs of all gates up to one, parts before wholes, and then those that are equal by each other.
+fn raise_and_tie(
+    circuit: &Circuit,
+    same: &[u32],
+    root: u32,
+    decimals: u32,
+    count: usize,
+    ranges: &mut [Range],
+    changed: &mut bool,
+) -> bool
+    requires ties { AreTies circuit.now same.now }
+    requires root { root < circuit_len circuit.now }
+    requires decimals { decimals ≤ most_decimals }
+    requires long { length ranges.old ≡ count + circuit_len circuit.now }
+    requires domains { AreDomains ranges.old }
+    ensures keeps { Keeps decimals circuit.now result ranges.old ranges.new }
+    ensures narrower { IsNarrower ranges.old ranges.new }
+    ensures domains { AreDomains ranges.new }
+{
+    if !raise_all(circuit, root, decimals, count, ranges, changed) {
+        return false;
+    }
+    tie_all(circuit, same, decimals, count, ranges, changed)
+}
+
+// Narrows the signs of all gates up to one, parts before wholes.
+fn raise_all(
+    circuit: &Circuit,
+    root: u32,
+    decimals: u32,
+    count: usize,
+    ranges: &mut [Range],
+    changed: &mut bool,
+) -> bool
+    requires root { root < circuit_len circuit.now }
+    requires decimals { decimals ≤ most_decimals }
+    requires long { length ranges.old ≡ count + circuit_len circuit.now }
+    requires domains { AreDomains ranges.old }
+    ensures keeps { Keeps decimals circuit.now result ranges.old ranges.new }
+    ensures narrower { IsNarrower ranges.old ranges.new }
+    ensures domains { AreDomains ranges.new }
+{
+    for number in 0..root {
+        if !raise_gate(circuit, number, decimals, count, ranges, changed) {
+            return false;
+        }
+    }
+    raise_gate(circuit, root, decimals, count, ranges, changed)
+}
+
+// Narrows by the signs of all gates from one down, wholes before parts.
+fn lower_all(
+    circuit: &Circuit,
+    root: u32,
+    decimals: u32,
+    count: usize,
+    ranges: &mut [Range],
+    changed: &mut bool,
+) -> bool
+    requires root { root < circuit_len circuit.now }
+    requires decimals { decimals ≤ most_decimals }
+    requires long { length ranges.old ≡ count + circuit_len circuit.now }
+    requires domains { AreDomains ranges.old }
+    ensures keeps { Keeps decimals circuit.now result ranges.old ranges.new }
+    ensures narrower { IsNarrower ranges.old ranges.new }
+    ensures domains { AreDomains ranges.new }
+{
+    let mut number = root;
+    'gates: loop {
+        if !lower_gate(circuit, number, decimals, count, ranges, changed) {
+            return false;
+        }
+        if number == 0 {
+            return true;
+        }
+        number -= 1;
+    }
+}
+
+// Narrows the sign of a gate by what is known of its parts.
+fn raise_gate(
+    circuit: &Circuit,
+    number: u32,
+    decimals: u32,
+    count: usize,
+    ranges: &mut [Range],
+    changed: &mut bool,
+) -> bool
+    requires within { number < circuit_len circuit.now }
+    requires decimals { decimals ≤ most_decimals }
+    requires long { length ranges.old ≡ count + circuit_len circuit.now }
+    requires domains { AreDomains ranges.old }
+    ensures keeps { Keeps decimals circuit.now result ranges.old ranges.new }
+    ensures narrower { IsNarrower ranges.old ranges.new }
+    ensures domains { AreDomains ranges.new }
+{
+    if let Gate::Compare { .. } = circuit.gate(number) {
+        return raise_comparison(circuit, number, decimals, count, ranges, changed);
+    }
+    let kleene = evaluate_parts(circuit, number, count, ranges);
+    demand(circuit, number, kleene, count, ranges, changed)
+}
+
+// What is known of a gate by what is known of its parts, but for a comparison.
+fn evaluate_parts(circuit: &Circuit, number: u32, count: usize, ranges: &[Range]) -> Kleene
+    requires within { number < circuit_len circuit.now }
+    requires long { length ranges.now ≡ count + circuit_len circuit.now }
+    ensures { Knows circuit.now ranges.now result number }
+{
+    match circuit.gate(number) {
+        Gate::Truth(truth) => Kleene::of(truth),
+        Gate::Flag(variable) => evaluate_flag(range_within(ranges, count, variable)),
+        Gate::Compare { .. } => Kleene::Unknown,
+        Gate::Not(part) => kleene_at(circuit, part, count, ranges).not(),
+        Gate::And(left, right) => {
+            let first = kleene_at(circuit, left, count, ranges);
+            first.and(kleene_at(circuit, right, count, ranges))
+        }
+        Gate::Or(left, right) => {
+            let first = kleene_at(circuit, left, count, ranges);
+            first.or(kleene_at(circuit, right, count, ranges))
+        }
+        Gate::Xor(left, right) => {
+            let first = kleene_at(circuit, left, count, ranges);
+            first.xor(kleene_at(circuit, right, count, ranges))
+        }
+        Gate::If(condition, first, second) => {
+            let kleene = kleene_at(circuit, condition, count, ranges);
+            let one = kleene_at(circuit, first, count, ranges);
+            kleene.choose(one, kleene_at(circuit, second, count, ranges))
+        }
+    }
+}
+
+// Narrows the signs of a gate's parts, or the ranges of its variables, by what is known of the gate.
+fn lower_gate(
+    circuit: &Circuit,
+    number: u32,
+    decimals: u32,
+    count: usize,
+    ranges: &mut [Range],
+    changed: &mut bool,
+) -> bool
+    requires within { number < circuit_len circuit.now }
+    requires decimals { decimals ≤ most_decimals }
+    requires long { length ranges.old ≡ count + circuit_len circuit.now }
+    requires domains { AreDomains ranges.old }
+    ensures keeps { Keeps decimals circuit.now result ranges.old ranges.new }
+    ensures narrower { IsNarrower ranges.old ranges.new }
+    ensures domains { AreDomains ranges.new }
+{
+    let whole = kleene_at(circuit, number, count, ranges);
+    match circuit.gate(number) {
+        Gate::Truth(_) => true,
+        Gate::Flag(variable) => lower_flag(variable, whole, count, ranges, changed),
+        Gate::Compare { .. } => lower_comparison(circuit, number, decimals, count, ranges, changed),
+        Gate::Not(part) => demand(circuit, part, whole.not(), count, ranges, changed),
+        Gate::And(left, right) => {
+            let first = whole.part_of_both(kleene_at(circuit, right, count, ranges));
+            let second = whole.part_of_both(kleene_at(circuit, left, count, ranges));
+            demand_two(circuit, left, first, right, second, count, ranges, changed)
+        }
+        Gate::Or(left, right) => {
+            let first = whole.part_of_either(kleene_at(circuit, right, count, ranges));
+            let second = whole.part_of_either(kleene_at(circuit, left, count, ranges));
+            demand_two(circuit, left, first, right, second, count, ranges, changed)
+        }
+        Gate::Xor(left, right) => {
+            let first = whole.xor(kleene_at(circuit, right, count, ranges));
+            let second = whole.xor(kleene_at(circuit, left, count, ranges));
+            demand_two(circuit, left, first, right, second, count, ranges, changed)
+        }
+        Gate::If(condition, first, second) => {
+            let is = kleene_at(circuit, condition, count, ranges);
+            let first_differs = whole.xor(kleene_at(circuit, first, count, ranges));
+            let second_differs = whole.xor(kleene_at(circuit, second, count, ranges));
+            demand(
+                circuit,
+                condition,
+                first_differs.condition(second_differs),
+                count,
+                ranges,
+                changed,
+            ) && demand_two(
+                circuit,
+                first,
+                is.then(whole),
+                second,
+                is.not().then(whole),
+                count,
+                ranges,
+                changed,
+            )
+        }
+    }
+}
+
+// Narrows the signs of two gates to what is known of them.
+fn demand_two(
+    circuit: &Circuit,
+    left: u32,
+    first: Kleene,
+    right: u32,
+    second: Kleene,
+    count: usize,
+    ranges: &mut [Range],
+    changed: &mut bool,
+) -> bool
+    requires left { left < circuit_len circuit.now }
+    requires right { right < circuit_len circuit.now }
+    requires long { length ranges.old ≡ count + circuit_len circuit.now }
+    requires domains { AreDomains ranges.old }
+    ensures keeps { (decimals : ℕ) (values : List ℤ) →
+        IsPointOf ranges.old (wide decimals circuit.now values) →
+        Agrees first (holds decimals values (formula_at (circuit_formulas circuit.now) left)) →
+        Agrees second (holds decimals values (formula_at (circuit_formulas circuit.now) right)) →
+        Where result (IsPointOf ranges.new (wide decimals circuit.now values)) }
+    ensures narrower { IsNarrower ranges.old ranges.new }
+    ensures domains { AreDomains ranges.new }
+{
+    if !demand(circuit, left, first, count, ranges, changed) {
+        return false;
+    }
+    demand(circuit, right, second, count, ranges, changed)
+}
+
+// Narrows the range of a variable by what is known of it as a flag.
+fn lower_flag(
+    variable: u32,
+    whole: Kleene,
+    count: usize,
+    ranges: &mut [Range],
+    changed: &mut bool,
+) -> bool
+    requires count { count ≤ length ranges.old }
+    requires domains { AreDomains ranges.old }
+    ensures keeps { (values : List ℤ) → IsPointOf ranges.old values →
+        (variable < count →
+        Agrees whole (not (int_eq (slice_index_or values variable (pos 0)) (pos 0)))) →
+        Where result (IsPointOf ranges.new values) }
+    ensures narrower { IsNarrower ranges.old ranges.new }
+    ensures domains { AreDomains ranges.new }
+{
+    let place = variable as usize;
+    if place >= count {
+        return true;
+    }
+    let range = ranges[place];
+    match whole {
+        Kleene::True => narrow(ranges, place, not_zero(range), changed),
+        Kleene::False => narrow(ranges, place, Range { low: 0, high: 0 }, changed),
+        Kleene::Unknown => true,
+    }
+}
+
+// A range without 0, where that is one of its ends.
+fn not_zero(range: Range) -> Range
+    ensures { (value : ℤ) → range.low ≤ℤ value → value ≤ℤ range.high → value ≢ pos 0 →
+        (result.low ≤ℤ value) × (value ≤ℤ result.high) }
+{
+    if range.low == 0 {
+        Range {
+            low: 1,
+            high: range.high,
+        }
+    } else if range.high == 0 {
+        Range {
+            low: range.low,
+            high: -1,
+        }
+    } else {
+        range
+    }
+}
+
+/// The range of a variable; where there is none, it has 0 alone.
+pub(crate) fn range_within(ranges: &[Range], count: usize, variable: u32) -> Range
+    requires { count ≤ length ranges.now }
+    ensures { result ≡ range_at (take count ranges.now) variable }
+{
+    if (variable as usize) < count {
+        ranges[variable as usize]
+    } else {
+        Range { low: 0, high: 0 }
+    }
+}

@@ -1,0 +1,151 @@
+//! A search for a reason why a box has no solution: boxes of wide points are narrowed and split, in any order.
+
+ghost use Rattle.std.specs.Prelude.{◌≡◌, ◌<◌, ◌≤◌, ◌+◌, ◌-◌, ◌*◌, ◌++◌, ◌+ℤ◌, ◌≤ℤ◌, ◌<ℤ◌, ℕ, Bool, List, ℤ, drop, take, length, pos, true, false, slice_set, vec_len, vec_capacity};
+ghost use Rattle.lt_bounds.specs.Ranges.{IsNarrower, range_at};
+ghost use Rattle.lt_formula.specs.Solution.{IsPointOf};
+ghost use Rattle.lt_num.specs.Bounds.{most_decimals};
+ghost use Rattle.lt_num.specs.declared.range.Range.{Range};
+ghost use Rattle.lt_space.specs.CircuitView.{circuit_len};
+ghost use Rattle.lt_propagation.specs.Domains.{AreDomains};
+ghost use Rattle.lt_propagation.specs.Ties.{AreTies};
+ghost use Rattle.lt_propagation.specs.Wide.{wide};
+ghost use Rattle.lt_propagation.specs.inner.Choices.{IsChoice, IsSplitAt};
+
+use crate::choosing::{Choice, choose};
+use crate::kleene::Kleene;
+use crate::propagating::propagate;
+use lt_num::Range;
+use lt_space::Circuit;
+
+/// Room for a search for a reason.
+#[derive(Drop)]
+pub struct Room {
+    /// The box at hand.
+    pub current: Vec<Range>,
+
+    /// The boxes that are left.
+    pub stack: Vec<Range>,
+
+    /// A truth value of each gate.
+    pub kleenes: Vec<Kleene>,
+}
+
+/// Whether it was found out, in so many steps, that a box has no wide point. Where this is false, nothing is known.
+pub fn refute(
+    circuit: &Circuit,
+    same: &[u32],
+    root: u32,
+    decimals: u32,
+    hard: &[bool],
+    room: &mut Room,
+    steps: u64,
+) -> bool
+    requires ties { AreTies circuit.now same.now }
+    requires root { root < circuit_len circuit.now }
+    requires decimals { decimals ≤ most_decimals }
+    requires long { length room.old.current.items ≡ length hard.now + circuit_len circuit.now }
+    requires domains { AreDomains room.old.current.items }
+    requires kleenes { circuit_len circuit.now ≤ vec_capacity room.old.kleenes }
+    ensures refuted { result ≡ true → (values : List ℤ) →
+        IsPointOf room.old.current.items (wide decimals circuit.now values) → ⊥ }
+    ensures stack { vec_capacity room.old.stack ≤ vec_capacity room.new.stack }
+    ensures current { length room.new.current.items ≡ length room.old.current.items }
+    ensures capacity { vec_capacity room.new.current ≡ vec_capacity room.old.current }
+    ensures kleenes { vec_capacity room.new.kleenes ≡ vec_capacity room.old.kleenes }
+{
+    search(
+        circuit,
+        same,
+        root,
+        decimals,
+        hard,
+        &mut room.current,
+        &mut room.stack,
+        &mut room.kleenes,
+        steps,
+    )
+}
+
+fn search(
+    circuit: &Circuit,
+    same: &[u32],
+    root: u32,
+    decimals: u32,
+    hard: &[bool],
+    current: &mut [Range],
+    stack: &mut Vec<Range>,
+    kleenes: &mut Vec<Kleene>,
+    steps: u64,
+) -> bool
+    requires ties { AreTies circuit.now same.now }
+    requires root { root < circuit_len circuit.now }
+    requires decimals { decimals ≤ most_decimals }
+    requires long { length current.old ≡ length hard.now + circuit_len circuit.now }
+    requires domains { AreDomains current.old }
+    requires kleenes { circuit_len circuit.now ≤ vec_capacity kleenes.old }
+    ensures refuted { result ≡ true → (values : List ℤ) →
+        IsPointOf current.old (wide decimals circuit.now values) → ⊥ }
+    ensures stack { vec_capacity stack.old ≤ vec_capacity stack.new }
+    ensures kleenes { vec_capacity kleenes.new ≡ vec_capacity kleenes.old }
+{
+    stack.clear();
+    let mut height: usize = 0;
+    let mut left = steps;
+    'boxes: loop {
+        if left == 0 {
+            return false;
+        }
+        left -= 1;
+        if propagate(circuit, same, root, decimals, hard.len(), current) {
+            let Some(choice) = choose(circuit, root, hard, current, kleenes) else {
+                return false;
+            };
+            if stack.capacity() - stack.len() < current.len() {
+                return false;
+            }
+            split_at(choice, current, stack);
+            height += 1;
+        } else {
+            if height == 0 {
+                return true;
+            }
+            take_box(current, stack);
+            height -= 1;
+        }
+    }
+}
+
+// Splits a box at a place: the numbers up to one, and those behind it, which are put on a stack in reserved room.
+fn split_at(choice: Choice, current: &mut [Range], stack: &mut Vec<Range>)
+    requires choice { IsChoice current.old choice }
+    requires domains { AreDomains current.old }
+    requires room { vec_len stack.old + length current.old ≤ vec_capacity stack.old }
+    ensures parted { IsSplitAt choice current.old current.new stack.old.items stack.new.items }
+    ensures len { vec_len stack.new ≡ vec_len stack.old + length current.old }
+    ensures capacity { vec_capacity stack.old ≤ vec_capacity stack.new }
+{
+    let range = current[choice.place];
+    current[choice.place] = Range {
+        low: choice.last + 1,
+        high: range.high,
+    };
+    stack.extend_from_slice(current).unwrap();
+    current[choice.place] = Range {
+        low: range.low,
+        high: choice.last,
+    };
+}
+
+// Takes the box that is on top of a stack.
+fn take_box(current: &mut [Range], stack: &mut Vec<Range>)
+    requires { length current.old ≤ vec_len stack.old }
+    ensures current { current.new ≡ drop (vec_len stack.old - length current.old) stack.old.items }
+    ensures stack { stack.new.items ≡
+        take (vec_len stack.old - length current.old) stack.old.items }
+    ensures len { vec_len stack.new ≡ vec_len stack.old - length current.old }
+    ensures capacity { vec_capacity stack.new ≡ vec_capacity stack.old }
+{
+    let start = stack.len() - current.len();
+    current.copy_from_slice(&stack[start..]);
+    stack.truncate(start);
+}

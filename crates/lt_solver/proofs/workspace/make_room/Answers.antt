@@ -1,0 +1,12 @@
+use Rattle.std.proofs.Common.{rules}
+use Rattle.lt_solver.proofs.workspace.make_room.Goals as goal
+
+pub returns-clause-roomy : goal.returns-clause-roomy
+returns-clause-roomy c = record {
+  current = search rules;
+  stack = search rules;
+  wide = search rules;
+  latest = search rules;
+  same = search rules;
+  hard = search rules;
+}
