@@ -7,6 +7,7 @@ ghost use Rattle.lt_num.specs.Bounds.{most_decimals};
 ghost use Rattle.lt_space.specs.CircuitView.{circuit_len};
 ghost use Rattle.lt_propagation.specs.Domains.{AreDomains};
 ghost use Rattle.lt_propagation.specs.Ties.{AreTies};
+ghost use Rattle.lt_propagation.specs.Wide.{Keeps};
 ghost use Rattle.lt_solver.specs.inner.Points.{AreFixed, first_raw};
 ghost use Rattle.lt_solver.specs.inner.Dive.{Covers, Leads, test_of};
 
@@ -38,12 +39,46 @@ pub(crate) fn dive(
     ensures domains { AreDomains ranges.new }
 {
     for i in 0..targets.len() {
+        let was_fixed = ranges[i].low == ranges[i].high;
         fix(i, targets[i], ranges);
-        if !propagate(circuit, same, root, decimals, targets.len(), ranges) {
+        if !propagate_fixed(
+            circuit,
+            same,
+            root,
+            decimals,
+            targets.len(),
+            was_fixed,
+            ranges,
+        ) {
             return false;
         }
     }
     true
+}
+
+// Narrows a box in which a variable was fixed; where it had one number before, nothing new follows.
+fn propagate_fixed(
+    circuit: &Circuit,
+    same: &[u32],
+    root: u32,
+    decimals: u32,
+    count: usize,
+    was_fixed: bool,
+    ranges: &mut [Range],
+) -> bool
+    requires ties { AreTies circuit.now same.now }
+    requires root { root < circuit_len circuit.now }
+    requires decimals { decimals ≤ most_decimals }
+    requires long { length ranges.old ≡ count + circuit_len circuit.now }
+    requires domains { AreDomains ranges.old }
+    ensures keeps { Keeps decimals circuit.now result ranges.old ranges.new }
+    ensures narrower { IsNarrower ranges.old ranges.new }
+    ensures domains { AreDomains ranges.new }
+{
+    if was_fixed {
+        return true;
+    }
+    propagate(circuit, same, root, decimals, count, ranges)
 }
 
 // Fixes a variable at its first number.

@@ -18,8 +18,8 @@ loop-i-init c = record {
   domains = c.requires.domains;
 }
 
-pub propagate-requires-clause-domains : goal.propagate-requires-clause-domains
-propagate-requires-clause-domains c =
+pub propagate_fixed-requires-clause-domains : goal.propagate_fixed-requires-clause-domains
+propagate_fixed-requires-clause-domains c =
     let s = c.loop-i.invariant in
     let i = c.loop-i.i in
     let targets = c.args.targets.now in
@@ -30,8 +30,8 @@ propagate-requires-clause-domains c =
     let n = fix_narrower c.args.decimals c.args.circuit.now c.args.root targets now i v c.loop-i-test.true long s.domains refl in
     domains_narrower now c.fix.new.ranges s.domains (subst (λ (rs : List Range). IsNarrower now rs) (sym (rw cast at c.fix.ensures.fixed)) n)
 
-pub returns-then-not-propagate-clause-narrower : goal.returns-then-not-propagate-clause-narrower
-returns-then-not-propagate-clause-narrower c =
+pub returns-then-not-propagate_fixed-clause-narrower : goal.returns-then-not-propagate_fixed-clause-narrower
+returns-then-not-propagate_fixed-clause-narrower c =
     let s = c.loop-i.invariant in
     let i = c.loop-i.i in
     let targets = c.args.targets.now in
@@ -40,7 +40,7 @@ returns-then-not-propagate-clause-narrower c =
     let v = first_raw (get_or targets i (pos 0)) (range_at now i) in
     let long : length targets ≤ length now = omega (arith, c.requires.long, narrower_length c.args.ranges.now now s.narrower) in
     let n = subst (λ (rs : List Range). IsNarrower now rs) (sym (rw cast at c.fix.ensures.fixed)) (fix_narrower c.args.decimals c.args.circuit.now c.args.root targets now i v c.loop-i-test.true long s.domains refl) in
-    narrower_more c.args.ranges.now c.fix.new.ranges c.propagate.new.ranges (narrower_more c.args.ranges.now now c.fix.new.ranges s.narrower n) c.propagate.ensures.narrower
+    narrower_more c.args.ranges.now c.fix.new.ranges c.propagate_fixed.new.ranges (narrower_more c.args.ranges.now now c.fix.new.ranges s.narrower n) c.propagate_fixed.ensures.narrower
 
 pub loop-i-preserved : goal.loop-i-preserved
 loop-i-preserved c =
@@ -51,18 +51,18 @@ loop-i-preserved c =
     let i = c.loop-i.i in
     let targets = c.args.targets.now in
     let now = c.loop-i.ranges in
-    let new = c.propagate.new.ranges in
+    let new = c.propagate_fixed.new.ranges in
     let cast : to_z w64 (of_z w64 (get_or targets i (pos 0))) ≡ get_or targets i (pos 0) = search rules in
     let v = first_raw (get_or targets i (pos 0)) (range_at now i) in
     let is : c.fix.new.ranges ≡ set now i (record { low = v; high = v }) = rw cast at c.fix.ensures.fixed in
     let long : length targets ≤ length now = omega (arith, c.requires.long, narrower_length c.args.ranges.now now s.narrower) in
     let n = subst (λ (rs : List Range). IsNarrower now rs) (sym is) (fix_narrower d circuit root targets now i v c.loop-i-test.true long s.domains refl) in
-    let m = subst (λ (rs : List Range). IsNarrower rs new) is c.propagate.ensures.narrower in
-    let kept = λ (values : List ℤ) (p : IsPointOf (set now i (record { low = v; high = v })) (wide d circuit values)). subst (λ (b : Bool). Where b (IsPointOf new (wide d circuit values))) c.if-not-propagate.false (c.propagate.ensures.keeps values (subst (λ (rs : List Range). IsPointOf rs (wide d circuit values)) (sym is) p)) in
+    let m = subst (λ (rs : List Range). IsNarrower rs new) is c.propagate_fixed.ensures.narrower in
+    let kept = λ (values : List ℤ) (p : IsPointOf (set now i (record { low = v; high = v })) (wide d circuit values)). subst (λ (b : Bool). Where b (IsPointOf new (wide d circuit values))) c.if-not-propagate_fixed.false (c.propagate_fixed.ensures.keeps values (subst (λ (rs : List Range). IsPointOf rs (wide d circuit values)) (sym is) p)) in
     rw add-one (record {
       leads = λ x h. s.leads x (propagated_leads d circuit root targets now i v c.loop-i-test.true long s.domains refl new m kept s.covers s.fixed x h);
       covers = propagated_covers d circuit root targets now i v c.loop-i-test.true long s.domains refl new m kept s.covers;
       fixed = propagated_fixed d circuit root targets now i v c.loop-i-test.true long s.domains refl new m kept s.fixed;
-      narrower = narrower_more c.args.ranges.now c.fix.new.ranges new (narrower_more c.args.ranges.now now c.fix.new.ranges s.narrower n) c.propagate.ensures.narrower;
-      domains = c.propagate.ensures.domains;
+      narrower = narrower_more c.args.ranges.now c.fix.new.ranges new (narrower_more c.args.ranges.now now c.fix.new.ranges s.narrower n) c.propagate_fixed.ensures.narrower;
+      domains = c.propagate_fixed.ensures.domains;
     })
