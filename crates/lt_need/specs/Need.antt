@@ -1,0 +1,154 @@
+-- The work that a search may need, as a number that is known before it.
+--
+-- Truths are absorbed first. There are three ways for each choice of the conjuncts, and the hard
+-- variables have so many points: the need is so many times 180, and that for each variable of the
+-- scope and once more.
+use Rattle.std.specs.Prelude.{ℕ, suc, ◌+◌, ◌*◌, ◌^◌, Bool, true, false, not, ◌&&◌, ◌||◌, nat_eq, nat_lt, if◌then◌else◌, List, [], ◌∷◌, ◌++◌, length, min, neg_ℤ}
+use Rattle.std.specs.List.{list_any}
+use Rattle.std.specs.Ordering.{int_eq}
+use Rattle.lt_linear.specs.Form.{Term}
+use Rattle.lt_num.specs.Range.{count_of}
+use Rattle.lt_num.specs.declared.range.Range.{Range}
+use Rattle.lt_space.specs.Absorbed.{absorbed, conjuncts}
+use Rattle.lt_space.specs.Formula.{Formula, atom, choice, conjunction, disjunction, exclusive, negation, truth}
+use Rattle.lt_space.specs.Need.{most_need}
+use Rattle.lt_space.specs.declared.formula.Atom.{Atom}
+use Rattle.lt_space.specs.declared.formula.Atom.TheVariants.{Compare, Flag}
+use Rattle.lt_space.specs.declared.formula.Relation.{Relation}
+use Rattle.lt_space.specs.declared.formula.Relation.TheVariants.{Below, Equal, NotAbove}
+
+-- Atoms are the same where they are the same data, whatever they mean.
+
+-- whether two relations are the same
+abbrev pub same_relation : Relation → Relation → Bool
+same_relation Below Below = true
+same_relation Below NotAbove = false
+same_relation Below Equal = false
+same_relation NotAbove Below = false
+same_relation NotAbove NotAbove = true
+same_relation NotAbove Equal = false
+same_relation Equal Below = false
+same_relation Equal NotAbove = false
+same_relation Equal Equal = true
+
+-- whether two lists have the same terms in the same order
+abbrev pub same_terms : List Term → List Term → Bool
+same_terms [] [] = true
+same_terms [] (t ∷ ts) = false
+same_terms (s ∷ ss) [] = false
+same_terms (s ∷ ss) (t ∷ ts) = (nat_eq s.0 t.0 && int_eq s.1 t.1) && same_terms ss ts
+
+-- whether two atoms are the same
+abbrev pub same_atom : Atom → Atom → Bool
+same_atom (Flag i) (Flag j) = nat_eq i j
+same_atom (Flag i) (Compare form relation) = false
+same_atom (Compare form relation) (Flag j) = false
+same_atom (Compare form relation) (Compare other by) =
+    same_relation relation by
+    && (int_eq form.constant other.constant && same_terms form.terms other.terms)
+
+-- Choices.
+
+-- the atoms of a formula, from left to right
+abbrev pub atoms_of : Formula → List Atom
+atoms_of (truth b) = []
+atoms_of (atom a) = a ∷ []
+atoms_of (negation f) = atoms_of f
+atoms_of (conjunction f g) = atoms_of f ++ atoms_of g
+atoms_of (disjunction f g) = atoms_of f ++ atoms_of g
+atoms_of (exclusive f g) = atoms_of f ++ atoms_of g
+atoms_of (choice f g h) = atoms_of f ++ (atoms_of g ++ atoms_of h)
+
+-- how many different ones there are
+abbrev pub count_different : List Atom → ℕ
+count_different [] = 0
+count_different (a ∷ more) =
+    if list_any (same_atom a) more then count_different more else suc (count_different more)
+
+-- the choices of a denial: 1 where numbers are to differ, and none of another atom alone; else one
+-- for each different atom
+abbrev pub choices_denied : Formula → ℕ
+choices_denied (atom (Flag i)) = 0
+choices_denied (atom (Compare form Below)) = 0
+choices_denied (atom (Compare form NotAbove)) = 0
+choices_denied (atom (Compare form Equal)) = 1
+choices_denied f = count_different (atoms_of f)
+
+-- the choices of a conjunct: none of an atom alone, and else one for each different atom
+abbrev pub choices_in : Formula → ℕ
+choices_in (atom a) = 0
+choices_in (negation f) = choices_denied f
+choices_in f = count_different (atoms_of f)
+
+-- the choices of all conjuncts
+abbrev pub choices_of : List Formula → ℕ
+choices_of [] = 0
+choices_of (f ∷ fs) = choices_in f + choices_of fs
+
+-- Hard variables.
+
+-- the terms of an atom that compares several variables
+abbrev pub several_terms : Atom → List Term
+several_terms (Flag i) = []
+several_terms (Compare form relation) = if nat_lt 1 (length form.terms) then form.terms else []
+
+-- whether a variable is in one of these terms
+abbrev pub has_variable : List Term → ℕ → Bool
+has_variable terms i = list_any (λ t. nat_eq t.0 i) terms
+
+-- whether these are one variable less another one, but for a factor
+abbrev pub is_difference : List Term → Bool
+is_difference [] = false
+is_difference (s ∷ []) = false
+is_difference (s ∷ t ∷ []) = int_eq s.1 (neg_ℤ t.1)
+is_difference (s ∷ t ∷ u ∷ ts) = false
+
+-- whether an atom is an equation
+abbrev pub is_equation : Atom → Bool
+is_equation (Flag i) = false
+is_equation (Compare form Below) = false
+is_equation (Compare form NotAbove) = false
+is_equation (Compare form Equal) = true
+
+-- whether another atom among these compares several variables, and one of them is in one of the
+-- terms
+abbrev pub is_shared : List Atom → Atom → Bool
+is_shared atoms a =
+    list_any (λ b. not (same_atom a b)
+    && list_any (λ t. has_variable (several_terms b) t.0) (several_terms a)) atoms
+
+-- Whether an atom is hard: it compares several variables, isn't a difference, and is an equation or
+-- shares a variable. The least point of an inequality that shares none is easily found.
+abbrev pub is_hard : List Atom → Atom → Bool
+is_hard atoms a =
+    not (is_difference (several_terms a)) && (is_equation a || is_shared atoms a)
+
+-- whether a variable is in a hard atom
+abbrev pub is_hard_variable : List Atom → ℕ → Bool
+is_hard_variable atoms i =
+    list_any (λ a. is_hard atoms a && has_variable (several_terms a) i) atoms
+
+-- how many points the hard ones have of these variables, of which the first has this number
+abbrev pub hard_points : List Atom → ℕ → List Range → ℕ
+hard_points atoms i [] = 1
+hard_points atoms i (range ∷ ranges) =
+    (if is_hard_variable atoms i then count_of range else 1) * hard_points atoms (suc i) ranges
+
+-- The need.
+
+-- how many variables a scope has, of which it has a mark for each
+abbrev pub variables_in : List Bool → ℕ
+variables_in [] = 0
+variables_in (true ∷ marks) = suc (variables_in marks)
+variables_in (false ∷ marks) = variables_in marks
+
+-- that of a formula whose truths are absorbed, before it stops
+abbrev pub whole_need : Formula → List Bool → List Range → ℕ
+whole_need f scope ranges =
+    180 * (variables_in scope + 1)
+    * (hard_points (atoms_of f) 0 ranges * 3 ^ choices_of (conjuncts f))
+
+-- The need of a search for values of the variables of a scope at which a formula holds: it stops at
+-- 2^127.
+abbrev pub need : Formula → List Bool → List Range → ℕ
+need f scope ranges = min (whole_need (absorbed f) scope ranges) most_need

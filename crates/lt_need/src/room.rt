@@ -1,0 +1,64 @@
+//! Room to measure needs in, taken once.
+
+ghost use Rattle.std.specs.Prelude.{◌≡◌, ◌≤◌, IfOk, length, vec_capacity};
+ghost use Rattle.lt_formula.specs.Limits.{most_variables};
+ghost use Rattle.lt_need.specs.inner.GatheringView.{HasRoom};
+
+use crate::faces::Face;
+use crate::gathering::Gathering;
+use std::alloc::{AllocError, Global};
+
+// How many variables a circuit may have.
+const MOST_VARIABLES: usize = 128;
+
+/// Room to measure needs in, and the marks of the hard variables that were found last.
+#[derive(Drop)]
+pub struct Room {
+    pub(crate) gates: usize,
+    pub(crate) faces: Vec<Face>,
+    pub(crate) weights: Vec<usize>,
+    pub(crate) gathering: Gathering,
+    pub(crate) owners: Vec<Option<u32>>,
+    pub(crate) shared: Vec<bool>,
+    pub(crate) hard: Vec<bool>,
+    ghost for_faces: { gates ≤ vec_capacity faces },
+    ghost for_weights: { gates ≤ vec_capacity weights },
+    ghost for_atoms: { HasRoom gates gathering },
+    ghost all_owners: { length owners.items ≡ most_variables },
+    ghost all_shared: { length shared.items ≡ most_variables },
+    ghost all_hard: { length hard.items ≡ most_variables },
+}
+
+impl Room {
+    ghost use Rattle.lt_need.specs.RoomView.{room_gates, room_hard};
+
+    /// Room for circuits of up to so many gates.
+    ///
+    /// # Errors
+    ///
+    /// Want of memory.
+    pub fn make(alloc: Global, gates: usize) -> Result<Room, AllocError>
+        ensures { IfOk result (λ room. room_gates room ≡ gates) }
+    {
+        Ok(Room {
+            gates,
+            faces: Vec::with_capacity(alloc, gates)?,
+            weights: Vec::with_capacity(alloc, gates)?,
+            gathering: Gathering {
+                marks: vec![in alloc; false; gates]?,
+                atoms: Vec::with_capacity(alloc, gates)?,
+                found: Vec::with_capacity(alloc, gates)?,
+            },
+            owners: vec![in alloc; None; MOST_VARIABLES]?,
+            shared: vec![in alloc; false; MOST_VARIABLES]?,
+            hard: vec![in alloc; false; MOST_VARIABLES]?,
+        })
+    }
+
+    /// Which variables are hard in the formula that was measured last, by their numbers. Before the first one none is.
+    pub fn hard(&self) -> &[bool]
+        ensures { result.now ≡ room_hard self.now }
+    {
+        &self.hard
+    }
+}
