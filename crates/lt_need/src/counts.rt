@@ -61,7 +61,8 @@ pub(crate) fn is_atom(gate: Gate) -> bool
 // Whether the atom of a gate is that of one of these.
 fn is_found(circuit: &Circuit, number: u32, found: &[u32]) -> bool
     requires { number < circuit_len circuit.now }
-    ensures { result ≡ is_among (own_atoms (formula_at (circuit_formulas circuit.now) number)) (found_atoms (circuit_formulas circuit.now) found.now) }
+    ensures { result ≡ is_among (own_atoms (formula_at (circuit_formulas circuit.now) number))
+        (found_atoms (circuit_formulas circuit.now) found.now) }
 {
     for place in 0..found.len() {
         if is_same(circuit, number, found[place]) {
@@ -74,7 +75,8 @@ fn is_found(circuit: &Circuit, number: u32, found: &[u32]) -> bool
 /// Whether two gates are the same atom; a second one that isn't there is none.
 pub(crate) fn is_same(circuit: &Circuit, left: u32, right: u32) -> bool
     requires { left < circuit_len circuit.now }
-    ensures { result ≡ is_among (own_atoms (formula_at (circuit_formulas circuit.now) left)) (own_atoms (formula_at (circuit_formulas circuit.now) right)) }
+    ensures { result ≡ is_among (own_atoms (formula_at (circuit_formulas circuit.now) left))
+        (own_atoms (formula_at (circuit_formulas circuit.now) right)) }
 {
     if right as usize >= circuit.len() {
         return false;
@@ -125,7 +127,9 @@ fn is_comparison(
     constant: i64,
 ) -> bool
     requires { is_within (length terms.now) gate ≡ true }
-    ensures { result ≡ list_any (same_atom (Compare (record { terms = own.now; constant = constant }) relation)) (own_of terms.now gate) }
+    ensures { result ≡ list_any
+        (same_atom (Compare (record { terms = own.now; constant = constant }) relation))
+        (own_of terms.now gate) }
 {
     match gate {
         Gate::Compare {
@@ -154,7 +158,9 @@ fn is_alike(
     left: &[(u32, i64)],
     right: &[(u32, i64)],
 ) -> bool
-    ensures { result ≡ same_atom (Compare (record { terms = left.now; constant = constant }) relation) (Compare (record { terms = right.now; constant = another }) other) }
+    ensures { result ≡ same_atom
+        (Compare (record { terms = left.now; constant = constant }) relation)
+        (Compare (record { terms = right.now; constant = another }) other) }
 {
     same_relation(relation, other) && (constant == another && same_terms(left, right))
 }

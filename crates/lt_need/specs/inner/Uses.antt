@@ -26,7 +26,8 @@ several_at formulas n = several_in (own_atoms (formula_at formulas n))
 
 -- whether two numbers have the same atom
 abbrev pub same_at : List Formula → ℕ → ℕ → Bool
-same_at formulas m n = is_among (own_atoms (formula_at formulas m)) (own_atoms (formula_at formulas n))
+same_at formulas m n =
+    is_among (own_atoms (formula_at formulas m)) (own_atoms (formula_at formulas n))
 
 -- a test of a number and of a variable that its atom compares with others
 abbrev pub UseTest : Type 0
@@ -48,15 +49,18 @@ IsOwned formulas used v (Some owner) shared =
     (used (λ n i. nat_eq i v && same_at formulas n owner) ≡ true)
     × (shared ≡ used (λ n i. nat_eq i v && not (same_at formulas n owner)))
 
--- where fewer uses pass, no more is found
+-- what is found by a test is found by each that more uses pass
 abbrev pub IsRising : (UseTest → Bool) → Type 0
 IsRising used =
     (less more : UseTest) → ((n i : ℕ) → less n i ≡ true → more n i ≡ true)
     → used less ≡ true → used more ≡ true
 
--- the owners of all variables, and which of these are shared
-pub record AreOwned (formulas : List Formula) (used : UseTest → Bool) (owners : List (Option ℕ)) (shared : List Bool) : Type 0 where
-  pub each : (v : ℕ) → v < most_variables → IsOwned formulas used v (slice_index_or owners v None) (slice_index_or shared v false)
+-- Each variable has its owner and its mark, and no variable is used beyond those that there may be.
+pub record AreOwned
+    (formulas : List Formula) (used : UseTest → Bool) (owners : List (Option ℕ))
+    (shared : List Bool) : Type 0 where
+  pub each : (v : ℕ) → v < most_variables
+      → IsOwned formulas used v (slice_index_or owners v None) (slice_index_or shared v false)
   pub few : used (λ n i. nat_le most_variables i) ≡ false
   pub rising : IsRising used
 
@@ -66,7 +70,8 @@ has_shared shared terms = list_any (λ t. slice_index_or shared t.0 false) terms
 
 -- whether an atom with these terms is hard
 abbrev pub is_hard_with : List Bool → List Term → Bool → Bool
-is_hard_with shared terms equation = not (is_difference terms) && (equation || has_shared shared terms)
+is_hard_with shared terms equation =
+    not (is_difference terms) && (equation || has_shared shared terms)
 
 -- whether the atom of a number is, by which variables are shared
 abbrev pub is_hard_at : List Formula → List Bool → ℕ → Bool
