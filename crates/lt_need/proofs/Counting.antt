@@ -242,16 +242,6 @@ fits_within count n (gate.Or a b) h = refl
 fits_within count n (gate.Xor a b) h = refl
 fits_within count n (gate.If a b c) h = refl
 
-among_none : (xs : List Atom) → is_among xs [] ≡ false
-among_none [] = refl
-among_none (x ∷ xs) = refl
-
--- a number that no gate has
-pub beyond_none : (fs : List Formula) (n : ℕ) (own : List Atom) → length fs ≤ n → is_among own (own_atoms (formula_at fs n)) ≡ false
-beyond_none [] n own l = among_none own
-beyond_none (f ∷ fs) zero own l = absurd (omega (arith, l))
-beyond_none (f ∷ fs) (suc n) own l = beyond_none fs n own (omega (arith, l))
-
 -- a gate that is noted, or isn't an atom, or was noted before
 module _ (fs : List Formula) (terms : List Term) (ks : List ℕ) (n : ℕ) (g : Gate) (is : formula_at fs n ≡ gate_formula terms fs g) where
   none_own : (g : Gate) → is_atom g ≡ false → own_atoms (gate_formula terms fs g) ≡ []
@@ -332,15 +322,6 @@ module _ (fs : List Formula) (terms : List Term) (ks : List ℕ) (n : ℕ) (g : 
       by_test false e = ap (found_atoms fs) (append-nil ks) ∙ sym (append-nil (found_atoms fs ks)) ∙ ap (λ (xs : List Atom). found_atoms fs ks ++ xs) (sym (ap own_atoms is ∙ none_own g e))
 
 -- Numbers up to a place.
-
-beyond_own : (fs : List Formula) (n : ℕ) → length fs ≤ n → own_atoms (formula_at fs n) ≡ []
-beyond_own [] n l = refl
-beyond_own (f ∷ fs) zero l = absurd (omega (arith, l))
-beyond_own (f ∷ fs) (suc n) l = beyond_own fs n (omega (arith, l))
-
--- a number that no gate has
-pub beyond_noted : (fs : List Formula) (ks : List ℕ) (n : ℕ) → length fs ≤ n → HaveSame (found_atoms fs ks) (found_atoms fs ks ++ own_atoms (formula_at fs n))
-beyond_noted fs ks n l p = ap (list_any p) (sym (ap (λ (xs : List Atom). found_atoms fs ks ++ xs) (beyond_own fs n l) ∙ append-nil (found_atoms fs ks)))
 
 pub noted_step : (fs : List Formula) (ns : List ℕ) (i d : ℕ) (old new : List Atom) → i < length ns → HaveSame old (found_atoms fs (take i ns))
     → HaveSame new (old ++ own_atoms (formula_at fs (get_or ns i d))) → HaveSame new (found_atoms fs (take (i + 1) ns))

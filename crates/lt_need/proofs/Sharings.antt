@@ -13,7 +13,7 @@ use Rattle.lt_space.specs.declared.formula.Atom.{Atom}
 use Rattle.lt_need.specs.Need.{has_variable, is_difference, is_equation, is_hard, is_hard_variable, is_shared, same_atom, several_terms}
 use Rattle.lt_need.specs.inner.Counts.{found_atoms, is_among}
 use Rattle.lt_need.specs.inner.Marks.{own_atoms}
-use Rattle.lt_need.specs.inner.Uses.{AreOwned, IsOwned, IsRising, UseTest, equation_in, has_shared, is_hard_among, is_hard_at, is_hard_with, is_used, passes_some, same_at, several_at, several_in}
+use Rattle.lt_need.specs.inner.Uses.{AreOwned, AreOwners, IsOwned, IsRising, UseTest, equation_in, has_shared, is_hard_among, is_hard_at, is_hard_with, is_used, passes_some, same_at, several_at, several_in}
 use Rattle.lt_need.proofs.Counting.{atom_same, same_atom_is}
 
 -- Tests.
@@ -291,6 +291,15 @@ number_more fs ns i d owners shared l known =
 
 pub numbers_whole : (fs : List Formula) (ns : List ℕ) (i : ℕ) (owners : List (Option ℕ)) (shared : List Bool) → length ns ≤ i → AreOwned fs (is_used fs (take i ns)) owners shared → AreOwned fs (is_used fs ns) owners shared
 numbers_whole fs ns i owners shared l known = subst (λ (ks : List ℕ). AreOwned fs (is_used fs ks) owners shared) (take_all i ns l) known
+
+-- no owners
+none_owner : (n v : ℕ) (absent : Option ℕ) → get_or (replicate n absent) v absent ≡ absent
+none_owner zero v absent = refl
+none_owner (suc n) zero absent = refl
+none_owner (suc n) (suc v) absent = none_owner n v absent
+
+pub none_owned : (count n : ℕ) (owners : List (Option ℕ)) → owners ≡ replicate n None → AreOwners count owners
+none_owned count n owners is v owner e = let wrong : None ≡ Some owner = sym (ap (λ (os : List (Option ℕ)). get_or os v None) is ∙ none_owner n v None) ∙ e in absurd (cc)
 
 -- What shared variables say of atoms.
 

@@ -7,13 +7,14 @@ ghost use Rattle.lt_space.specs.Circuit.{formula_at};
 ghost use Rattle.lt_space.specs.CircuitView.{circuit_formulas, circuit_len};
 ghost use Rattle.lt_space.specs.declared.formula.Atom.TheVariants.{Compare, Flag};
 ghost use Rattle.lt_need.specs.Need.{count_different, same_atom, same_relation, same_terms};
-ghost use Rattle.lt_need.specs.inner.Counts.{found_atoms, is_among, is_atom, is_within, own_of};
+ghost use Rattle.lt_need.specs.inner.Counts.{AreGates, found_atoms, is_among, is_atom, is_within, own_of};
 ghost use Rattle.lt_need.specs.inner.Marks.{HaveSame, own_atoms};
 
 use lt_space::{Circuit, Gate, Relation};
 
 /// How many different atoms gates have, in reserved room.
 pub(crate) fn count_atoms(circuit: &Circuit, atoms: &[u32], found: &mut Vec<u32>) -> usize
+    requires gates { AreGates (circuit_len circuit.now) atoms.now }
     requires room { length atoms.now ≤ vec_capacity found.old }
     ensures count { result ≡ count_different
         (found_atoms (circuit_formulas circuit.now) atoms.now) }
@@ -26,8 +27,10 @@ pub(crate) fn count_atoms(circuit: &Circuit, atoms: &[u32], found: &mut Vec<u32>
     found.len()
 }
 
-// Notes a gate, if it is an atom that isn't noted yet; one that isn't there is none.
+// Notes a gate, if it is an atom that isn't noted yet.
 fn note(circuit: &Circuit, number: u32, found: &mut Vec<u32>)
+    requires within { number < circuit_len circuit.now }
+    requires gates { AreGates (circuit_len circuit.now) found.old.items }
     requires room { vec_len found.old < vec_capacity found.old }
     ensures atoms { HaveSame (found_atoms (circuit_formulas circuit.now) found.new.items)
         (found_atoms (circuit_formulas circuit.now) found.old.items ++
@@ -36,12 +39,10 @@ fn note(circuit: &Circuit, number: u32, found: &mut Vec<u32>)
         found.old.items) ≡ length found.old.items →
         count_different (found_atoms (circuit_formulas circuit.now) found.new.items) ≡
         length found.new.items }
+    ensures gates { AreGates (circuit_len circuit.now) found.new.items }
     ensures len { length found.new.items ≤ suc (length found.old.items) }
     ensures room { vec_capacity found.new ≡ vec_capacity found.old }
 {
-    if number as usize >= circuit.len() {
-        return;
-    }
     if !is_atom(circuit.gate(number)) {
         return;
     }
@@ -60,7 +61,8 @@ pub(crate) fn is_atom(gate: Gate) -> bool
 
 // Whether the atom of a gate is that of one of these.
 fn is_found(circuit: &Circuit, number: u32, found: &[u32]) -> bool
-    requires { number < circuit_len circuit.now }
+    requires within { number < circuit_len circuit.now }
+    requires gates { AreGates (circuit_len circuit.now) found.now }
     ensures { result ≡ is_among (own_atoms (formula_at (circuit_formulas circuit.now) number))
         (found_atoms (circuit_formulas circuit.now) found.now) }
 {
@@ -72,15 +74,13 @@ fn is_found(circuit: &Circuit, number: u32, found: &[u32]) -> bool
     false
 }
 
-/// Whether two gates are the same atom; a second one that isn't there is none.
+/// Whether two gates are the same atom.
 pub(crate) fn is_same(circuit: &Circuit, left: u32, right: u32) -> bool
-    requires { left < circuit_len circuit.now }
+    requires left { left < circuit_len circuit.now }
+    requires right { right < circuit_len circuit.now }
     ensures { result ≡ is_among (own_atoms (formula_at (circuit_formulas circuit.now) left))
         (own_atoms (formula_at (circuit_formulas circuit.now) right)) }
 {
-    if right as usize >= circuit.len() {
-        return false;
-    }
     are_same(circuit.terms(), circuit.gate(left), circuit.gate(right))
 }
 

@@ -1,9 +1,9 @@
 //! The atoms that gates come down to once truths are absorbed.
 
-ghost use Rattle.std.specs.Prelude.{◌≡◌, ◌<◌, ◌≤◌, ◌++◌, min, suc, false, true, length, slice_set, vec_capacity, vec_len};
+ghost use Rattle.std.specs.Prelude.{◌≡◌, ◌<◌, ◌≤◌, ◌++◌, ℕ, min, suc, false, true, length, slice_set, vec_capacity, vec_len};
 ghost use Rattle.lt_space.specs.CircuitView.{circuit_formulas, circuit_len};
 ghost use Rattle.lt_need.specs.Need.{atoms_of};
-ghost use Rattle.lt_need.specs.inner.Counts.{found_atoms, noted};
+ghost use Rattle.lt_need.specs.inner.Counts.{AreGates, found_atoms, noted};
 ghost use Rattle.lt_need.specs.inner.Faces.{AreFaces, absorbed_at};
 ghost use Rattle.lt_need.specs.inner.Marks.{AreBetween, AreUnmarked, HaveSame, gathered, least_choice, least_own, least_part, open_atoms, with_choice, with_own, with_parts};
 
@@ -42,6 +42,7 @@ pub(crate) fn gather(
     requires room { from < vec_capacity atoms.old }
     ensures atoms { HaveSame (atoms_of (absorbed_at (circuit_formulas circuit.now) from))
         (found_atoms (circuit_formulas circuit.now) atoms.new.items) }
+    ensures gates { AreGates (circuit_len circuit.now) atoms.new.items }
     ensures few { length atoms.new.items ≤ suc from }
     ensures unmarked { AreUnmarked marks.new.items }
     ensures len { length marks.new.items ≡ length marks.old.items }
@@ -74,11 +75,13 @@ fn visit(
     requires few { length faces.now ≤ circuit_len circuit.now }
     requires marked { number < length marks.old.items }
     requires between { AreBetween low.old (suc number) marks.old.items }
+    requires gates { AreGates (circuit_len circuit.now) atoms.old.items }
     requires room { vec_len atoms.old < vec_capacity atoms.old }
     ensures atoms { HaveSame (found_atoms (circuit_formulas circuit.now) atoms.old.items ++
         gathered (open_atoms (circuit_formulas circuit.now) (suc number)) marks.old.items)
         (found_atoms (circuit_formulas circuit.now) atoms.new.items ++
         gathered (open_atoms (circuit_formulas circuit.now) number) marks.new.items) }
+    ensures gates { AreGates (circuit_len circuit.now) atoms.new.items }
     ensures few { length atoms.new.items ≤ suc (length atoms.old.items) }
     ensures between { AreBetween low.new number marks.new.items }
     ensures low { low.new ≤ low.old }
@@ -98,6 +101,8 @@ fn visit(
 fn note_atom(gate: Gate, number: u32, atoms: &mut Vec<u32>)
     requires { vec_len atoms.old < vec_capacity atoms.old }
     ensures items { atoms.new.items ≡ atoms.old.items ++ noted gate number }
+    ensures gates { (count : ℕ) → number < count → AreGates count atoms.old.items →
+        AreGates count atoms.new.items }
     ensures room { vec_capacity atoms.new ≡ vec_capacity atoms.old }
 {
     if is_atom(gate) {

@@ -1,13 +1,13 @@
 //! Which variables are hard.
 
-ghost use Rattle.std.specs.Prelude.{◌≡◌, ◌&&◌, ◌||◌, ℕ, IsTrue, List, false, length, neg_ℤ, slice_index_or};
+ghost use Rattle.std.specs.Prelude.{◌≡◌, ◌<◌, ◌&&◌, ◌||◌, ℕ, IsTrue, List, false, length, neg_ℤ, slice_index_or};
 ghost use Rattle.std.specs.Ordering.{int_eq};
 ghost use Rattle.lt_formula.specs.Limits.{most_variables};
 ghost use Rattle.lt_linear.specs.Form.{Term};
 ghost use Rattle.lt_space.specs.Circuit.{are_terms, formula_at};
-ghost use Rattle.lt_space.specs.CircuitView.{circuit_formulas};
+ghost use Rattle.lt_space.specs.CircuitView.{circuit_formulas, circuit_len};
 ghost use Rattle.lt_need.specs.Need.{has_variable, is_difference, is_hard_variable};
-ghost use Rattle.lt_need.specs.inner.Counts.{found_atoms, own_of};
+ghost use Rattle.lt_need.specs.inner.Counts.{AreGates, found_atoms, own_of};
 ghost use Rattle.lt_need.specs.inner.Marks.{own_atoms};
 ghost use Rattle.lt_need.specs.inner.Uses.{equation_in, has_shared, is_hard_at, is_hard_with, several_at};
 
@@ -22,6 +22,7 @@ pub(crate) fn mark_hard(
     shared: &mut Vec<bool>,
     hard: &mut Vec<bool>,
 )
+    requires gates { AreGates (circuit_len circuit.now) atoms.now }
     requires owners { length owners.old.items ≡ most_variables }
     requires shared { length shared.old.items ≡ most_variables }
     requires hard { length hard.old.items ≡ most_variables }
@@ -40,6 +41,7 @@ pub(crate) fn mark_hard(
 
 // Marks the variables of a gate, if it is a hard atom.
 fn mark_own(circuit: &Circuit, number: u32, shared: &[bool], hard: &mut Vec<bool>)
+    requires number { number < circuit_len circuit.now }
     requires hard { length hard.old.items ≡ most_variables }
     ensures marks { (i : ℕ) → slice_index_or hard.new.items i false ≡
         (slice_index_or hard.old.items i false ||
@@ -99,14 +101,12 @@ fn has_shared(terms: &[(u32, i64)], shared: &[bool]) -> bool
     false
 }
 
-// Whether a gate is an equation; one that isn't there is none.
+// Whether a gate is an equation, by its number.
 fn is_equation_at(circuit: &Circuit, number: u32) -> bool
+    requires { number < circuit_len circuit.now }
     ensures { result ≡ equation_in
         (own_atoms (formula_at (circuit_formulas circuit.now) number)) }
 {
-    if number as usize >= circuit.len() {
-        return false;
-    }
     is_equation(circuit.gate(number))
 }
 

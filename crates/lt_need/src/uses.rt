@@ -5,8 +5,8 @@ ghost use Rattle.lt_formula.specs.Limits.{most_variables};
 ghost use Rattle.lt_linear.specs.Form.{Term};
 ghost use Rattle.lt_space.specs.Circuit.{are_terms, formula_at};
 ghost use Rattle.lt_space.specs.CircuitView.{circuit_formulas, circuit_len};
-ghost use Rattle.lt_need.specs.inner.Counts.{is_within, own_of};
-ghost use Rattle.lt_need.specs.inner.Uses.{AreOwned, UseTest, is_used, passes_some, same_at, several_at, several_in};
+ghost use Rattle.lt_need.specs.inner.Counts.{AreGates, is_within, own_of};
+ghost use Rattle.lt_need.specs.inner.Uses.{AreOwned, AreOwners, UseTest, is_used, passes_some, same_at, several_at, several_in};
 
 use crate::counts::is_same;
 use lt_space::{Circuit, Gate};
@@ -19,6 +19,7 @@ pub(crate) fn find_shared(
     owners: &mut Vec<Option<u32>>,
     shared: &mut Vec<bool>,
 )
+    requires gates { AreGates (circuit_len circuit.now) atoms.now }
     requires owners { length owners.old.items ≡ most_variables }
     requires shared { length shared.old.items ≡ most_variables }
     ensures owned { AreOwned (circuit_formulas circuit.now)
@@ -33,10 +34,13 @@ pub(crate) fn find_shared(
     }
 }
 
-// Notes the variables that a gate uses beside others; one that isn't there uses none.
+// Notes the variables that a gate uses beside others.
 fn note_uses(circuit: &Circuit, number: u32, owners: &mut Vec<Option<u32>>, shared: &mut Vec<bool>)
+    requires number { number < circuit_len circuit.now }
+    requires gates { AreOwners (circuit_len circuit.now) owners.old.items }
     requires owners { length owners.old.items ≡ most_variables }
     requires shared { length shared.old.items ≡ most_variables }
+    ensures gates { AreOwners (circuit_len circuit.now) owners.new.items }
     ensures owned { (used : UseTest → Bool) →
         AreOwned (circuit_formulas circuit.now) used owners.old.items shared.old.items →
         AreOwned (circuit_formulas circuit.now) (λ test. used test ||
@@ -62,8 +66,10 @@ fn note_use(
     requires number { number < circuit_len circuit.now }
     requires atom { same_at (circuit_formulas circuit.now) number number ≡ true }
     requires variable { variable < most_variables }
+    requires gates { AreOwners (circuit_len circuit.now) owners.old.items }
     requires owners { length owners.old.items ≡ most_variables }
     requires shared { length shared.old.items ≡ most_variables }
+    ensures gates { AreOwners (circuit_len circuit.now) owners.new.items }
     ensures owned { (used : UseTest → Bool) →
         AreOwned (circuit_formulas circuit.now) used owners.old.items shared.old.items →
         AreOwned (circuit_formulas circuit.now) (λ test. used test || test number variable)
@@ -80,6 +86,7 @@ fn note_use(
 // Notes that a variable is shared, if its owner isn't the same atom as a gate.
 fn note_other(circuit: &Circuit, number: u32, owner: u32, variable: u32, shared: &mut Vec<bool>)
     requires number { number < circuit_len circuit.now }
+    requires owner { owner < circuit_len circuit.now }
     requires variable { variable < length shared.old.items }
     ensures items { shared.new.items ≡
         if same_at (circuit_formulas circuit.now) number owner then shared.old.items
@@ -100,15 +107,12 @@ fn owner_of(owners: &[Option<u32>], variable: u32) -> Option<u32>
     }
 }
 
-/// The terms of a gate that compares several variables; those of another one, or of one that isn't there, are none.
+/// The terms of a gate that compares several variables; another one has none.
 pub(crate) fn several_at<'a>(circuit: &'a Circuit, number: u32) -> &'a [(u32, i64)]
+    requires { number < circuit_len circuit.now }
     ensures terms { result.now ≡ several_at (circuit_formulas circuit.now) number }
     ensures exact { IsTrue (are_terms result.now) }
-    ensures within { 0 < length result.now → number < circuit_len circuit.now }
 {
-    if number as usize >= circuit.len() {
-        return &[];
-    }
     several_of(circuit.terms(), circuit.gate(number))
 }
 

@@ -1,5 +1,5 @@
 -- Different atoms of gates.
-use Rattle.std.specs.Prelude.{ℕ, Bool, true, false, ◌&&◌, List, [], ◌∷◌, ◌++◌, nat_le, slice_range, if◌then◌else◌}
+use Rattle.std.specs.Prelude.{◌<◌, ℕ, Bool, true, false, ◌&&◌, List, [], ◌∷◌, ◌++◌, nat_le, slice_range, All, if◌then◌else◌}
 use Rattle.std.specs.List.{list_any}
 use Rattle.lt_linear.specs.Form.{Term}
 use Rattle.lt_space.specs.Circuit.{formula_at}
@@ -10,6 +10,10 @@ use Rattle.lt_space.specs.declared.formula.Atom.{Atom}
 use Rattle.lt_space.specs.declared.formula.Atom.TheVariants.{Compare, Flag}
 use Rattle.lt_need.specs.Need.{same_atom}
 use Rattle.lt_need.specs.inner.Marks.{own_atoms}
+
+-- numbers of some of so many gates
+abbrev pub AreGates : ℕ → List ℕ → Type 0
+AreGates count ns = All (λ n. n < count) ns
 
 -- whether a gate is an atom
 abbrev pub is_atom : Gate → Bool

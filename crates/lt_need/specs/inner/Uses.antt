@@ -64,6 +64,11 @@ pub record AreOwned
   pub few : used (λ n i. nat_le most_variables i) ≡ false
   pub rising : IsRising used
 
+-- the owners are some of so many gates
+abbrev pub AreOwners : ℕ → List (Option ℕ) → Type 0
+AreOwners count owners =
+    (v owner : ℕ) → slice_index_or owners v None ≡ Some owner → owner < count
+
 -- whether one of these terms has a shared variable
 abbrev pub has_shared : List Bool → List Term → Bool
 has_shared shared terms = list_any (λ t. slice_index_or shared t.0 false) terms

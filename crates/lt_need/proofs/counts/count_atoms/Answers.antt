@@ -11,6 +11,7 @@ loop-place-preserved c =
     record {
       atoms = noted_step fs c.args.atoms.now c.loop-place.place 0 (found_atoms fs c.loop-place.found.items) (found_atoms fs c.note.new.found.items) (omega arith) s.atoms c.note.ensures.atoms;
       different = c.note.ensures.different s.different;
+      gates = c.note.ensures.gates;
       few = omega (arith, c.note.ensures.len, s.few);
       room = c.note.ensures.room ∙ s.room;
     }

@@ -1,8 +1,8 @@
-use Rattle.std.proofs.Common.{◌∙◌, ap, arith, sym, length, List, ℕ, ◌++◌, set, suc, true}
+use Rattle.std.proofs.Common.{◌∙◌, ap, arith, sym, length, List, ℕ, ◌++◌, set, suc, subst, true}
 use Rattle.std.specs.List.{list_any}
 use Rattle.std.proofs.lemmas.List.{length-set}
-use Rattle.lt_space.specs.CircuitView.{circuit_formulas}
-use Rattle.lt_need.specs.inner.Counts.{found_atoms}
+use Rattle.lt_space.specs.CircuitView.{circuit_formulas, circuit_len}
+use Rattle.lt_need.specs.inner.Counts.{AreGates, found_atoms}
 use Rattle.lt_need.specs.inner.Marks.{gathered, open_atoms}
 use Rattle.lt_need.proofs.Gatherings.{first_between, first_gathered, last_between, last_gathered}
 use Rattle.lt_need.proofs.gathering.gather.Goals as goal
@@ -15,6 +15,7 @@ gates-init c =
       within = omega arith;
       between = first_between c.args.from c.args.marks.now.items c.requires.unmarked;
       len = length-set c.args.marks.now.items c.args.from _;
+      gates = subst (λ (ns : List ℕ). AreGates (circuit_len c.args.circuit.now) ns) (sym c.clear.ensures.items) (λ k d l. absurd (omega (arith, l)));
       few = omega (arith, ap length c.clear.ensures.items);
       room = c.clear.ensures.capacity;
       atoms = λ p. first_gathered fs c.args.from c.args.marks.now.items c.requires.marks c.requires.unmarked p

@@ -18,6 +18,7 @@ loop-place-preserved c =
     record {
       owned = λ used known. term_more fs used n terms i (get_or terms i (0, pos 0)).0 (0, pos 0) c.note_use.new.owners.items c.note_use.new.shared.items (omega arith) refl
           (c.note_use.ensures.owned (λ test. used test || passes_some test n (take i terms)) (c.loop-place.invariant.owned used known));
+      gates = c.note_use.ensures.gates;
       owners = c.note_use.ensures.owners;
       shared = c.note_use.ensures.shared;
     }
