@@ -18,9 +18,10 @@ use lt_space::Circuit;
 
 /// The need of a search for values of the variables of a scope, within ranges, at which the formula of a gate holds:
 /// 180 for each variable of the scope and once more, times the points of its hard variables, times three for each
-/// choice of its conjuncts, and 2^127 where that is greater. Its hard variables are marked in the room.
+/// choice of its conjuncts, and 2^127 where that is greater. Afterwards [`Room::hard`] has its hard variables.
 ///
-/// The scope has a mark for each variable, by its number. A hard variable that has no range counts nothing.
+/// The scope has a mark for each variable and the ranges a range, by its number. A hard variable that is out of scope
+/// has the points of its range nonetheless, and one without a range counts once.
 pub fn measure(
     circuit: &Circuit,
     root: u32,

@@ -8,18 +8,31 @@ use crate::faces::Face;
 use crate::gathering::Gathering;
 use std::alloc::{AllocError, Global};
 
-// How many variables a circuit may have.
+// How many variables a circuit may have: `most_variables`.
 const MOST_VARIABLES: usize = 128;
 
 /// Room to measure needs in, and the marks of the hard variables that were found last.
 #[derive(Drop)]
 pub struct Room {
+    /// For how many gates it has room.
     pub(crate) gates: usize,
+
+    /// What each gate stands for.
     pub(crate) faces: Vec<Face>,
+
+    /// How often the conjuncts of each gate count.
     pub(crate) weights: Vec<usize>,
+
+    /// Room to gather atoms in.
     pub(crate) gathering: Gathering,
+
+    /// The first comparison of several variables that has each variable, as the number of its gate.
     pub(crate) owners: Vec<Option<u32>>,
+
+    /// Which variables another one has too.
     pub(crate) shared: Vec<bool>,
+
+    /// Which variables are hard.
     pub(crate) hard: Vec<bool>,
     ghost for_faces: { gates ≤ vec_capacity faces },
     ghost for_weights: { gates ≤ vec_capacity weights },
