@@ -1,14 +1,14 @@
 -- How many different atoms there are, however they are listed.
-use Rattle.std.proofs.Common.{◌≡◌, ◌<◌, ◌≤◌, ◌+◌, ◌&&◌, ◌||◌, ℕ, zero, suc, Bool, true, false, not, IsTrue, List, [], ◌∷◌, ◌++◌, length, refl, ap, sym, ◌∙◌, subst, arith, take, drop, get_or, nat_eq, nat_le}
+use Rattle.std.proofs.Common.{◌≡◌, ◌<◌, ◌≤◌, ◌+◌, ◌&&◌, ◌||◌, ℕ, zero, suc, Bool, true, false, not, List, [], ◌∷◌, ◌++◌, length, refl, ap, sym, ◌∙◌, subst, arith, take, drop, get_or, nat_eq}
 use Rattle.std.specs.Prelude.{if◌then◌else◌}
 use Rattle.std.specs.List.{list_any}
 use Rattle.std.specs.Ordering.{int_eq}
-use Rattle.std.proofs.lemmas.List.{append-nil, take_all, take_more}
+use Rattle.std.proofs.lemmas.List.{take_all, take_more}
 use Rattle.std.proofs.lemmas.List.Folds.{list_any-append}
 use Rattle.std.proofs.lemmas.Bool.{or_parts}
 use Rattle.std.proofs.lemmas.Bool.Decides.{Decides-eqb, Decides-int_eq}
 use Rattle.lt_linear.specs.Form.{Term}
-use Rattle.lt_space.specs.Circuit.{formula_at, gate_fits, gate_formula}
+use Rattle.lt_space.specs.Circuit.{formula_at, gate_formula}
 use Rattle.lt_space.specs.Formula.{Formula, atom, choice, conjunction, disjunction, exclusive, negation, truth}
 use Rattle.lt_space.specs.declared.circuit.Gate.{Gate}
 use Rattle.lt_space.specs.declared.circuit.Gate.TheVariants as gate
@@ -17,7 +17,7 @@ use Rattle.lt_space.specs.declared.formula.Atom.TheVariants.{Compare, Flag}
 use Rattle.lt_space.specs.declared.formula.Relation.{Relation}
 use Rattle.lt_space.specs.declared.formula.Relation.TheVariants.{Below, Equal, NotAbove}
 use Rattle.lt_need.specs.Need.{count_different, same_atom, same_relation, same_terms}
-use Rattle.lt_need.specs.inner.Counts.{found_atoms, is_among, is_atom, is_within, noted, own_of}
+use Rattle.lt_need.specs.inner.Counts.{found_atoms, is_among, is_atom, own_of}
 use Rattle.lt_need.specs.inner.Marks.{HaveSame, own_atoms}
 
 both : (a b : Bool) → (a && b) ≡ true → (a ≡ true) × (b ≡ true)
@@ -227,21 +227,6 @@ own_gate terms fs (gate.Or a b) = refl
 own_gate terms fs (gate.Xor a b) = refl
 own_gate terms fs (gate.If a b c) = refl
 
-pub fits_within : (count n : ℕ) (g : Gate) → IsTrue (gate_fits count n g) → is_within count g ≡ true
-fits_within count n (gate.Truth b) h = refl
-fits_within count n (gate.Flag i) h = refl
-fits_within count n (gate.Compare relation first after constant) h = three (nat_le first after) (nat_le after count) _ h
-  where
-    three : (a b c : Bool) → IsTrue (a && (b && c)) → (a && b) ≡ true
-    three true true c h = refl
-    three true false c h = absurd (cc)
-    three false b c h = absurd (cc)
-fits_within count n (gate.Not a) h = refl
-fits_within count n (gate.And a b) h = refl
-fits_within count n (gate.Or a b) h = refl
-fits_within count n (gate.Xor a b) h = refl
-fits_within count n (gate.If a b c) h = refl
-
 -- a gate that is noted, or isn't an atom, or was noted before
 module _ (fs : List Formula) (terms : List Term) (ks : List ℕ) (n : ℕ) (g : Gate) (is : formula_at fs n ≡ gate_formula terms fs g) where
   none_own : (g : Gate) → is_atom g ≡ false → own_atoms (gate_formula terms fs g) ≡ []
@@ -314,12 +299,10 @@ module _ (fs : List Formula) (terms : List Term) (ks : List ℕ) (n : ℕ) (g : 
   pub new_noted : (after : List ℕ) → after ≡ ks ++ n ∷ [] → HaveSame (found_atoms fs after) (found_atoms fs ks ++ own_atoms (formula_at fs n))
   new_noted after e p = ap (λ js. list_any p (found_atoms fs js)) e ∙ ap (list_any p) (found_pushed fs ks n)
 
-  pub noted_found : found_atoms fs (ks ++ noted g n) ≡ found_atoms fs ks ++ own_atoms (formula_at fs n)
-  noted_found = by_test (is_atom g) refl
-    where
-      by_test : (b : Bool) → is_atom g ≡ b → found_atoms fs (ks ++ (if b then n ∷ [] else [])) ≡ found_atoms fs ks ++ own_atoms (formula_at fs n)
-      by_test true e = found_pushed fs ks n
-      by_test false e = ap (found_atoms fs) (append-nil ks) ∙ sym (append-nil (found_atoms fs ks)) ∙ ap (λ (xs : List Atom). found_atoms fs ks ++ xs) (sym (ap own_atoms is ∙ none_own g e))
+-- what atoms of numbers pass a test
+pub found_any : (p : Atom → Bool) (fs : List Formula) (ns : List ℕ) → list_any p (found_atoms fs ns) ≡ list_any (λ n. list_any p (own_atoms (formula_at fs n))) ns
+found_any p fs [] = refl
+found_any p fs (n ∷ ns) = list_any-append p (own_atoms (formula_at fs n)) (found_atoms fs ns) ∙ ap (λ b. list_any p (own_atoms (formula_at fs n)) || b) (found_any p fs ns)
 
 -- Numbers up to a place.
 

@@ -1,11 +1,11 @@
--- Atoms that marked gates come down to.
-use Rattle.std.proofs.Common.{◌≡◌, ◌<◌, ◌≤◌, ◌||◌, ◌⊎◌, inl, inr, ℕ, zero, suc, min, Bool, true, false, IsTrue, List, [], ◌∷◌, ◌++◌, length, refl, ap, sym, ◌∙◌, subst, arith, set, get_or}
-use Rattle.std.specs.Prelude.{nat_lt, if◌then◌else◌}
+-- What is reached from a gate.
+use Rattle.std.proofs.Common.{◌≡◌, ◌<◌, ◌≤◌, ◌+◌, ◌||◌, ◌⊎◌, inl, inr, ℕ, zero, suc, Bool, true, false, IsTrue, List, [], ◌∷◌, ◌++◌, length, refl, ap, sym, ◌∙◌, subst, arith, set, get_or, drop}
+use Rattle.std.specs.Prelude.{nat_lt}
 use Rattle.std.specs.List.{list_any}
-use Rattle.std.proofs.lemmas.List.{length-set, get_or_default, get_or-set_other, get_or-set_same}
+use Rattle.std.proofs.lemmas.Bool.{cases_eq, cases_lt, false_from_ne_true, or_cases, or_left as first_true, or_right as second_true}
+use Rattle.std.proofs.lemmas.List.{append-nil, append_assoc, drop_all, drop_more, get_or-set_other, get_or-set_same, get_or_append_left, get_or_default, length-append, length-set}
+use Rattle.std.proofs.lemmas.List.Elements.{All-append}
 use Rattle.std.proofs.lemmas.List.Folds.{list_any-append}
-use Rattle.std.proofs.lemmas.Bool.{cases_eq}
-use Rattle.std.proofs.lemmas.Bool.Decides.{nat_tests}
 use Rattle.lt_linear.specs.Form.{Term}
 use Rattle.lt_space.specs.Absorbed.{absorbed, and_of, and_right, choice_of, not_of, or_of, or_right, xor_of, xor_right}
 use Rattle.lt_space.specs.Circuit.{formula_at, gate_fits, gate_formula}
@@ -14,50 +14,19 @@ use Rattle.lt_space.specs.declared.circuit.Gate.{Gate}
 use Rattle.lt_space.specs.declared.circuit.Gate.TheVariants as gate
 use Rattle.lt_space.specs.declared.formula.Atom.{Atom}
 use Rattle.lt_need.specs.Need.{atoms_of}
-use Rattle.lt_need.specs.inner.Faces.{AreFaces, StandsFor, absorbed_at, face_at}
-use Rattle.lt_need.specs.inner.Counts.{found_atoms, noted}
-use Rattle.lt_need.specs.inner.Marks.{AreBetween, AreUnmarked, HaveSame, gathered, least_choice, least_own, least_part, open_atoms, own_atoms, with_choice, with_own, with_parts}
 use Rattle.lt_need.specs.declared.faces.Face.{Face}
 use Rattle.lt_need.specs.declared.faces.Face.TheVariants.{Known, Plain, Denied, Twice}
-use Rattle.lt_need.proofs.Counting.{noted_found}
+use Rattle.lt_need.specs.inner.Counts.{AreGates, found_atoms}
+use Rattle.lt_need.specs.inner.Faces.{AreFaces, StandsFor, absorbed_at, face_at}
+use Rattle.lt_need.specs.inner.Marks.{AreUnmarked, HaveSame, count_marks, own_atoms}
+use Rattle.lt_need.specs.inner.Reached.{AreReached, HaveSameAtoms, IsIn, IsLonger, IsSpread, Reaches, choice_parts, gate_parts, has_atom, own_parts}
+use Rattle.lt_need.proofs.Counting.{found_any}
+use Rattle.lt_need.proofs.Lists.{any_at, in_any, in_at, in_left, in_right, in_split, same_from}
 use Rattle.lt_need.proofs.Standings.{IsOther, and_left, and_right_test, denied_is_other, less_from, plain_other, twice_other}
-
--- Tests.
 
 or_right_false : (a : Bool) → a ≡ (a || false)
 or_right_false true = refl
 or_right_false false = refl
-
-or_shift : (q x y : Bool) → (x || (q || y)) ≡ (q || (x || y))
-or_shift true true y = refl
-or_shift true false y = refl
-or_shift false x y = refl
-
-or_assoc : (x y z : Bool) → ((x || y) || z) ≡ (x || (y || z))
-or_assoc true y z = refl
-or_assoc false y z = refl
-
-or_flip : (x y : Bool) → (x || y) ≡ (y || x)
-or_flip true true = refl
-or_flip true false = refl
-or_flip false true = refl
-or_flip false false = refl
-
-or_three : (x y z r : Bool) → ((x || (y || z)) || r) ≡ (z || (y || (x || r)))
-or_three true true true r = refl
-or_three true true false r = refl
-or_three true false true r = refl
-or_three true false false r = refl
-or_three false true true r = refl
-or_three false true false r = refl
-or_three false false true r = refl
-or_three false false false r = refl
-
-or_two : (x y r : Bool) → ((x || y) || r) ≡ (y || (x || r))
-or_two true true r = refl
-or_two true false r = refl
-or_two false true r = refl
-or_two false false r = refl
 
 -- What joined formulas have that are no truths.
 
@@ -146,135 +115,6 @@ module _ (p : Atom → Bool) where
   choice_has (exclusive x y) g k h = all_has (exclusive x y) g k
   choice_has (choice x y z) g k h = all_has (choice x y z) g k
 
-  -- What the marked ones have, after a mark more or where one of them changes.
-
-  gathered_same : (f g : ℕ → List Atom) (marks : List Bool) → ((n : ℕ) → list_any p (f n) ≡ list_any p (g n)) → list_any p (gathered f marks) ≡ list_any p (gathered g marks)
-  gathered_same f g [] same = refl
-  gathered_same f g (true ∷ marks) same =
-      list_any-append p (f 0) (gathered (λ n. f (suc n)) marks) ∙ ap (λ b. b || list_any p (gathered (λ n. f (suc n)) marks)) (same 0)
-      ∙ ap (λ b. list_any p (g 0) || b) (gathered_same (λ n. f (suc n)) (λ n. g (suc n)) marks (λ n. same (suc n))) ∙ sym (list_any-append p (g 0) (gathered (λ n. g (suc n)) marks))
-  gathered_same f g (false ∷ marks) same = gathered_same (λ n. f (suc n)) (λ n. g (suc n)) marks (λ n. same (suc n))
-
-  gathered_set : (f : ℕ → List Atom) (marks : List Bool) (i : ℕ) → i < length marks → list_any p (gathered f (set marks i true)) ≡ (list_any p (f i) || list_any p (gathered f marks))
-  gathered_set f [] i l = absurd (omega (arith, l))
-  gathered_set f (true ∷ marks) zero l =
-      list_any-append p (f 0) (gathered (λ n. f (suc n)) marks) ∙ twice (list_any p (f 0)) (list_any p (gathered (λ n. f (suc n)) marks)) ∙ sym (ap (λ b. list_any p (f 0) || b) (list_any-append p (f 0) (gathered (λ n. f (suc n)) marks)))
-    where
-      twice : (a b : Bool) → (a || b) ≡ (a || (a || b))
-      twice true b = refl
-      twice false b = refl
-  gathered_set f (false ∷ marks) zero l = list_any-append p (f 0) (gathered (λ n. f (suc n)) marks)
-  gathered_set f (true ∷ marks) (suc i) l =
-      list_any-append p (f 0) (gathered (λ n. f (suc n)) (set marks i true)) ∙ ap (λ b. list_any p (f 0) || b) (gathered_set (λ n. f (suc n)) marks i (omega (arith, l)))
-      ∙ or_shift (list_any p (f (suc i))) (list_any p (f 0)) (list_any p (gathered (λ n. f (suc n)) marks)) ∙ sym (ap (λ b. list_any p (f (suc i)) || b) (list_any-append p (f 0) (gathered (λ n. f (suc n)) marks)))
-  gathered_set f (false ∷ marks) (suc i) l = gathered_set (λ n. f (suc n)) marks i (omega (arith, l))
-
-  gathered_moved : (d : Bool) (f g : ℕ → List Atom) (marks : List Bool) (i : ℕ) (q : Bool) → i < length marks → get_or marks i d ≡ true → list_any p (f i) ≡ (q || list_any p (g i))
-      → ((n : ℕ) → (n ≡ i → ⊥) → list_any p (f n) ≡ list_any p (g n)) → list_any p (gathered f marks) ≡ (q || list_any p (gathered g marks))
-  gathered_moved d f g [] i q l m e same = absurd (omega (arith, l))
-  gathered_moved d f g (true ∷ marks) zero q l m e same =
-      list_any-append p (f 0) (gathered (λ n. f (suc n)) marks) ∙ ap (λ b. b || list_any p (gathered (λ n. f (suc n)) marks)) e
-      ∙ ap (λ b. (q || list_any p (g 0)) || b) (gathered_same (λ n. f (suc n)) (λ n. g (suc n)) marks (λ n. same (suc n) (λ e. absurd (omega (arith, e)))))
-      ∙ or_assoc q (list_any p (g 0)) (list_any p (gathered (λ n. g (suc n)) marks)) ∙ sym (ap (λ b. q || b) (list_any-append p (g 0) (gathered (λ n. g (suc n)) marks)))
-  gathered_moved d f g (false ∷ marks) zero q l m e same = absurd (cc)
-  gathered_moved d f g (true ∷ marks) (suc i) q l m e same =
-      list_any-append p (f 0) (gathered (λ n. f (suc n)) marks) ∙ ap (λ b. b || list_any p (gathered (λ n. f (suc n)) marks)) (same 0 (λ e. absurd (omega (arith, e))))
-      ∙ ap (λ b. list_any p (g 0) || b) (gathered_moved d (λ n. f (suc n)) (λ n. g (suc n)) marks i q (omega (arith, l)) m e (λ n ne. same (suc n) (λ e. ne (omega (arith, e)))))
-      ∙ or_shift q (list_any p (g 0)) (list_any p (gathered (λ n. g (suc n)) marks)) ∙ sym (ap (λ b. q || b) (list_any-append p (g 0) (gathered (λ n. g (suc n)) marks)))
-  gathered_moved d f g (false ∷ marks) (suc i) q l m e same = gathered_moved d (λ n. f (suc n)) (λ n. g (suc n)) marks i q (omega (arith, l)) m e (λ n ne. same (suc n) (λ e. ne (omega (arith, e))))
-
-  gathered_unmarked : (d : Bool) (f g : ℕ → List Atom) (marks : List Bool) (i : ℕ) → get_or marks i d ≡ false → ((n : ℕ) → (n ≡ i → ⊥) → list_any p (f n) ≡ list_any p (g n)) → list_any p (gathered f marks) ≡ list_any p (gathered g marks)
-  gathered_unmarked d f g [] i m same = refl
-  gathered_unmarked d f g (true ∷ marks) zero m same = absurd (cc)
-  gathered_unmarked d f g (false ∷ marks) zero m same = gathered_same (λ n. f (suc n)) (λ n. g (suc n)) marks (λ n. same (suc n) (λ e. absurd (omega (arith, e))))
-  gathered_unmarked d f g (true ∷ marks) (suc i) m same =
-      list_any-append p (f 0) (gathered (λ n. f (suc n)) marks) ∙ ap (λ b. b || list_any p (gathered (λ n. f (suc n)) marks)) (same 0 (λ e. absurd (omega (arith, e))))
-      ∙ ap (λ b. list_any p (g 0) || b) (gathered_unmarked d (λ n. f (suc n)) (λ n. g (suc n)) marks i m (λ n ne. same (suc n) (λ e. ne (omega (arith, e)))))
-      ∙ sym (list_any-append p (g 0) (gathered (λ n. g (suc n)) marks))
-  gathered_unmarked d f g (false ∷ marks) (suc i) m same = gathered_unmarked d (λ n. f (suc n)) (λ n. g (suc n)) marks i m (λ n ne. same (suc n) (λ e. ne (omega (arith, e))))
-
-  -- a mark that is taken away
-  gathered_unset : (d : Bool) (f : ℕ → List Atom) (marks : List Bool) (i : ℕ) → i < length marks → get_or marks i d ≡ true → list_any p (gathered f marks) ≡ (list_any p (f i) || list_any p (gathered f (set marks i false)))
-  gathered_unset d f [] i l m = absurd (omega (arith, l))
-  gathered_unset d f (true ∷ marks) zero l m = list_any-append p (f 0) (gathered (λ n. f (suc n)) marks)
-  gathered_unset d f (false ∷ marks) zero l m = absurd (cc)
-  gathered_unset d f (true ∷ marks) (suc i) l m =
-      list_any-append p (f 0) (gathered (λ n. f (suc n)) marks) ∙ ap (λ b. list_any p (f 0) || b) (gathered_unset d (λ n. f (suc n)) marks i (omega (arith, l)) m)
-      ∙ or_shift (list_any p (f (suc i))) (list_any p (f 0)) (list_any p (gathered (λ n. f (suc n)) (set marks i false)))
-      ∙ sym (ap (λ b. list_any p (f (suc i)) || b) (list_any-append p (f 0) (gathered (λ n. f (suc n)) (set marks i false))))
-  gathered_unset d f (false ∷ marks) (suc i) l m = gathered_unset d (λ n. f (suc n)) marks i (omega (arith, l)) m
-
-  -- where no mark is set
-  unmarked_none : (f : ℕ → List Atom) (marks : List Bool) → AreUnmarked marks → list_any p (gathered f marks) ≡ false
-  unmarked_none f [] none = refl
-  unmarked_none f (true ∷ marks) none = let wrong : true ≡ false = none 0 in absurd (cc)
-  unmarked_none f (false ∷ marks) none = unmarked_none (λ n. f (suc n)) marks (λ n. none (suc n))
-
--- The step at a gate.
-
-module _ (p : Atom → Bool) (fs : List Formula) (terms : List Term) (n count : ℕ) (faces : List Face) (marks : List Bool) (d : Bool) (g : Gate) where
-  abbrev old : ℕ → List Atom
-  old = open_atoms fs (suc n)
-
-  abbrev new : ℕ → List Atom
-  new = open_atoms fs n
-
-  open_test : (k : ℕ) → (k ≡ n → ⊥) → nat_lt k (suc n) ≡ nat_lt k n
-  open_test k ne = grind (arith, nat_tests)
-
-  pub elsewhere : (k : ℕ) → (k ≡ n → ⊥) → list_any p (old k) ≡ list_any p (new k)
-  elsewhere k ne = ap (λ b. list_any p (if b then atoms_of (absorbed_at fs k) else own_atoms (formula_at fs k))) (open_test k ne)
-
-  below_test : (k : ℕ) → k < n → nat_lt k n ≡ true
-  below_test k l = grind (arith, nat_tests)
-
-  own_open : nat_lt n (suc n) ≡ true
-  own_open = grind (arith, nat_tests)
-
-  own_closed : nat_lt n n ≡ false
-  own_closed = grind (arith, nat_tests)
-
-  new_below : (k : ℕ) → k < n → list_any p (new k) ≡ has p (absorbed_at fs k)
-  new_below k l = ap (λ b. list_any p (if b then atoms_of (absorbed_at fs k) else own_atoms (formula_at fs k))) (below_test k l)
-
-  new_here : list_any p (new n) ≡ list_any p (own_atoms (formula_at fs n))
-  new_here = ap (λ b. list_any p (if b then atoms_of (absorbed_at fs n) else own_atoms (formula_at fs n))) own_closed
-
-  old_here : list_any p (old n) ≡ has p (absorbed_at fs n)
-  old_here = ap (λ b. list_any p (if b then atoms_of (absorbed_at fs n) else own_atoms (formula_at fs n))) own_open
-
-  module _ (within : n < length marks) (marked : get_or marks n d ≡ true) (is : formula_at fs n ≡ gate_formula terms fs g) where
-    moved : (q : Bool) → has p (absorbed (gate_formula terms fs g)) ≡ (q || list_any p (own_atoms (gate_formula terms fs g))) → list_any p (gathered old marks) ≡ (q || list_any p (gathered new marks))
-    moved q e = gathered_moved p d old new marks n q within marked
-        (old_here ∙ ap (λ f. has p (absorbed f)) is ∙ e ∙ ap (λ f. q || list_any p (own_atoms f)) (sym is) ∙ ap (λ b. q || b) (sym new_here)) elsewhere
-
-    set_one : (a : ℕ) → a < n → list_any p (gathered new (set marks a true)) ≡ (has p (absorbed_at fs a) || list_any p (gathered new marks))
-    set_one a l = gathered_set p new marks a (omega (arith, l, within)) ∙ ap (λ b. b || list_any p (gathered new marks)) (new_below a l)
-
-    set_two : (a b : ℕ) → a < n → b < n → list_any p (gathered new (set (set marks a true) b true)) ≡ (has p (absorbed_at fs b) || (has p (absorbed_at fs a) || list_any p (gathered new marks)))
-    set_two a b l m = gathered_set p new (set marks a true) b (omega (arith, m, within, length-set marks a true)) ∙ ap (λ x. x || list_any p (gathered new (set marks a true))) (new_below b m) ∙ ap (λ x. has p (absorbed_at fs b) || x) (set_one a l)
-
-    set_three : (a b c : ℕ) → a < n → b < n → c < n → list_any p (gathered new (set (set (set marks a true) b true) c true)) ≡ (has p (absorbed_at fs c) || (has p (absorbed_at fs b) || (has p (absorbed_at fs a) || list_any p (gathered new marks))))
-    set_three a b c l m k =
-        gathered_set p new (set (set marks a true) b true) c (omega (arith, k, within, length-set (set marks a true) b true, length-set marks a true))
-        ∙ ap (λ x. x || list_any p (gathered new (set (set marks a true) b true))) (new_below c k) ∙ ap (λ x. has p (absorbed_at fs c) || x) (set_two a b l m)
-
-    two_parts : (a b : ℕ) → a < n → b < n → has p (absorbed (gate_formula terms fs g)) ≡ (has p (absorbed_at fs a) || has p (absorbed_at fs b)) → list_any p (own_atoms (gate_formula terms fs g)) ≡ false
-        → list_any p (gathered old marks) ≡ list_any p (gathered new (set (set marks a true) b true))
-    two_parts a b l m e none =
-        moved (has p (absorbed_at fs a) || has p (absorbed_at fs b)) (e ∙ or_right_false _ ∙ ap (λ x. (has p (absorbed_at fs a) || has p (absorbed_at fs b)) || x) (sym none))
-        ∙ or_two (has p (absorbed_at fs a)) (has p (absorbed_at fs b)) (list_any p (gathered new marks)) ∙ sym (set_two a b l m)
-
-    one_part : (a : ℕ) → a < n → has p (absorbed (gate_formula terms fs g)) ≡ has p (absorbed_at fs a) → list_any p (own_atoms (gate_formula terms fs g)) ≡ false
-        → list_any p (gathered old marks) ≡ list_any p (gathered new (set marks a true))
-    one_part a l e none = moved (has p (absorbed_at fs a)) (e ∙ or_right_false _ ∙ ap (λ x. has p (absorbed_at fs a) || x) (sym none)) ∙ sym (set_one a l)
-
-    three_parts : (a b c : ℕ) → a < n → b < n → c < n → has p (absorbed (gate_formula terms fs g)) ≡ (has p (absorbed_at fs a) || (has p (absorbed_at fs b) || has p (absorbed_at fs c))) → list_any p (own_atoms (gate_formula terms fs g)) ≡ false
-        → list_any p (gathered old marks) ≡ list_any p (gathered new (set (set (set marks a true) b true) c true))
-    three_parts a b c l m k e none =
-        moved (has p (absorbed_at fs a) || (has p (absorbed_at fs b) || has p (absorbed_at fs c))) (e ∙ or_right_false _ ∙ ap (λ x. (has p (absorbed_at fs a) || (has p (absorbed_at fs b) || has p (absorbed_at fs c))) || x) (sym none))
-        ∙ or_three (has p (absorbed_at fs a)) (has p (absorbed_at fs b)) (has p (absorbed_at fs c)) (list_any p (gathered new marks)) ∙ sym (set_three a b c l m k)
-
 own_none : (p : Atom → Bool) (f : Formula) (b : Bool) → absorbed f ≡ truth b → list_any p (own_atoms f) ≡ false
 own_none p (truth c) b e = refl
 own_none p (atom a) b e = absurd (kept e)
@@ -296,37 +136,33 @@ own_none p (disjunction x y) b e = refl
 own_none p (exclusive x y) b e = refl
 own_none p (choice x y z) b e = refl
 
-module _ (p : Atom → Bool) (fs : List Formula) (terms : List Term) (n count : ℕ) (faces : List Face) (marks : List Bool) (d : Bool) (known : AreFaces fs (length faces) faces) (here : n < length faces) (within : n < length marks) where
+-- What a gate has: its own atom, and what its parts have.
+
+module _ (p : Atom → Bool) (fs : List Formula) (terms : List Term) (n count : ℕ) (faces : List Face) (known : AreFaces fs (length faces) faces) (here : n < length faces) where
   -- a gate that stands for no truth
-  parts_spread : (g : Gate) → get_or marks n d ≡ true → formula_at fs n ≡ gate_formula terms fs g → IsTrue (gate_fits count n g) → IsOther (absorbed (gate_formula terms fs g))
-      → list_any p (gathered (open_atoms fs (suc n)) marks) ≡ list_any p (gathered (open_atoms fs n) (with_parts faces g marks))
-  parts_spread (gate.Truth b) m is fits o = absurd o
-  parts_spread (gate.Flag i) m is fits o = moved p fs terms n count faces marks d (gate.Flag i) within m is false refl
-  parts_spread (gate.Compare relation first after constant) m is fits o = moved p fs terms n count faces marks d (gate.Compare relation first after constant) within m is false refl
-  parts_spread (gate.Not a) m is fits o = one_part p fs terms n count faces marks d (gate.Not a) within m is a (less_from fs a n fits) (not_has p (absorbed_at fs a)) refl
-  parts_spread (gate.And a b) m is fits o = two_parts p fs terms n count faces marks d (gate.And a b) within m is a b (less_from fs a n (and_left fs _ _ fits)) (less_from fs b n (and_right_test fs (nat_lt a n) _ fits)) (and_has p (absorbed_at fs a) (absorbed_at fs b) o) refl
-  parts_spread (gate.Or a b) m is fits o = two_parts p fs terms n count faces marks d (gate.Or a b) within m is a b (less_from fs a n (and_left fs _ _ fits)) (less_from fs b n (and_right_test fs (nat_lt a n) _ fits)) (or_has p (absorbed_at fs a) (absorbed_at fs b) o) refl
-  parts_spread (gate.Xor a b) m is fits o = two_parts p fs terms n count faces marks d (gate.Xor a b) within m is a b (less_from fs a n (and_left fs _ _ fits)) (less_from fs b n (and_right_test fs (nat_lt a n) _ fits)) (xor_has p (absorbed_at fs a) (absorbed_at fs b) o) refl
-  parts_spread (gate.If a b c) m is fits o = by_face (face_at faces a) (known.stand a (omega (arith, low_a, here)))
+  gate_whole : (g : Gate) → IsTrue (gate_fits count n g) → IsOther (absorbed (gate_formula terms fs g))
+      → has p (absorbed (gate_formula terms fs g)) ≡ (list_any p (own_atoms (gate_formula terms fs g)) || list_any (has_atom fs p) (gate_parts faces g))
+  gate_whole (gate.Truth b) fits o = absurd o
+  gate_whole (gate.Flag i) fits o = or_right_false _
+  gate_whole (gate.Compare relation first after constant) fits o = or_right_false _
+  gate_whole (gate.Not a) fits o = not_has p (absorbed_at fs a) ∙ or_right_false (has_atom fs p a)
+  gate_whole (gate.And a b) fits o = and_has p (absorbed_at fs a) (absorbed_at fs b) o ∙ ap (λ x. has_atom fs p a || x) (or_right_false (has_atom fs p b))
+  gate_whole (gate.Or a b) fits o = or_has p (absorbed_at fs a) (absorbed_at fs b) o ∙ ap (λ x. has_atom fs p a || x) (or_right_false (has_atom fs p b))
+  gate_whole (gate.Xor a b) fits o = xor_has p (absorbed_at fs a) (absorbed_at fs b) o ∙ ap (λ x. has_atom fs p a || x) (or_right_false (has_atom fs p b))
+  gate_whole (gate.If a b c) fits o = by_face (face_at faces a) (known.stand a (omega (arith, low, here)))
     where
-      low_a : a < n
-      low_a = less_from fs a n (and_left fs _ _ fits)
-
-      low_b : b < n
-      low_b = less_from fs b n (and_left fs _ _ (and_right_test fs (nat_lt a n) _ fits))
-
-      low_c : c < n
-      low_c = less_from fs c n (and_right_test fs (nat_lt b n) _ (and_right_test fs (nat_lt a n) _ fits))
+      low : a < n
+      low = less_from fs a n (and_left fs _ _ fits)
 
       Goal : Face → Type 0
-      Goal face = list_any p (gathered (open_atoms fs (suc n)) marks) ≡ list_any p (gathered (open_atoms fs n) (with_choice face a b c marks))
+      Goal face = has p (choice_of (absorbed_at fs a) (absorbed_at fs b) (absorbed_at fs c)) ≡ list_any (has_atom fs p) (choice_parts face a b c)
 
-      whole : IsOther (absorbed_at fs a) → list_any p (gathered (open_atoms fs (suc n)) marks) ≡ list_any p (gathered (open_atoms fs n) (set (set (set marks a true) b true) c true))
-      whole other = three_parts p fs terms n count faces marks d (gate.If a b c) within m is a b c low_a low_b low_c (choice_has p (absorbed_at fs a) (absorbed_at fs b) (absorbed_at fs c) other) refl
+      whole : IsOther (absorbed_at fs a) → has p (choice_of (absorbed_at fs a) (absorbed_at fs b) (absorbed_at fs c)) ≡ (has_atom fs p a || (has_atom fs p b || (has_atom fs p c || false)))
+      whole other = choice_has p (absorbed_at fs a) (absorbed_at fs b) (absorbed_at fs c) other ∙ ap (λ x. has_atom fs p a || (has_atom fs p b || x)) (or_right_false (has_atom fs p c))
 
       by_truth : (t : Bool) → absorbed_at fs a ≡ truth t → Goal (Known t)
-      by_truth true s = one_part p fs terms n count faces marks d (gate.If a b c) within m is b low_b (ap (λ x. has p (choice_of x (absorbed_at fs b) (absorbed_at fs c))) s) refl
-      by_truth false s = one_part p fs terms n count faces marks d (gate.If a b c) within m is c low_c (ap (λ x. has p (choice_of x (absorbed_at fs b) (absorbed_at fs c))) s) refl
+      by_truth true s = ap (λ x. has p (choice_of x (absorbed_at fs b) (absorbed_at fs c))) s ∙ or_right_false (has_atom fs p b)
+      by_truth false s = ap (λ x. has p (choice_of x (absorbed_at fs b) (absorbed_at fs c))) s ∙ or_right_false (has_atom fs p c)
 
       by_face : (face : Face) → StandsFor fs (suc a) face (absorbed_at fs a) → Goal face
       by_face (Known t) s = by_truth t s
@@ -334,187 +170,270 @@ module _ (p : Atom → Bool) (fs : List Formula) (terms : List Term) (n count : 
       by_face (Denied i) s = whole (denied_is_other fs (suc a) i (absorbed_at fs a) s)
       by_face (Twice i) s = whole (twice_other fs (suc a) i (absorbed_at fs a) s)
 
-  -- any marked gate
-  pub own_spread : (g : Gate) (face : Face) → face ≡ face_at faces n → get_or marks n d ≡ true → formula_at fs n ≡ gate_formula terms fs g → IsTrue (gate_fits count n g)
-      → list_any p (gathered (open_atoms fs (suc n)) marks) ≡ list_any p (gathered (open_atoms fs n) (with_own face faces g marks))
-  own_spread g face named m is fits = by_face face (subst (λ (x : Face). StandsFor fs (suc n) x (absorbed_at fs n)) (sym named) (known.stand n here))
+  -- any gate
+  own_whole : (g : Gate) (face : Face) → face ≡ face_at faces n → formula_at fs n ≡ gate_formula terms fs g → IsTrue (gate_fits count n g)
+      → has_atom fs p n ≡ (list_any p (own_atoms (formula_at fs n)) || list_any (has_atom fs p) (own_parts face faces g))
+  own_whole g face named is fits = by_face face (subst (λ (x : Face). StandsFor fs (suc n) x (absorbed_at fs n)) (sym named) (known.stand n here))
     where
-      other : IsOther (absorbed_at fs n) → IsOther (absorbed (gate_formula terms fs g))
-      other o = subst (λ (x : Formula). IsOther (absorbed x)) is o
+      Goal : Face → Type 0
+      Goal face = has_atom fs p n ≡ (list_any p (own_atoms (formula_at fs n)) || list_any (has_atom fs p) (own_parts face faces g))
 
-      by_face : (face : Face) → StandsFor fs (suc n) face (absorbed_at fs n) → list_any p (gathered (open_atoms fs (suc n)) marks) ≡ list_any p (gathered (open_atoms fs n) (with_own face faces g marks))
-      by_face (Known b) s = moved p fs terms n count faces marks d g within m is false
-          (ap (λ x. has p x) (sym (ap absorbed is) ∙ s) ∙ sym (own_none p (gate_formula terms fs g) b (sym (ap absorbed is) ∙ s)))
-      by_face (Plain i) s = parts_spread g m is fits (other (plain_other fs (suc n) i (absorbed_at fs n) s))
-      by_face (Denied i) s = parts_spread g m is fits (other (denied_is_other fs (suc n) i (absorbed_at fs n) s))
-      by_face (Twice i) s = parts_spread g m is fits (other (twice_other fs (suc n) i (absorbed_at fs n) s))
+      whole : IsOther (absorbed_at fs n) → has_atom fs p n ≡ (list_any p (own_atoms (formula_at fs n)) || list_any (has_atom fs p) (gate_parts faces g))
+      whole other =
+          subst (λ (f : Formula). has p (absorbed f) ≡ (list_any p (own_atoms f) || list_any (has_atom fs p) (gate_parts faces g))) (sym is)
+          (gate_whole g fits (subst (λ (f : Formula). IsOther (absorbed f)) is other))
 
-  -- one that isn't marked
-  pub unmarked_spread : get_or marks n d ≡ false → list_any p (gathered (open_atoms fs (suc n)) marks) ≡ list_any p (gathered (open_atoms fs n) marks)
-  unmarked_spread m = gathered_unmarked p d (open_atoms fs (suc n)) (open_atoms fs n) marks n m (elsewhere p fs terms n count faces marks d (gate.Truth true))
+      by_face : (face : Face) → StandsFor fs (suc n) face (absorbed_at fs n) → Goal face
+      by_face (Known b) s = ap (has p) s ∙ sym (ap (λ x. x || false) (own_none p (formula_at fs n) b s))
+      by_face (Plain i) s = whole (plain_other fs (suc n) i (absorbed_at fs n) s)
+      by_face (Denied i) s = whole (denied_is_other fs (suc n) i (absorbed_at fs n) s)
+      by_face (Twice i) s = whole (twice_other fs (suc n) i (absorbed_at fs n) s)
 
--- Marks that stay.
+-- Parts are lower.
 
-marked_kept : (d : Bool) (marks : List Bool) (a n : ℕ) → n < length marks → get_or marks n d ≡ true → get_or (set marks a true) n d ≡ true
-marked_kept d [] a n l h = absurd (omega (arith, l))
-marked_kept d (m ∷ marks) zero zero l h = refl
-marked_kept d (m ∷ marks) zero (suc n) l h = h
-marked_kept d (m ∷ marks) (suc a) zero l h = h
-marked_kept d (m ∷ marks) (suc a) (suc n) l h = marked_kept d marks a n (omega (arith, l)) h
+module _ (fs : List Formula) (n count : ℕ) (faces : List Face) where
+  one_below : (a m : ℕ) → a < n → IsIn (a ∷ []) m → m < n
+  one_below a m l (inl e) = omega (arith, l, e)
+  one_below a m l (inr h) = absurd h
 
--- what a mark more keeps, those of the parts of a gate keep
-module _ (P : List Bool → Type 0) (more : (marks : List Bool) (a : ℕ) → P marks → P (set marks a true)) where
-  choice_keeps : (face : Face) (a b c : ℕ) (marks : List Bool) → P marks → P (with_choice face a b c marks)
-  choice_keeps (Known t) a b c marks h = more marks (if t then b else c) h
-  choice_keeps (Plain i) a b c marks h = more _ c (more _ b (more marks a h))
-  choice_keeps (Denied i) a b c marks h = more _ c (more _ b (more marks a h))
-  choice_keeps (Twice i) a b c marks h = more _ c (more _ b (more marks a h))
+  two_below : (a b m : ℕ) → a < n → b < n → IsIn (a ∷ b ∷ []) m → m < n
+  two_below a b m l k (inl e) = omega (arith, l, e)
+  two_below a b m l k (inr h) = one_below b m k h
 
-  parts_keep : (faces : List Face) (g : Gate) (marks : List Bool) → P marks → P (with_parts faces g marks)
-  parts_keep faces (gate.Truth b) marks h = h
-  parts_keep faces (gate.Flag i) marks h = h
-  parts_keep faces (gate.Compare relation first after constant) marks h = h
-  parts_keep faces (gate.Not a) marks h = more marks a h
-  parts_keep faces (gate.And a b) marks h = more _ b (more marks a h)
-  parts_keep faces (gate.Or a b) marks h = more _ b (more marks a h)
-  parts_keep faces (gate.Xor a b) marks h = more _ b (more marks a h)
-  parts_keep faces (gate.If a b c) marks h = choice_keeps (face_at faces a) a b c marks h
+  choice_below : (face : Face) (a b c m : ℕ) → a < n → b < n → c < n → IsIn (choice_parts face a b c) m → m < n
+  choice_below (Known true) a b c m la lb lc h = one_below b m lb h
+  choice_below (Known false) a b c m la lb lc h = one_below c m lc h
+  choice_below (Plain i) a b c m la lb lc (inl e) = omega (arith, la, e)
+  choice_below (Plain i) a b c m la lb lc (inr h) = two_below b c m lb lc h
+  choice_below (Denied i) a b c m la lb lc (inl e) = omega (arith, la, e)
+  choice_below (Denied i) a b c m la lb lc (inr h) = two_below b c m lb lc h
+  choice_below (Twice i) a b c m la lb lc (inl e) = omega (arith, la, e)
+  choice_below (Twice i) a b c m la lb lc (inr h) = two_below b c m lb lc h
 
-  own_keeps : (face : Face) (faces : List Face) (g : Gate) (marks : List Bool) → P marks → P (with_own face faces g marks)
-  own_keeps (Known b) faces g marks h = h
-  own_keeps (Plain i) faces g marks h = parts_keep faces g marks h
-  own_keeps (Denied i) faces g marks h = parts_keep faces g marks h
-  own_keeps (Twice i) faces g marks h = parts_keep faces g marks h
+  gate_below : (g : Gate) → IsTrue (gate_fits count n g) → (m : ℕ) → IsIn (gate_parts faces g) m → m < n
+  gate_below (gate.Truth b) fits m h = absurd h
+  gate_below (gate.Flag i) fits m h = absurd h
+  gate_below (gate.Compare relation first after constant) fits m h = absurd h
+  gate_below (gate.Not a) fits m h = one_below a m (less_from fs a n fits) h
+  gate_below (gate.And a b) fits m h = two_below a b m (less_from fs a n (and_left fs _ _ fits)) (less_from fs b n (and_right_test fs (nat_lt a n) _ fits)) h
+  gate_below (gate.Or a b) fits m h = two_below a b m (less_from fs a n (and_left fs _ _ fits)) (less_from fs b n (and_right_test fs (nat_lt a n) _ fits)) h
+  gate_below (gate.Xor a b) fits m h = two_below a b m (less_from fs a n (and_left fs _ _ fits)) (less_from fs b n (and_right_test fs (nat_lt a n) _ fits)) h
+  gate_below (gate.If a b c) fits m h =
+      choice_below (face_at faces a) a b c m (less_from fs a n (and_left fs _ _ fits)) (less_from fs b n (and_left fs _ _ (and_right_test fs (nat_lt a n) _ fits)))
+      (less_from fs c n (and_right_test fs (nat_lt b n) _ (and_right_test fs (nat_lt a n) _ fits))) h
 
-own_marked : (d : Bool) (n : ℕ) (face : Face) (faces : List Face) (g : Gate) (marks : List Bool) → n < length marks → get_or marks n d ≡ true
-    → (n < length (with_own face faces g marks)) × (get_or (with_own face faces g marks) n d ≡ true)
-own_marked d n face faces g marks l m =
-    own_keeps (λ (ms : List Bool). (n < length ms) × (get_or ms n d ≡ true)) (λ ms a h. (omega (arith, h.0, length-set ms a true), marked_kept d ms a n h.0 h.1)) face faces g marks (l, m)
+  pub parts_below : (face : Face) (g : Gate) → IsTrue (gate_fits count n g) → (m : ℕ) → IsIn (own_parts face faces g) m → m < n
+  parts_below (Known b) g fits m h = absurd h
+  parts_below (Plain i) g fits m h = gate_below g fits m h
+  parts_below (Denied i) g fits m h = gate_below g fits m h
+  parts_below (Twice i) g fits m h = gate_below g fits m h
 
 -- A visit.
 
-own_here : (fs : List Formula) (n : ℕ) → open_atoms fs n n ≡ own_atoms (formula_at fs n)
-own_here fs n = ap (λ b. if b then atoms_of (absorbed_at fs n) else own_atoms (formula_at fs n)) closed
-  where
-    closed : nat_lt n n ≡ false
-    closed = grind (arith, nat_tests)
-
-or_regroup : (a b c : Bool) → (a || (b || c)) ≡ ((a || b) || c)
-or_regroup true b c = refl
-or_regroup false b c = refl
-
-module _ (p : Atom → Bool) (fs : List Formula) (terms : List Term) (n count : ℕ) (faces : List Face) (marks : List Bool) (d : Bool) (known : AreFaces fs (length faces) faces) (here : n < length faces) (within : n < length marks) (ks : List ℕ) where
-  pub visit_unmarked : get_or marks n d ≡ false → list_any p (found_atoms fs ks ++ gathered (open_atoms fs (suc n)) marks) ≡ list_any p (found_atoms fs ks ++ gathered (open_atoms fs n) marks)
-  visit_unmarked m =
-      list_any-append p (found_atoms fs ks) (gathered (open_atoms fs (suc n)) marks)
-      ∙ ap (λ b. list_any p (found_atoms fs ks) || b) (unmarked_spread p fs terms n count faces marks d known here within m)
-      ∙ sym (list_any-append p (found_atoms fs ks) (gathered (open_atoms fs n) marks))
-
-  pub visit_marked : (g : Gate) (face : Face) (marked left : List Bool) (after : List ℕ) → face ≡ face_at faces n → get_or marks n d ≡ true → formula_at fs n ≡ gate_formula terms fs g → IsTrue (gate_fits count n g)
-      → marked ≡ with_own face faces g marks → left ≡ set marked n false → after ≡ ks ++ noted g n
-      → list_any p (found_atoms fs ks ++ gathered (open_atoms fs (suc n)) marks) ≡ list_any p (found_atoms fs after ++ gathered (open_atoms fs n) left)
-  visit_marked g face marked left after named m is fits e f k =
-      let stays = own_marked d n face faces g marks within m in
-      let whole = with_own face faces g marks in
-      let here_is = own_here fs n in
-      list_any-append p (found_atoms fs ks) (gathered (open_atoms fs (suc n)) marks)
-      ∙ ap (λ b. list_any p (found_atoms fs ks) || b) (own_spread p fs terms n count faces marks d known here within g face named m is fits)
-      ∙ ap (λ b. list_any p (found_atoms fs ks) || b) (gathered_unset p d (open_atoms fs n) whole n stays.0 stays.1)
-      ∙ or_regroup (list_any p (found_atoms fs ks)) (list_any p (open_atoms fs n n)) (list_any p (gathered (open_atoms fs n) (set whole n false)))
-      ∙ ap (λ (xs : List Atom). (list_any p (found_atoms fs ks) || list_any p xs) || list_any p (gathered (open_atoms fs n) (set whole n false))) here_is
-      ∙ ap (λ b. b || list_any p (gathered (open_atoms fs n) (set whole n false))) (sym (list_any-append p (found_atoms fs ks) (own_atoms (formula_at fs n))))
-      ∙ ap (λ (xs : List Atom). list_any p xs || list_any p (gathered (open_atoms fs n) (set whole n false))) (sym (ap (found_atoms fs) k ∙ noted_found fs terms ks n g is))
-      ∙ ap (λ (ms : List Bool). list_any p (found_atoms fs after) || list_any p (gathered (open_atoms fs n) ms)) (sym (f ∙ ap (λ (ms : List Bool). set ms n false) e))
-      ∙ sym (list_any-append p (found_atoms fs after) (gathered (open_atoms fs n) left))
-
--- Between which numbers marks are.
-
-between_set : (low most a : ℕ) (marks : List Bool) → AreBetween low most marks → a < most → AreBetween (min low a) most (set marks a true)
-between_set low most a marks between l k h = by_place (cases_eq k a)
-  where
-    by_place : (k ≡ a) ⊎ (k ≡ a → ⊥) → (min low a ≤ k) × (k < most)
-    by_place (inl e) = (omega (arith, e), omega (arith, e, l))
-    by_place (inr ne) = let old = between k (sym (get_or-set_other marks a k true false ne) ∙ h) in (omega (arith, old.0), old.1)
-
-module _ (fs : List Formula) (faces : List Face) (n count : ℕ) where
-  choice_between : (face : Face) (a b c low most : ℕ) (marks : List Bool) → AreBetween low most marks → a < most → b < most → c < most → AreBetween (least_choice face a b c low) most (with_choice face a b c marks)
-  choice_between (Known true) a b c low most marks h la lb lc = between_set low most b marks h lb
-  choice_between (Known false) a b c low most marks h la lb lc = between_set low most c marks h lc
-  choice_between (Plain i) a b c low most marks h la lb lc = between_set _ most c _ (between_set _ most b _ (between_set low most a marks h la) lb) lc
-  choice_between (Denied i) a b c low most marks h la lb lc = between_set _ most c _ (between_set _ most b _ (between_set low most a marks h la) lb) lc
-  choice_between (Twice i) a b c low most marks h la lb lc = between_set _ most c _ (between_set _ most b _ (between_set low most a marks h la) lb) lc
-
-  parts_between : (g : Gate) (low most : ℕ) (marks : List Bool) → IsTrue (gate_fits count n g) → n ≤ most → AreBetween low most marks → AreBetween (least_part faces g low) most (with_parts faces g marks)
-  parts_between (gate.Truth b) low most marks fits l h = h
-  parts_between (gate.Flag i) low most marks fits l h = h
-  parts_between (gate.Compare relation first after constant) low most marks fits l h = h
-  parts_between (gate.Not a) low most marks fits l h = between_set low most a marks h (omega (arith, l, less_from fs a n fits))
-  parts_between (gate.And a b) low most marks fits l h =
-      between_set _ most b _ (between_set low most a marks h (omega (arith, l, less_from fs a n (and_left fs _ _ fits)))) (omega (arith, l, less_from fs b n (and_right_test fs (nat_lt a n) _ fits)))
-  parts_between (gate.Or a b) low most marks fits l h =
-      between_set _ most b _ (between_set low most a marks h (omega (arith, l, less_from fs a n (and_left fs _ _ fits)))) (omega (arith, l, less_from fs b n (and_right_test fs (nat_lt a n) _ fits)))
-  parts_between (gate.Xor a b) low most marks fits l h =
-      between_set _ most b _ (between_set low most a marks h (omega (arith, l, less_from fs a n (and_left fs _ _ fits)))) (omega (arith, l, less_from fs b n (and_right_test fs (nat_lt a n) _ fits)))
-  parts_between (gate.If a b c) low most marks fits l h =
-      choice_between (face_at faces a) a b c low most marks h (omega (arith, l, less_from fs a n (and_left fs _ _ fits)))
-      (omega (arith, l, less_from fs b n (and_left fs _ _ (and_right_test fs (nat_lt a n) _ fits)))) (omega (arith, l, less_from fs c n (and_right_test fs (nat_lt b n) _ (and_right_test fs (nat_lt a n) _ fits))))
-
-  own_between : (face : Face) (g : Gate) (low most : ℕ) (marks : List Bool) → IsTrue (gate_fits count n g) → n ≤ most → AreBetween low most marks → AreBetween (least_own face faces g low) most (with_own face faces g marks)
-  own_between (Known b) g low most marks fits l h = h
-  own_between (Plain i) g low most marks fits l h = parts_between g low most marks fits l h
-  own_between (Denied i) g low most marks fits l h = parts_between g low most marks fits l h
-  own_between (Twice i) g low most marks fits l h = parts_between g low most marks fits l h
-
-  pub visited_between : (d : Bool) (g : Gate) (face : Face) (low least : ℕ) (marks marked left : List Bool) → n < length marks → get_or marks n d ≡ true → IsTrue (gate_fits count n g) → AreBetween low (suc n) marks
-      → least ≡ least_own face faces g low → marked ≡ with_own face faces g marks → left ≡ set marked n false → AreBetween least n left
-  visited_between d g face low least marks marked left within m fits between e f k j h = by_place (cases_eq j n)
+module _ (fs : List Formula) (terms : List Term) (n count : ℕ) (faces : List Face) (known : AreFaces fs (length faces) faces) (here : n < length faces) (g : Gate) (face : Face) (named : face ≡ face_at faces n)
+    (is : formula_at fs n ≡ gate_formula terms fs g) (fits : IsTrue (gate_fits count n g)) (before after : List ℕ) (reaches : Reaches before after (own_parts face faces g)) where
+  pub visit_spread : IsSpread fs after n
+  visit_spread p h =
+      by_part (or_cases (list_any p (own_atoms (formula_at fs n))) (list_any (has_atom fs p) (own_parts face faces g)) (sym (own_whole p fs terms n count faces known here g face named is fits) ∙ h))
     where
-      whole : AreBetween (least_own face faces g low) (suc n) (with_own face faces g marks)
-      whole = own_between face g low (suc n) marks fits (omega arith) between
+      by_part : (list_any p (own_atoms (formula_at fs n)) ≡ true) ⊎ (list_any (has_atom fs p) (own_parts face faces g) ≡ true)
+          → (list_any p (own_atoms (formula_at fs n)) ≡ true) ⊎ ((m : ℕ) × (m < n) × IsIn after m × (has_atom fs p m ≡ true))
+      by_part (inl e) = inl e
+      by_part (inr e) =
+          let found = any_at (has_atom fs p) (own_parts face faces g) e in
+          inr (found.0, parts_below fs n count faces face g fits found.0 found.1, reaches.all found.0 found.1, found.2)
 
-      there : get_or (set (with_own face faces g marks) n false) j false ≡ true
-      there = ap (λ (ms : List Bool). get_or ms j false) (sym (k ∙ ap (λ (ms : List Bool). set ms n false) f)) ∙ h
+  pub visit_same : IsIn before n → HaveSameAtoms fs before after
+  visit_same own p =
+      ap (list_any (has_atom fs p)) reaches.whole ∙ list_any-append (has_atom fs p) before reaches.more
+      ∙ same_from (list_any (has_atom fs p) before || list_any (has_atom fs p) reaches.more) (list_any (has_atom fs p) before)
+      (λ h. by_part (or_cases (list_any (has_atom fs p) before) (list_any (has_atom fs p) reaches.more) h)) (λ h. first_true (list_any (has_atom fs p) before) (list_any (has_atom fs p) reaches.more) h)
+    where
+      by_part : (list_any (has_atom fs p) before ≡ true) ⊎ (list_any (has_atom fs p) reaches.more ≡ true) → list_any (has_atom fs p) before ≡ true
+      by_part (inl e) = e
+      by_part (inr e) =
+          let found = any_at (has_atom fs p) reaches.more e in
+          let part : list_any (has_atom fs p) (own_parts face faces g) ≡ true = in_any (has_atom fs p) (own_parts face faces g) found.0 (reaches.only found.0 found.1) found.2 in
+          in_any (has_atom fs p) before n own
+          (own_whole p fs terms n count faces known here g face named is fits ∙ second_true (list_any p (own_atoms (formula_at fs n))) (list_any (has_atom fs p) (own_parts face faces g)) part)
 
-      by_place : (j ≡ n) ⊎ (j ≡ n → ⊥) → (least ≤ j) × (j < n)
-      by_place (inl same) =
-          let gone : get_or (set (with_own face faces g marks) n false) j false ≡ false =
-          ap (λ (i : ℕ). get_or (set (with_own face faces g marks) n false) i false) same ∙ get_or-set_same (with_own face faces g marks) n false false (own_marked d n face faces g marks within m).0 in
-          let wrong : true ≡ false = sym there ∙ gone in
-          absurd (cc)
-      by_place (inr ne) = let old = whole j (sym (get_or-set_other (with_own face faces g marks) n j false false ne) ∙ there) in (omega (arith, old.0, e), omega (arith, old.1, ne))
+pub reached_gates : (most : ℕ) (before after parts : List ℕ) → Reaches before after parts → AreGates most before → ((m : ℕ) → IsIn parts m → m < most) → AreGates most after
+reached_gates most before after parts r gates below =
+    subst (λ (ns : List ℕ). AreGates most ns) (sym r.whole) (All-append (λ n. n < most) before r.more gates (λ k d l. below (get_or r.more k d) (r.only (get_or r.more k d) (in_at r.more k d l))))
 
-pub unmarked_between : (d : Bool) (low n : ℕ) (marks : List Bool) → n < length marks → get_or marks n d ≡ false → AreBetween low (suc n) marks → AreBetween low n marks
-unmarked_between d low n marks within m between j h = by_place (cases_eq j n)
+pub first_gates : (most : ℕ) (before after : List ℕ) (from : ℕ) → before ≡ [] → from < most → Reaches before after (from ∷ []) → AreGates most after
+first_gates most before after from none l r = reached_gates most before after (from ∷ []) r (subst (λ (ns : List ℕ). AreGates most ns) (sym none) (λ k d m. absurd (omega (arith, m)))) (λ m h. by_part m h)
   where
-    by_place : (j ≡ n) ⊎ (j ≡ n → ⊥) → (low ≤ j) × (j < n)
-    by_place (inl same) =
-        let wrong : true ≡ false = sym h ∙ ap (λ (i : ℕ). get_or marks i false) same ∙ get_or_default marks n false d within ∙ m in
+    by_part : (m : ℕ) → IsIn (from ∷ []) m → m < most
+    by_part m (inl e) = omega (arith, l, e)
+    by_part m (inr h) = absurd h
+
+-- Where all that is reached is spread.
+
+spread_longer : (fs : List Formula) (before after : List ℕ) (n : ℕ) → IsLonger before after → IsSpread fs before n → IsSpread fs after n
+spread_longer fs before after n more s p h = by_part (s p h)
+  where
+    by_part : (list_any p (own_atoms (formula_at fs n)) ≡ true) ⊎ ((m : ℕ) × (m < n) × IsIn before m × (has_atom fs p m ≡ true))
+        → (list_any p (own_atoms (formula_at fs n)) ≡ true) ⊎ ((m : ℕ) × (m < n) × IsIn after m × (has_atom fs p m ≡ true))
+    by_part (inl e) = inl e
+    by_part (inr e) = inr (e.0, e.1, subst (λ (ns : List ℕ). IsIn ns e.0) (sym more.1) (in_left before more.0 e.0 e.2), e.3)
+
+pub spread_more : (fs : List Formula) (before after : List ℕ) (place d : ℕ) → place < length before → IsLonger before after → ((k : ℕ) → k < place → IsSpread fs before (get_or before k 0)) → IsSpread fs after (get_or before place d)
+    → (k : ℕ) → k < place + 1 → IsSpread fs after (get_or after k 0)
+spread_more fs before after place d l more old new k m = by_place (cases_lt k place)
+  where
+    kept : (j : ℕ) → j < length before → get_or before j 0 ≡ get_or after j 0
+    kept j h = sym (ap (λ (ns : List ℕ). get_or ns j 0) more.1 ∙ get_or_append_left before more.0 0 j h)
+
+    by_place : (k < place) ⊎ (place ≤ k) → IsSpread fs after (get_or after k 0)
+    by_place (inl h) = subst (λ (n : ℕ). IsSpread fs after n) (kept k (omega (arith, h, l))) (spread_longer fs before after (get_or before k 0) more (old k h))
+    by_place (inr h) =
+        let same : k ≡ place = omega (arith, m, h) in
+        subst (λ (j : ℕ). IsSpread fs after (get_or after j 0)) (sym same) (subst (λ (n : ℕ). IsSpread fs after n) (get_or_default before place d 0 l ∙ kept place l) new)
+
+at_in : (xs : List ℕ) (n : ℕ) → IsIn xs n → (k : ℕ) × (k < length xs) × (get_or xs k 0 ≡ n)
+at_in [] n h = absurd h
+at_in (x ∷ xs) n (inl e) = (0, omega arith, e)
+at_in (x ∷ xs) n (inr h) = let found = at_in xs n h in (suc found.0, omega (arith, found.1), found.2)
+
+module _ (fs : List Formula) (reached : List ℕ) (all : (k : ℕ) → k < length reached → IsSpread fs reached (get_or reached k 0)) (p : Atom → Bool) where
+  closed : (most n : ℕ) → n < most → IsIn reached n → has_atom fs p n ≡ true → list_any p (found_atoms fs reached) ≡ true
+  closed zero n l at h = absurd (omega (arith, l))
+  closed (suc most) n l at h = by_part (closed most) (subst (λ (i : ℕ). IsSpread fs reached i) (at_in reached n at).2 (all (at_in reached n at).0 (at_in reached n at).1) p h)
+    where
+      by_part : ((m : ℕ) → m < most → IsIn reached m → has_atom fs p m ≡ true → list_any p (found_atoms fs reached) ≡ true)
+          → (list_any p (own_atoms (formula_at fs n)) ≡ true) ⊎ ((m : ℕ) × (m < n) × IsIn reached m × (has_atom fs p m ≡ true)) → list_any p (found_atoms fs reached) ≡ true
+      by_part lower (inl e) = found_any p fs reached ∙ in_any (λ i. list_any p (own_atoms (formula_at fs i))) reached n at e
+      by_part lower (inr e) = lower e.0 (omega (arith, l, e.1)) e.2 e.3
+
+own_has : (p : Atom → Bool) (f : Formula) → list_any p (own_atoms f) ≡ true → list_any p (atoms_of (absorbed f)) ≡ true
+own_has p (truth b) h = absurd (cc)
+own_has p (atom a) h = h
+own_has p (negation x) h = absurd (cc)
+own_has p (conjunction x y) h = absurd (cc)
+own_has p (disjunction x y) h = absurd (cc)
+own_has p (exclusive x y) h = absurd (cc)
+own_has p (choice x y z) h = absurd (cc)
+
+pub all_spread : (fs : List Formula) (reached : List ℕ) (from place : ℕ) → length reached ≤ place → ((k : ℕ) → k < place → IsSpread fs reached (get_or reached k 0))
+    → ((p : Atom → Bool) → list_any (has_atom fs p) reached ≡ has_atom fs p from) → HaveSame (atoms_of (absorbed_at fs from)) (found_atoms fs reached)
+all_spread fs reached from place l all whole p =
+    same_from (has_atom fs p from) (list_any p (found_atoms fs reached))
+    (λ h. let found = any_at (has_atom fs p) reached (whole p ∙ h) in closed fs reached (λ k m. all k (omega (arith, l, m))) p (suc found.0) found.0 (omega arith) found.1 found.2)
+    (λ h. let found = any_at (λ i. list_any p (own_atoms (formula_at fs i))) reached (sym (found_any p fs reached) ∙ h) in
+    sym (whole p) ∙ in_any (has_atom fs p) reached found.0 found.1 (own_has p (formula_at fs found.0) found.2))
+
+-- where it begins
+pub first_whole : (fs : List Formula) (before after : List ℕ) (from : ℕ) → before ≡ [] → Reaches before after (from ∷ []) → (p : Atom → Bool) → list_any (has_atom fs p) after ≡ has_atom fs p from
+first_whole fs before after from none r p =
+    same_from (list_any (has_atom fs p) after) (has_atom fs p from)
+    (λ h. let found = any_at (has_atom fs p) after h in by_part found.0 (r.only found.0 (subst (λ (ns : List ℕ). IsIn ns found.0) (r.whole ∙ ap (λ (ns : List ℕ). ns ++ r.more) none) found.1)) found.2)
+    (λ h. in_any (has_atom fs p) after from (r.all from (inl refl)) h)
+  where
+    by_part : (m : ℕ) → IsIn (from ∷ []) m → has_atom fs p m ≡ true → has_atom fs p from ≡ true
+    by_part m (inl e) h = ap (has_atom fs p) e ∙ h
+    by_part m (inr e) h = absurd e
+
+-- Marks of what is reached.
+
+count_set : (d : Bool) (marks : List Bool) (n : ℕ) → n < length marks → get_or marks n d ≡ false → count_marks (set marks n true) ≡ suc (count_marks marks)
+count_set d [] n l e = absurd (omega (arith, l))
+count_set d (true ∷ marks) zero l e = absurd (cc)
+count_set d (false ∷ marks) zero l e = refl
+count_set d (true ∷ marks) (suc n) l e = ap suc (count_set d marks n (omega (arith, l)) e)
+count_set d (false ∷ marks) (suc n) l e = count_set d marks n (omega (arith, l)) e
+
+count_few : (marks : List Bool) → count_marks marks ≤ length marks
+count_few [] = omega arith
+count_few (true ∷ marks) = omega (arith, count_few marks)
+count_few (false ∷ marks) = omega (arith, count_few marks)
+
+count_none : (marks : List Bool) → AreUnmarked marks → count_marks marks ≡ 0
+count_none [] h = refl
+count_none (true ∷ marks) h = let wrong : true ≡ false = h 0 in absurd (cc)
+count_none (false ∷ marks) h = count_none marks (λ n. h (suc n))
+
+pub reached_few : (marks : List Bool) (reached : List ℕ) → AreReached marks reached → length reached ≤ length marks
+reached_few marks reached r = omega (arith, r.count, count_few marks)
+
+-- one more has room
+pub reached_room : (d : Bool) (marks : List Bool) (reached : List ℕ) (n : ℕ) → n < length marks → get_or marks n d ≡ false → AreReached marks reached → length reached < length marks
+reached_room d marks reached n l e r = omega (arith, r.count, count_set d marks n l e, count_few (set marks n true), length-set marks n true)
+
+pub reached_none : (marks : List Bool) (reached : List ℕ) → AreUnmarked marks → reached ≡ [] → AreReached marks reached
+reached_none marks reached none is = record {
+  marked = λ n h. let wrong : true ≡ false = sym h ∙ none n in absurd (cc);
+  count = count_none marks none ∙ sym (ap length is);
+}
+
+-- one that was reached before
+pub reach_old : (d : Bool) (marks : List Bool) (reached : List ℕ) (n : ℕ) → n < length marks → get_or marks n d ≡ true → AreReached marks reached → Reaches reached reached (n ∷ [])
+reach_old d marks reached n l e r = record {
+  more = [];
+  whole = sym (append-nil reached);
+  all = λ m h. by_part m h;
+  only = λ m h. absurd h;
+}
+  where
+    by_part : (m : ℕ) → IsIn (n ∷ []) m → IsIn reached m
+    by_part m (inl s) = subst (λ (i : ℕ). IsIn reached i) s (r.marked n (get_or_default marks n false d l ∙ e))
+    by_part m (inr s) = absurd s
+
+pub reach_new : (reached after : List ℕ) (n : ℕ) → after ≡ reached ++ n ∷ [] → Reaches reached after (n ∷ [])
+reach_new reached after n put = record {
+  more = n ∷ [];
+  whole = put;
+  all = λ m h. subst (λ (ns : List ℕ). IsIn ns m) (sym put) (in_right reached (n ∷ []) m h);
+  only = λ m h. h;
+}
+
+pub mark_new : (d : Bool) (marks : List Bool) (reached after : List ℕ) (n : ℕ) → n < length marks → get_or marks n d ≡ false → after ≡ reached ++ n ∷ [] → AreReached marks reached → AreReached (set marks n true) after
+mark_new d marks reached after n l e put r = record {
+  marked = λ m h. subst (λ (ns : List ℕ). IsIn ns m) (sym put) (by_place m h (cases_eq m n));
+  count = count_set d marks n l e ∙ ap suc r.count ∙ sym (ap length put ∙ length-append reached (n ∷ []) ∙ omega arith);
+}
+  where
+    by_place : (m : ℕ) → get_or (set marks n true) m false ≡ true → (m ≡ n) ⊎ (m ≡ n → ⊥) → IsIn (reached ++ n ∷ []) m
+    by_place m h (inl s) = in_right reached (n ∷ []) m (inl (sym s))
+    by_place m h (inr ne) = in_left reached (n ∷ []) m (r.marked m (sym (get_or-set_other marks n m true false ne) ∙ h))
+
+pub reach_both : (first second third ps qs : List ℕ) → Reaches first second ps → Reaches second third qs → Reaches first third (ps ++ qs)
+reach_both first second third ps qs r s = record {
+  more = r.more ++ s.more;
+  whole = s.whole ∙ ap (λ (ns : List ℕ). ns ++ s.more) r.whole ∙ append_assoc first r.more s.more;
+  all = λ m h. by_part m (in_split ps qs m h);
+  only = λ m h. by_more m (in_split r.more s.more m h);
+}
+  where
+    by_part : (m : ℕ) → IsIn ps m ⊎ IsIn qs m → IsIn third m
+    by_part m (inl h) = subst (λ (ns : List ℕ). IsIn ns m) (sym s.whole) (in_left second s.more m (r.all m h))
+    by_part m (inr h) = s.all m h
+
+    by_more : (m : ℕ) → IsIn r.more m ⊎ IsIn s.more m → IsIn (ps ++ qs) m
+    by_more m (inl h) = in_left ps qs m (r.only m h)
+    by_more m (inr h) = in_right ps qs m (s.only m h)
+
+-- Marks that are taken away.
+
+pub unmark_more : (marks after : List Bool) (reached : List ℕ) (place d : ℕ) → place < length reached → get_or reached place d < length marks → after ≡ set marks (get_or reached place d) false
+    → ((n : ℕ) → get_or marks n false ≡ true → IsIn (drop place reached) n) → (n : ℕ) → get_or after n false ≡ true → IsIn (drop (place + 1) reached) n
+unmark_more marks after reached place d l within put old n h = by_place (cases_eq n (get_or reached place d))
+  where
+    there : get_or (set marks (get_or reached place d) false) n false ≡ true
+    there = sym (ap (λ (ms : List Bool). get_or ms n false) put) ∙ h
+
+    by_head : (get_or reached place d ≡ n) ⊎ IsIn (drop (place + 1) reached) n → (n ≡ get_or reached place d → ⊥) → IsIn (drop (place + 1) reached) n
+    by_head (inl e) ne = absurd (ne (sym e))
+    by_head (inr k) ne = k
+
+    by_place : (n ≡ get_or reached place d) ⊎ (n ≡ get_or reached place d → ⊥) → IsIn (drop (place + 1) reached) n
+    by_place (inl e) =
+        let gone : get_or (set marks (get_or reached place d) false) n false ≡ false =
+        ap (λ (i : ℕ). get_or (set marks (get_or reached place d) false) i false) e ∙ get_or-set_same marks (get_or reached place d) false false within in
+        let wrong : true ≡ false = sym there ∙ gone in
         absurd (cc)
-    by_place (inr ne) = let old = between j h in (old.0, omega (arith, old.1, ne))
+    by_place (inr ne) =
+        by_head (subst (λ (ns : List ℕ). IsIn ns n) (drop_more reached place d l) (old n (sym (get_or-set_other marks (get_or reached place d) n false false ne) ∙ there))) ne
 
--- Where it begins and ends.
-
-pub first_between : (n : ℕ) (marks : List Bool) → AreUnmarked marks → AreBetween n (suc n) (set marks n true)
-first_between n marks none j h = by_place (cases_eq j n)
-  where
-    by_place : (j ≡ n) ⊎ (j ≡ n → ⊥) → (n ≤ j) × (j < suc n)
-    by_place (inl same) = (omega (arith, same), omega (arith, same))
-    by_place (inr ne) = let wrong : true ≡ false = sym h ∙ get_or-set_other marks n j true false ne ∙ none j in absurd (cc)
-
-pub last_between : (low n : ℕ) (marks : List Bool) → AreBetween low n marks → n ≤ low → AreUnmarked marks
-last_between low n marks between l j = by_mark (get_or marks j false) refl
-  where
-    by_mark : (b : Bool) → get_or marks j false ≡ b → get_or marks j false ≡ false
-    by_mark true e = let at = between j e in absurd (omega (arith, at.0, at.1, l))
-    by_mark false e = e
-
-pub first_gathered : (fs : List Formula) (n : ℕ) (marks : List Bool) → n < length marks → AreUnmarked marks → HaveSame (atoms_of (absorbed_at fs n)) (gathered (open_atoms fs (suc n)) (set marks n true))
-first_gathered fs n marks within none p =
-    sym (gathered_set p (open_atoms fs (suc n)) marks n within ∙ ap (λ b. list_any p (open_atoms fs (suc n) n) || b) (unmarked_none p (open_atoms fs (suc n)) marks none)
-    ∙ sym (or_right_false (list_any p (open_atoms fs (suc n) n))) ∙ ap (λ b. list_any p (if b then atoms_of (absorbed_at fs n) else own_atoms (formula_at fs n))) own)
-  where
-    own : nat_lt n (suc n) ≡ true
-    own = grind (arith, nat_tests)
-
-pub last_gathered : (f : ℕ → List Atom) (xs : List Atom) (marks : List Bool) → AreUnmarked marks → HaveSame (xs ++ gathered f marks) xs
-last_gathered f xs marks none p = list_any-append p xs (gathered f marks) ∙ ap (λ b. list_any p xs || b) (unmarked_none p f marks none) ∙ sym (or_right_false (list_any p xs))
+pub unmarked_all : (marks : List Bool) (reached : List ℕ) (place : ℕ) → length reached ≤ place → ((n : ℕ) → get_or marks n false ≡ true → IsIn (drop place reached) n) → AreUnmarked marks
+unmarked_all marks reached place l old n = false_from_ne_true (get_or marks n false) (λ h. subst (λ (ns : List ℕ). IsIn ns n) (drop_all place reached l) (old n h))

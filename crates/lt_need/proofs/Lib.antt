@@ -1,8 +1,10 @@
 -- What gates stand for.
 pub mod Standings
+-- What is in lists, and tests of it.
+pub mod Lists
 -- How many different atoms there are.
 pub mod Counting
--- What marked gates have.
+-- What is reached from a gate.
 pub mod Gatherings
 -- Room to gather atoms in.
 pub mod Rooms

@@ -1,5 +1,5 @@
 -- The hard variables of lists with the same atoms, and their points.
-use Rattle.std.proofs.Common.{◌≡◌, ◌<◌, ◌+◌, ◌*◌, ◌^◌, ◌&&◌, ◌||◌, ℕ, suc, min, Bool, true, false, not, List, [], ◌∷◌, length, refl, ap, sym, ◌∙◌, add-one, arith, drop, get_or}
+use Rattle.std.proofs.Common.{◌≡◌, ◌<◌, ◌+◌, ◌*◌, ◌^◌, ◌&&◌, ◌||◌, ℕ, suc, min, Bool, false, not, List, [], ◌∷◌, length, refl, ap, sym, ◌∙◌, add-one, drop, get_or}
 use Rattle.std.specs.Prelude.{if◌then◌else◌}
 use Rattle.std.specs.List.{list_any}
 use Rattle.std.proofs.lemmas.List.{drop_more}
@@ -69,12 +69,3 @@ product_more marks ranges i product points result d counts l marked pointed is =
     ap (λ (k : ℕ). min (product * k) most_need)
     (points_more marks ranges i d l ∙ ap (λ (k : ℕ). k * marked_points marks (i + 1) (drop (i + 1) ranges)) (sym (pointed ∙ ap (λ (b : Bool). points_in b (get_or ranges i d)) marked)))
     ∙ one_factor product points (marked_points marks (i + 1) (drop (i + 1) ranges)) most_need ∙ ap (λ (k : ℕ). min (k * marked_points marks (i + 1) (drop (i + 1) ranges)) most_need) (sym is)
-
--- Variables of a scope.
-
-pub scope_more : (scope : List Bool) (i : ℕ) (d : Bool) → i < length scope → variables_in (drop i scope) ≡ (if get_or scope i d then 1 else 0) + variables_in (drop (i + 1) scope)
-scope_more scope i d l = ap variables_in (drop_more scope i d l) ∙ by_mark (get_or scope i d) (drop (i + 1) scope)
-  where
-    by_mark : (b : Bool) (rest : List Bool) → variables_in (b ∷ rest) ≡ (if b then 1 else 0) + variables_in rest
-    by_mark true rest = omega arith
-    by_mark false rest = omega arith

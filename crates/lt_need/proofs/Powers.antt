@@ -1,11 +1,9 @@
 -- Products that stop.
-use Rattle.std.proofs.Common.{◌≡◌, ◌<◌, ◌≤◌, ◌+◌, ◌-◌, ◌*◌, ◌^◌, ◌⊎◌, inl, inr, ℕ, zero, suc, min, ℤ, pos, negsuc, ◌+ℤ◌, ◌-ℤ◌, ◌≤ℤ◌, ◌<ℤ◌, unsigned_abs, refl, ap, sym, ◌∙◌, arith}
-use Rattle.std.specs.Int.{int_gap}
+use Rattle.std.proofs.Common.{◌≡◌, ◌<◌, ◌≤◌, ◌+◌, ◌-◌, ◌*◌, ◌^◌, ◌⊎◌, inl, inr, ℕ, zero, suc, min, pos, ap, sym, ◌∙◌, arith}
 use Rattle.std.proofs.lemmas.Int.{ints, by_lt_z}
 use Rattle.std.proofs.lemmas.Bool.{cases_lt}
 use Rattle.std.proofs.lemmas.Nat.{mul-le}
 use Rattle.std.proofs.Math.Nat.{mul_assoc, pow-suc}
-use Rattle.lt_num.specs.Range.{count_of}
 use Rattle.lt_space.specs.Need.{most_need}
 
 stopped : (x most : ℕ) → min (min x most * 3) most ≡ min (x * 3) most
@@ -61,28 +59,3 @@ one_factor n c (suc p) most =
     by_lt_z (pos most) (pos (n * c))
     (λ more. factor_more n c (suc p) most (omega (arith, ints, more)) (omega arith))
     (λ not_more. factor_less n c (suc p) most (omega (arith, ints, not_more)))
-
--- a number that isn't under another one is the other one and the gap between them
-gap_above : (a b : ℤ) → a ≤ℤ b → a +ℤ pos (int_gap a b) ≡ b
-gap_above (pos a) (pos b) h = omega (arith, ints)
-gap_above (pos a) (negsuc b) h = absurd (omega (arith, ints))
-gap_above (negsuc a) (pos b) h = omega (arith, ints)
-gap_above (negsuc a) (negsuc b) h = omega (arith, ints)
-
--- how many numbers a range has that has its low end
-pub count_from : (low high : ℤ) → low ≤ℤ high → unsigned_abs (high -ℤ low) + 1 ≡ count_of (record { low = low; high = high })
-count_from low high h = let above = gap_above low (high +ℤ pos 1) (omega (arith, ints)) in omega (arith, ints)
-
--- one that hasn't has none
-pub count_none : (low high : ℤ) → high <ℤ low → 0 ≡ count_of (record { low = low; high = high })
-count_none low high h = none low (high +ℤ pos 1) (omega (arith, ints))
-  where
-    none : (a b : ℤ) → b ≤ℤ a → 0 ≡ int_gap a b
-    none (pos a) (pos b) k = omega (arith, ints)
-    none (pos a) (negsuc b) k = refl
-    none (negsuc a) (pos b) k = absurd (omega (arith, ints))
-    none (negsuc a) (negsuc b) k = omega (arith, ints)
-
--- the last factor
-pub done_product : (n p most : ℕ) → p ≡ 1 → n ≤ most → n ≡ min (n * p) most
-done_product n p most one l = let is : n * p ≡ n = ap (λ (k : ℕ). n * k) one ∙ omega arith in omega (arith, l, is)

@@ -3,8 +3,8 @@ use Rattle.std.proofs.Common.{◌≡◌, ◌<◌, ◌≤◌, ◌&&◌, ◌||◌,
 use Rattle.std.specs.Prelude.{if◌then◌else◌}
 use Rattle.std.specs.List.{list_any}
 use Rattle.std.proofs.lemmas.Bool.{and_from, and_parts, and_right, both_ways, cases_eq, eq-eqb, false_from_ne_true, lt-leb, leb-false, ne_eqb, not_from_false, not_from_true, or_cases, or_from, or_left, or_right}
-use Rattle.std.proofs.lemmas.List.{get_or-replicate, get_or-set_other, get_or-set_same, take_all}
-use Rattle.std.proofs.lemmas.List.Folds.{list_any-append, list_any_more}
+use Rattle.std.proofs.lemmas.List.{get_or-set_other, get_or-set_same, take_all}
+use Rattle.std.proofs.lemmas.List.Folds.{list_any_more}
 use Rattle.lt_formula.specs.Limits.{most_variables}
 use Rattle.lt_linear.specs.Form.{Term}
 use Rattle.lt_space.specs.Circuit.{formula_at}
@@ -14,7 +14,9 @@ use Rattle.lt_need.specs.Need.{has_variable, is_difference, is_equation, is_hard
 use Rattle.lt_need.specs.inner.Counts.{found_atoms, is_among}
 use Rattle.lt_need.specs.inner.Marks.{own_atoms}
 use Rattle.lt_need.specs.inner.Uses.{AreOwned, AreOwners, IsOwned, IsRising, UseTest, equation_in, has_shared, is_hard_among, is_hard_at, is_hard_with, is_used, passes_some, same_at, several_at, several_in}
-use Rattle.lt_need.proofs.Counting.{atom_same, same_atom_is}
+use Rattle.lt_need.specs.inner.Reached.{IsIn}
+use Rattle.lt_need.proofs.Counting.{atom_same, found_any, same_atom_is}
+use Rattle.lt_need.proofs.Lists.{any_in, in_any, same_from}
 
 -- Tests.
 
@@ -45,28 +47,10 @@ and_flip true false = refl
 and_flip false true = refl
 and_flip false false = refl
 
-same_from : (a b : Bool) → (a ≡ true → b ≡ true) → (b ≡ true → a ≡ true) → a ≡ b
-same_from true b f g = sym (f refl)
-same_from false true f g = g refl
-same_from false false f g = refl
-
 self_eq : (v : ℕ) → nat_eq v v ≡ true
 self_eq v = eq-eqb v v refl
 
 -- Lists.
-
-abbrev IsIn : {A : Type 0} → List A → A → Type 0
-IsIn [] a = ⊥
-IsIn (x ∷ xs) a = (x ≡ a) ⊎ IsIn xs a
-
-in_any : {A : Type 0} (p : A → Bool) (xs : List A) (a : A) → IsIn xs a → p a ≡ true → list_any p xs ≡ true
-in_any p [] a h e = absurd h
-in_any p (x ∷ xs) a (inl s) e = or_left (p x) (list_any p xs) (ap p s ∙ e)
-in_any p (x ∷ xs) a (inr h) e = or_right (p x) (list_any p xs) (in_any p xs a h e)
-
-any_in : {A : Type 0} (p q : A → Bool) (xs : List A) → ((a : A) → IsIn xs a → p a ≡ q a) → list_any p xs ≡ list_any q xs
-any_in p q [] e = refl
-any_in p q (x ∷ xs) e = ap (λ b. b || list_any p xs) (e x (inl refl)) ∙ ap (λ b. q x || b) (any_in p q xs (λ a h. e a (inr h)))
 
 any_false : {A : Type 0} (xs : List A) → list_any (λ (x : A). false) xs ≡ false
 any_false [] = refl
@@ -90,10 +74,6 @@ any_and p k (x ∷ xs) = ap (λ b. (p x && k) || b) (any_and p k xs) ∙ out (p 
 any_swap : {A B : Type 0} (f : A → B → Bool) (xs : List A) (ys : List B) → list_any (λ x. list_any (λ y. f x y) ys) xs ≡ list_any (λ y. list_any (λ x. f x y) xs) ys
 any_swap f [] ys = sym (any_false ys)
 any_swap f (x ∷ xs) ys = ap (λ b. list_any (λ y. f x y) ys || b) (any_swap f xs ys) ∙ sym (any_or (λ y. f x y) (λ y. list_any (λ z. f z y) xs) ys)
-
-found_any : (p : Atom → Bool) (fs : List Formula) (ns : List ℕ) → list_any p (found_atoms fs ns) ≡ list_any (λ n. list_any p (own_atoms (formula_at fs n))) ns
-found_any p fs [] = refl
-found_any p fs (n ∷ ns) = list_any-append p (own_atoms (formula_at fs n)) (found_atoms fs ns) ∙ ap (λ b. list_any p (own_atoms (formula_at fs n)) || b) (found_any p fs ns)
 
 -- Atoms of numbers.
 
@@ -165,17 +145,6 @@ module _ (fs : List Formula) (used : UseTest → Bool) (n v : ℕ) where
     s.1 ∙ or_nothing (used (λ m i. nat_eq i u && not (same_at fs m o))) (nat_eq v u && not (same_at fs n o)) (and_nothing (nat_eq v u) (not (same_at fs n o)) ne),
   )
 
-  -- of one without an owner
-  first_owned : (shared : Bool) → IsRising used → same_at fs n n ≡ true → IsOwned fs used v None shared → IsOwned fs added v (Some n) shared
-  first_owned shared rising self s = (
-    or_right (used (λ m i. nat_eq i v && same_at fs m n)) (nat_eq v v && same_at fs n n) (and_from (nat_eq v v) (same_at fs n n) (self_eq v) self),
-    s.0 ∙ sym (or_from (used (λ m i. nat_eq i v && not (same_at fs m n))) (nat_eq v v && not (same_at fs n n)) none (and_right (nat_eq v v) (not (same_at fs n n)) (not_from_true (same_at fs n n) self))),
-  )
-    where
-      none : used (λ m i. nat_eq i v && not (same_at fs m n)) ≡ false
-      none = false_from_ne_true (used (λ m i. nat_eq i v && not (same_at fs m n)))
-          (λ h. both_ways (used (λ m i. nat_eq i v)) s.1 (rising (λ m i. nat_eq i v && not (same_at fs m n)) (λ m i. nat_eq i v) (λ m i k. (and_parts (nat_eq i v) (not (same_at fs m n)) k).0) h))
-
   -- of one whose owner has the same atom, or another one
   same_owned : (o : ℕ) (shared : Bool) → same_at fs n o ≡ true → IsOwned fs used v (Some o) shared → IsOwned fs added v (Some o) shared
   same_owned o shared same s = (
@@ -193,25 +162,6 @@ module _ (fs : List Formula) (used : UseTest → Bool) (n v : ℕ) where
   module _ (owners : List (Option ℕ)) (shared : List Bool) (few : v < most_variables) (known : AreOwned fs used owners shared) where
     none_beyond : added (λ m i. nat_le most_variables i) ≡ false
     none_beyond = or_from (used (λ m i. nat_le most_variables i)) (nat_le most_variables v) known.few (lt-leb most_variables v few)
-
-    pub first_use : (long : length owners ≡ most_variables) → get_or owners v None ≡ None → same_at fs n n ≡ true → AreOwned fs added (set owners v (Some n)) shared
-    first_use long named self = record {
-      each = λ u l. by_place u l (cases_eq u v);
-      few = none_beyond;
-      rising = added_rising known.rising;
-    }
-      where
-        within : v < length owners
-        within = omega (arith, few, long)
-
-        here : IsOwned fs added v (get_or (set owners v (Some n)) v None) (get_or shared v false)
-        here = subst (λ (o : Option ℕ). IsOwned fs added v o (get_or shared v false)) (sym (get_or-set_same owners v (Some n) None within))
-            (first_owned (get_or shared v false) known.rising self (subst (λ (o : Option ℕ). IsOwned fs used v o (get_or shared v false)) named (known.each v few)))
-
-        by_place : (u : ℕ) → u < most_variables → (u ≡ v) ⊎ (u ≡ v → ⊥) → IsOwned fs added u (get_or (set owners v (Some n)) u None) (get_or shared u false)
-        by_place u l (inl e) = subst (λ (j : ℕ). IsOwned fs added j (get_or (set owners v (Some n)) j None) (get_or shared j false)) (sym e) here
-        by_place u l (inr ne) = subst (λ (o : Option ℕ). IsOwned fs added u o (get_or shared u false)) (sym (get_or-set_other owners v u (Some n) None ne))
-            (other_owned u (get_or owners u None) (get_or shared u false) (ne_eqb v u (λ e. ne (sym e))) (known.each u l))
 
     pub later_use : (o : ℕ) (after : List Bool) → (long : length shared ≡ most_variables) → get_or owners v None ≡ Some o → after ≡ (if same_at fs n o then shared else set shared v true) → AreOwned fs added owners after
     later_use o after long named is = subst (λ (ms : List Bool). AreOwned fs added owners ms) (sym is) (by_same (same_at fs n o) refl)
@@ -260,10 +210,6 @@ module _ (fs : List Formula) (used told : UseTest → Bool) (same : (test : UseT
 
 -- Loops over terms and numbers.
 
-pub no_terms : (fs : List Formula) (used : UseTest → Bool) (n : ℕ) (owners : List (Option ℕ)) (shared : List Bool) → AreOwned fs used owners shared
-    → AreOwned fs (λ test. used test || passes_some test n []) owners shared
-no_terms fs used n owners shared known = owned_told fs used (λ test. used test || passes_some test n []) (λ test. sym (or_false (used test))) owners shared known
-
 pub term_more : (fs : List Formula) (used : UseTest → Bool) (n : ℕ) (terms : List Term) (i v : ℕ) (t : Term) (owners : List (Option ℕ)) (shared : List Bool) → i < length terms → v ≡ (get_or terms i t).0
     → AreOwned fs (λ test. (used test || passes_some test n (take i terms)) || test n v) owners shared → AreOwned fs (λ test. used test || passes_some test n (take (i + 1) terms)) owners shared
 term_more fs used n terms i v t owners shared l named known =
@@ -275,22 +221,11 @@ pub terms_whole : (fs : List Formula) (used : UseTest → Bool) (n i : ℕ) (ter
 terms_whole fs used n i terms owners shared l is known =
     subst (λ (ts : List Term). AreOwned fs (λ test. used test || passes_some test n ts) owners shared) (take_all i terms l ∙ is) known
 
-pub no_numbers : (fs : List Formula) (owners : List (Option ℕ)) (shared : List Bool) (m k : ℕ) → owners ≡ replicate m None → m ≡ most_variables → shared ≡ replicate k false → k ≡ most_variables → AreOwned fs (is_used fs []) owners shared
-no_numbers fs owners shared m k os e ms f = record {
-  each = λ v l. subst (λ (o : Option ℕ). IsOwned fs (is_used fs []) v o (get_or shared v false)) (sym (ap (λ xs. get_or xs v None) os ∙ get_or-replicate m v None None (omega (arith, l, e))))
-      (subst (λ (b : Bool). IsOwned fs (is_used fs []) v None b) (sym (ap (λ xs. get_or xs v false) ms ∙ get_or-replicate k v false false (omega (arith, l, f)))) (refl, refl));
-  few = refl;
-  rising = λ less more sub h. h;
-}
-
 pub number_more : (fs : List Formula) (ns : List ℕ) (i d : ℕ) (owners : List (Option ℕ)) (shared : List Bool) → i < length ns
     → AreOwned fs (λ test. is_used fs (take i ns) test || passes_some test (get_or ns i d) (several_at fs (get_or ns i d))) owners shared → AreOwned fs (is_used fs (take (i + 1) ns)) owners shared
 number_more fs ns i d owners shared l known =
     owned_told fs (λ test. is_used fs (take i ns) test || passes_some test (get_or ns i d) (several_at fs (get_or ns i d))) (is_used fs (take (i + 1) ns))
     (λ test. sym (list_any_more (λ k. passes_some test k (several_at fs k)) ns i d l)) owners shared known
-
-pub numbers_whole : (fs : List Formula) (ns : List ℕ) (i : ℕ) (owners : List (Option ℕ)) (shared : List Bool) → length ns ≤ i → AreOwned fs (is_used fs (take i ns)) owners shared → AreOwned fs (is_used fs ns) owners shared
-numbers_whole fs ns i owners shared l known = subst (λ (ks : List ℕ). AreOwned fs (is_used fs ks) owners shared) (take_all i ns l) known
 
 -- no owners
 none_owner : (n v : ℕ) (absent : Option ℕ) → get_or (replicate n absent) v absent ≡ absent
@@ -383,14 +318,3 @@ pub none_marked : (n i : ℕ) → get_or (replicate n false) i false ≡ false
 none_marked zero i = refl
 none_marked (suc n) zero = refl
 none_marked (suc n) (suc i) = none_marked n i
-
-pub mark_more : (before marks after : List Bool) (terms : List Term) (k v i : ℕ) (t : Term) → k < length terms → v ≡ (get_or terms k t).0 → v < length marks → after ≡ set marks v true
-    → get_or marks i false ≡ (get_or before i false || has_variable (take k terms) i) → get_or after i false ≡ (get_or before i false || has_variable (take (k + 1) terms) i)
-mark_more before marks after terms k v i t l named within is known =
-    ap (λ (ms : List Bool). get_or ms i false) is ∙ by_place (cases_eq i v)
-    ∙ ap (λ b. b || nat_eq v i) known ∙ or_assoc (get_or before i false) (has_variable (take k terms) i) (nat_eq v i)
-    ∙ ap (λ b. get_or before i false || b) (ap (λ (j : ℕ). has_variable (take k terms) i || nat_eq j i) named ∙ sym (list_any_more (λ u. nat_eq u.0 i) terms k t l))
-  where
-    by_place : (i ≡ v) ⊎ (i ≡ v → ⊥) → get_or (set marks v true) i false ≡ (get_or marks i false || nat_eq v i)
-    by_place (inl e) = ap (λ (j : ℕ). get_or (set marks v true) j false) e ∙ get_or-set_same marks v true false within ∙ sym (or_right (get_or marks i false) (nat_eq v i) (eq-eqb v i (sym e)))
-    by_place (inr ne) = get_or-set_other marks v i true false ne ∙ or_nothing (get_or marks i false) (nat_eq v i) (ne_eqb v i (λ e. ne (sym e)))

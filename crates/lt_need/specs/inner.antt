@@ -6,4 +6,5 @@ pub mod Faces
 pub mod GatheringView
 pub mod Marks
 pub mod Points
+pub mod Reached
 pub mod Uses

@@ -108,7 +108,7 @@ fn different_at(circuit: &Circuit, faces: &[Face], from: u32, gathering: &mut Ga
         faces,
         from,
         &mut gathering.marks,
-        &mut gathering.atoms,
+        &mut gathering.reached,
     );
-    count_atoms(circuit, &gathering.atoms, &mut gathering.found)
+    count_atoms(circuit, &gathering.reached, &mut gathering.found)
 }

@@ -1,13 +1,14 @@
 //! The atoms that gates come down to once truths are absorbed.
 
-ghost use Rattle.std.specs.Prelude.{◌≡◌, ◌<◌, ◌≤◌, ◌++◌, ℕ, min, suc, false, true, length, slice_set, vec_capacity, vec_len};
+ghost use Rattle.std.specs.Prelude.{◌≡◌, ◌<◌, ◌≤◌, ◌∷◌, [], ℕ, length, slice_index_or, vec_capacity};
+ghost use Rattle.lt_space.specs.Circuit.{formula_at};
 ghost use Rattle.lt_space.specs.CircuitView.{circuit_formulas, circuit_len};
 ghost use Rattle.lt_need.specs.Need.{atoms_of};
-ghost use Rattle.lt_need.specs.inner.Counts.{AreGates, found_atoms, noted};
+ghost use Rattle.lt_need.specs.inner.Counts.{AreGates, found_atoms};
 ghost use Rattle.lt_need.specs.inner.Faces.{AreFaces, absorbed_at};
-ghost use Rattle.lt_need.specs.inner.Marks.{AreBetween, AreUnmarked, HaveSame, gathered, least_choice, least_own, least_part, open_atoms, with_choice, with_own, with_parts};
+ghost use Rattle.lt_need.specs.inner.Marks.{AreUnmarked, HaveSame};
+ghost use Rattle.lt_need.specs.inner.Reached.{AreReached, HaveSameAtoms, IsIn, IsLonger, IsSpread, Reaches, choice_parts, gate_parts, own_parts, parts_of};
 
-use crate::counts::is_atom;
 use crate::faces::{Face, face_at};
 use lt_space::{Circuit, Gate};
 
@@ -17,163 +18,204 @@ pub(crate) struct Gathering {
     /// A mark for each gate. Between two calls none is set.
     pub(crate) marks: Vec<bool>,
 
-    /// The atoms that were gathered, as the numbers of gates.
-    pub(crate) atoms: Vec<u32>,
+    /// The gates that were reached.
+    pub(crate) reached: Vec<u32>,
 
-    /// The different ones among them.
+    /// Those of them that are different atoms.
     pub(crate) found: Vec<u32>,
 }
 
-/// Gathers the atoms that a gate comes down to, as the numbers of gates that are atoms, each once and in reserved
-/// room. No mark is set before, and none afterwards. The gates from the given one down to the least that it comes
-/// down to are gone through, and no others.
+/// Those parts of a gate that it comes down to.
+#[derive(Clone, Copy)]
+pub(crate) enum Parts {
+    /// None.
+    Nothing,
+
+    /// One.
+    One(u32),
+
+    /// Two.
+    Two(u32, u32),
+
+    /// Three.
+    Three(u32, u32, u32),
+}
+
+/// Gathers the gates that a gate comes down to, each once and in reserved room: the atoms among them are its own. No
+/// mark is set before, and none afterwards.
 pub(crate) fn gather(
     circuit: &Circuit,
     faces: &[Face],
     from: u32,
     marks: &mut Vec<bool>,
-    atoms: &mut Vec<u32>,
+    reached: &mut Vec<u32>,
 )
     requires known { AreFaces (circuit_formulas circuit.now) (length faces.now) faces.now }
     requires within { from < length faces.now }
     requires few { length faces.now ≤ circuit_len circuit.now }
-    requires marks { from < length marks.old.items }
+    requires marks { length faces.now ≤ length marks.old.items }
     requires unmarked { AreUnmarked marks.old.items }
-    requires room { from < vec_capacity atoms.old }
+    requires room { length marks.old.items ≤ vec_capacity reached.old }
     ensures atoms { HaveSame (atoms_of (absorbed_at (circuit_formulas circuit.now) from))
-        (found_atoms (circuit_formulas circuit.now) atoms.new.items) }
-    ensures gates { AreGates (circuit_len circuit.now) atoms.new.items }
-    ensures few { length atoms.new.items ≤ suc from }
+        (found_atoms (circuit_formulas circuit.now) reached.new.items) }
+    ensures gates { AreGates (circuit_len circuit.now) reached.new.items }
+    ensures few { length reached.new.items ≤ length marks.new.items }
     ensures unmarked { AreUnmarked marks.new.items }
     ensures len { length marks.new.items ≡ length marks.old.items }
-    ensures room { vec_capacity atoms.new ≡ vec_capacity atoms.old }
+    ensures room { vec_capacity reached.new ≡ vec_capacity reached.old }
 {
-    atoms.clear();
-    marks[from as usize] = true;
-    let mut low = from;
-    let mut number = from;
-    'gates: loop {
-        visit(circuit, faces, number, marks, &mut low, atoms);
-        if number == low {
-            return;
-        }
-        number -= 1;
+    spread(circuit, faces, from, marks, reached);
+    unmark(marks, reached);
+}
+
+// Reaches the gates that a gate comes down to, and marks them.
+fn spread(
+    circuit: &Circuit,
+    faces: &[Face],
+    from: u32,
+    marks: &mut Vec<bool>,
+    reached: &mut Vec<u32>,
+)
+    requires known { AreFaces (circuit_formulas circuit.now) (length faces.now) faces.now }
+    requires within { from < length faces.now }
+    requires few { length faces.now ≤ circuit_len circuit.now }
+    requires marks { length faces.now ≤ length marks.old.items }
+    requires unmarked { AreUnmarked marks.old.items }
+    requires room { length marks.old.items ≤ vec_capacity reached.old }
+    ensures atoms { HaveSame (atoms_of (absorbed_at (circuit_formulas circuit.now) from))
+        (found_atoms (circuit_formulas circuit.now) reached.new.items) }
+    ensures reached { AreReached marks.new.items reached.new.items }
+    ensures gates { AreGates (length faces.now) reached.new.items }
+    ensures len { length marks.new.items ≡ length marks.old.items }
+    ensures room { vec_capacity reached.new ≡ vec_capacity reached.old }
+{
+    reached.clear();
+    reach(from, marks, reached);
+    let mut place = 0;
+    while place < reached.len() {
+        visit(circuit, faces, reached[place], marks, reached);
+        place += 1;
     }
 }
 
-// Takes the mark of a gate away, if it has one, for those of its parts, and notes it, if it is an atom.
+// Takes the marks of gates away.
+fn unmark(marks: &mut Vec<bool>, reached: &[u32])
+    requires reached { AreReached marks.old.items reached.now }
+    requires gates { AreGates (length marks.old.items) reached.now }
+    ensures unmarked { AreUnmarked marks.new.items }
+    ensures len { length marks.new.items ≡ length marks.old.items }
+{
+    for place in 0..reached.len() {
+        marks[reached[place] as usize] = false;
+    }
+}
+
+// Reaches the parts that a gate comes down to.
 fn visit(
     circuit: &Circuit,
     faces: &[Face],
     number: u32,
     marks: &mut Vec<bool>,
-    low: &mut u32,
-    atoms: &mut Vec<u32>,
+    reached: &mut Vec<u32>,
 )
     requires known { AreFaces (circuit_formulas circuit.now) (length faces.now) faces.now }
     requires within { number < length faces.now }
     requires few { length faces.now ≤ circuit_len circuit.now }
-    requires marked { number < length marks.old.items }
-    requires between { AreBetween low.old (suc number) marks.old.items }
-    requires gates { AreGates (circuit_len circuit.now) atoms.old.items }
-    requires room { vec_len atoms.old < vec_capacity atoms.old }
-    ensures atoms { HaveSame (found_atoms (circuit_formulas circuit.now) atoms.old.items ++
-        gathered (open_atoms (circuit_formulas circuit.now) (suc number)) marks.old.items)
-        (found_atoms (circuit_formulas circuit.now) atoms.new.items ++
-        gathered (open_atoms (circuit_formulas circuit.now) number) marks.new.items) }
-    ensures gates { AreGates (circuit_len circuit.now) atoms.new.items }
-    ensures few { length atoms.new.items ≤ suc (length atoms.old.items) }
-    ensures between { AreBetween low.new number marks.new.items }
-    ensures low { low.new ≤ low.old }
+    requires marks { length faces.now ≤ length marks.old.items }
+    requires room { length marks.old.items ≤ vec_capacity reached.old }
+    requires reached { AreReached marks.old.items reached.old.items }
+    requires own { IsIn reached.old.items number }
+    requires gates { AreGates (length faces.now) reached.old.items }
+    ensures spread { IsSpread (circuit_formulas circuit.now) reached.new.items number }
+    ensures same { HaveSameAtoms (circuit_formulas circuit.now) reached.old.items
+        reached.new.items }
+    ensures more { IsLonger reached.old.items reached.new.items }
+    ensures reached { AreReached marks.new.items reached.new.items }
+    ensures gates { AreGates (length faces.now) reached.new.items }
     ensures len { length marks.new.items ≡ length marks.old.items }
-    ensures room { vec_capacity atoms.new ≡ vec_capacity atoms.old }
+    ensures room { vec_capacity reached.new ≡ vec_capacity reached.old }
 {
-    if !marks[number as usize] {
-        return;
-    }
-    let gate = circuit.gate(number);
-    mark_own(face_at(faces, number), gate, faces, marks, low);
-    marks[number as usize] = false;
-    note_atom(gate, number, atoms);
+    let parts = own_parts(face_at(faces, number), circuit.gate(number), faces);
+    reach_all(parts, marks, reached);
 }
 
-// Notes a gate, if it is an atom.
-fn note_atom(gate: Gate, number: u32, atoms: &mut Vec<u32>)
-    requires { vec_len atoms.old < vec_capacity atoms.old }
-    ensures items { atoms.new.items ≡ atoms.old.items ++ noted gate number }
-    ensures gates { (count : ℕ) → number < count → AreGates count atoms.old.items →
-        AreGates count atoms.new.items }
-    ensures room { vec_capacity atoms.new ≡ vec_capacity atoms.old }
-{
-    if is_atom(gate) {
-        atoms.push_reserved(number);
-    }
-}
-
-// Marks the parts of a gate, if it stands for no truth.
-fn mark_own(face: Face, gate: Gate, faces: &[Face], marks: &mut Vec<bool>, low: &mut u32)
-    ensures items { marks.new.items ≡ with_own face faces.now gate marks.old.items }
-    ensures low { low.new ≡ least_own face faces.now gate low.old }
-    ensures len { length marks.new.items ≡ length marks.old.items }
+// Those parts of a gate that it comes down to; of one that stands for a truth they are none.
+fn own_parts(face: Face, gate: Gate, faces: &[Face]) -> Parts
+    ensures { parts_of result ≡ own_parts face faces.now gate }
 {
     match face {
-        Face::Known(_) => {}
-        Face::Plain(_) | Face::Denied(_) | Face::Twice(_) => mark_parts(gate, faces, marks, low),
+        Face::Known(_) => Parts::Nothing,
+        Face::Plain(_) | Face::Denied(_) | Face::Twice(_) => gate_parts(gate, faces),
     }
 }
 
-// Marks the parts of a gate.
-fn mark_parts(gate: Gate, faces: &[Face], marks: &mut Vec<bool>, low: &mut u32)
-    ensures items { marks.new.items ≡ with_parts faces.now gate marks.old.items }
-    ensures low { low.new ≡ least_part faces.now gate low.old }
-    ensures len { length marks.new.items ≡ length marks.old.items }
+// Those of a gate that stands for no truth.
+fn gate_parts(gate: Gate, faces: &[Face]) -> Parts
+    ensures { parts_of result ≡ gate_parts faces.now gate }
 {
     match gate {
-        Gate::Truth(_) | Gate::Flag(_) | Gate::Compare { .. } => {}
-        Gate::Not(part) => mark(marks, low, part),
+        Gate::Truth(_) | Gate::Flag(_) | Gate::Compare { .. } => Parts::Nothing,
+        Gate::Not(part) => Parts::One(part),
         Gate::And(left, right) | Gate::Or(left, right) | Gate::Xor(left, right) => {
-            mark(marks, low, left);
-            mark(marks, low, right);
+            Parts::Two(left, right)
         }
         Gate::If(condition, first, second) => {
-            let face = face_at(faces, condition);
-            mark_choice(face, condition, first, second, marks, low);
+            choice_parts(face_at(faces, condition), condition, first, second)
         }
     }
 }
 
-// Marks those parts of an `if` that it comes down to.
-fn mark_choice(
-    face: Face,
-    condition: u32,
-    first: u32,
-    second: u32,
-    marks: &mut Vec<bool>,
-    low: &mut u32,
-)
-    ensures items { marks.new.items ≡ with_choice face condition first second marks.old.items }
-    ensures low { low.new ≡ least_choice face condition first second low.old }
-    ensures len { length marks.new.items ≡ length marks.old.items }
+// Those of an `if`.
+fn choice_parts(face: Face, condition: u32, first: u32, second: u32) -> Parts
+    ensures { parts_of result ≡ choice_parts face condition first second }
 {
     match face {
-        Face::Known(true) => mark(marks, low, first),
-        Face::Known(false) => mark(marks, low, second),
+        Face::Known(true) => Parts::One(first),
+        Face::Known(false) => Parts::One(second),
         Face::Plain(_) | Face::Denied(_) | Face::Twice(_) => {
-            mark(marks, low, condition);
-            mark(marks, low, first);
-            mark(marks, low, second);
+            Parts::Three(condition, first, second)
         }
     }
 }
 
-// Sets a mark, and keeps the least of those that were set; one that isn't there is passed over.
-fn mark(marks: &mut Vec<bool>, low: &mut u32, number: u32)
-    ensures items { marks.new.items ≡ slice_set marks.old.items number true }
-    ensures low { low.new ≡ min low.old number }
+// Reaches parts.
+fn reach_all(parts: Parts, marks: &mut Vec<bool>, reached: &mut Vec<u32>)
+    requires within { (n : ℕ) → IsIn (parts_of parts) n → n < length marks.old.items }
+    requires reached { AreReached marks.old.items reached.old.items }
+    requires room { length marks.old.items ≤ vec_capacity reached.old }
+    ensures reaches { Reaches reached.old.items reached.new.items (parts_of parts) }
+    ensures reached { AreReached marks.new.items reached.new.items }
     ensures len { length marks.new.items ≡ length marks.old.items }
+    ensures room { vec_capacity reached.new ≡ vec_capacity reached.old }
 {
-    *low = (*low).min(number);
-    if (number as usize) < marks.len() {
-        marks[number as usize] = true;
+    match parts {
+        Parts::Nothing => {}
+        Parts::One(part) => reach(part, marks, reached),
+        Parts::Two(left, right) => {
+            reach(left, marks, reached);
+            reach(right, marks, reached);
+        }
+        Parts::Three(condition, first, second) => {
+            reach(condition, marks, reached);
+            reach(first, marks, reached);
+            reach(second, marks, reached);
+        }
     }
+}
+
+// Reaches a gate and marks it, if it has no mark yet.
+fn reach(number: u32, marks: &mut Vec<bool>, reached: &mut Vec<u32>)
+    requires within { number < length marks.old.items }
+    requires reached { AreReached marks.old.items reached.old.items }
+    requires room { length marks.old.items ≤ vec_capacity reached.old }
+    ensures reaches { Reaches reached.old.items reached.new.items (number ∷ []) }
+    ensures reached { AreReached marks.new.items reached.new.items }
+    ensures len { length marks.new.items ≡ length marks.old.items }
+    ensures room { vec_capacity reached.new ≡ vec_capacity reached.old }
+{
+    if marks[number as usize] {
+        return;
+    }
+    marks[number as usize] = true;
+    reached.push_reserved(number);
 }

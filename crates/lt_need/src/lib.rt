@@ -6,11 +6,10 @@
 //! memory.
 //!
 //! No formula is built. Each gate has a face, which says what is left of it once truths are absorbed: a truth, or
-//! what a gate stands for, as it is or denied. By the faces the atoms of a gate are gathered, once for the whole and
-//! once for each conjunct; there the gates from its own down to the least that it comes down to are gone through. The
-//! different atoms of one conjunct are compared with each other, and else atoms only with the first that uses one of
-//! their variables. So for conjuncts that have no part in common the time grows with the gates and terms, and
-//! with the square of the different atoms of each.
+//! what a gate stands for, as it is or denied. By the faces the gates that a gate comes down to are gathered, each
+//! once: those of the whole, and those of each conjunct. The different atoms of one conjunct are compared with each
+//! other, and else an atom only with the first ones that have its variables. So the time grows with the gates and
+//! terms of the whole and of each conjunct, and with the square of the different atoms of each.
 //!
 //! `specs/Need.antt` says what a need is.
 #![tactic(auto)]

@@ -43,11 +43,11 @@ pub fn measure(
         &room.faces,
         root,
         &mut room.gathering.marks,
-        &mut room.gathering.atoms,
+        &mut room.gathering.reached,
     );
     mark_hard(
         circuit,
-        &room.gathering.atoms,
+        &room.gathering.reached,
         &mut room.owners,
         &mut room.shared,
         &mut room.hard,

@@ -59,7 +59,7 @@ impl Room {
             weights: Vec::with_capacity(alloc, gates)?,
             gathering: Gathering {
                 marks: vec![in alloc; false; gates]?,
-                atoms: Vec::with_capacity(alloc, gates)?,
+                reached: Vec::with_capacity(alloc, gates)?,
                 found: Vec::with_capacity(alloc, gates)?,
             },
             owners: vec![in alloc; None; MOST_VARIABLES]?,

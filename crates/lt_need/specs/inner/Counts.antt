@@ -1,5 +1,5 @@
 -- Different atoms of gates.
-use Rattle.std.specs.Prelude.{◌<◌, ℕ, Bool, true, false, ◌&&◌, List, [], ◌∷◌, ◌++◌, nat_le, slice_range, All, if◌then◌else◌}
+use Rattle.std.specs.Prelude.{◌<◌, ℕ, Bool, true, false, ◌&&◌, List, [], ◌∷◌, ◌++◌, nat_le, slice_range, All}
 use Rattle.std.specs.List.{list_any}
 use Rattle.lt_linear.specs.Form.{Term}
 use Rattle.lt_space.specs.Circuit.{formula_at}
@@ -25,10 +25,6 @@ is_atom (gate.And a b) = false
 is_atom (gate.Or a b) = false
 is_atom (gate.Xor a b) = false
 is_atom (gate.If a b c) = false
-
--- the number of a gate, if it is an atom
-abbrev pub noted : Gate → ℕ → List ℕ
-noted g n = if is_atom g then n ∷ [] else []
 
 -- whether its terms, if it has any, are among so many
 abbrev pub is_within : ℕ → Gate → Bool

@@ -10,4 +10,4 @@ pub returns-clause-different : goal.returns-clause-different
 returns-clause-different c =
     let fs = circuit_formulas c.args.circuit.now in
     c.count_atoms.ensures.count ∙ ap (λ (ns : List ℕ). count_different (found_atoms fs ns)) c.deref.ensures.value
-    ∙ sym (count_same (atoms_of (absorbed_at fs c.args.from)) (found_atoms fs c.gather.new.atoms.items) c.gather.ensures.atoms)
+    ∙ sym (count_same (atoms_of (absorbed_at fs c.args.from)) (found_atoms fs c.gather.new.reached.items) c.gather.ensures.atoms)

@@ -1,27 +1,26 @@
-use Rattle.std.proofs.Common.{◌∙◌, sym, length, refl}
+use Rattle.std.proofs.Common.{arith, length, subst, List, ℕ}
 use Rattle.lt_space.specs.CircuitView.{circuit_formulas, circuit_terms}
-use Rattle.lt_need.proofs.Gatherings.{unmarked_between, visit_marked, visit_unmarked, visited_between}
+use Rattle.lt_need.specs.inner.Reached.{Reaches}
+use Rattle.lt_need.proofs.Gatherings.{parts_below, reached_gates, visit_same, visit_spread}
 use Rattle.lt_need.proofs.gathering.visit.Goals as goal
 
-pub returns-then-not-index-clause-atoms : goal.returns-then-not-index-clause-atoms
-returns-then-not-index-clause-atoms c = λ p.
+pub returns-clause-spread : goal.returns-clause-spread
+returns-clause-spread c =
     let circuit = c.args.circuit.now in
-    visit_unmarked p (circuit_formulas circuit) (circuit_terms circuit) c.args.number (length (circuit_terms circuit)) c.args.faces.now c.args.marks.now.items c.index.result.now c.requires.known c.requires.within c.requires.marked c.args.atoms.now.items
-    (sym c.index.ensures ∙ c.if-not-index.true)
+    visit_spread (circuit_formulas circuit) (circuit_terms circuit) c.args.number (length (circuit_terms circuit)) c.args.faces.now c.requires.known c.requires.within c.gate.result c.face_at.result c.face_at.ensures c.gate.ensures.formula c.gate.ensures.fits
+    c.args.reached.now.items c.reach_all.new.reached.items
+    (subst (λ (ps : List ℕ). Reaches c.args.reached.now.items c.reach_all.new.reached.items ps) c.own_parts-parts.ensures c.reach_all.ensures.reaches)
 
-pub returns-then-not-index-clause-between : goal.returns-then-not-index-clause-between
-returns-then-not-index-clause-between c =
-    unmarked_between c.index.result.now c.args.low.now c.args.number c.args.marks.now.items c.requires.marked (sym c.index.ensures ∙ c.if-not-index.true) c.requires.between
-
-pub returns-clause-atoms : goal.returns-clause-atoms
-returns-clause-atoms c = λ p.
+pub returns-clause-same : goal.returns-clause-same
+returns-clause-same c =
     let circuit = c.args.circuit.now in
-    visit_marked p (circuit_formulas circuit) (circuit_terms circuit) c.args.number (length (circuit_terms circuit)) c.args.faces.now c.args.marks.now.items c.index.result.now c.requires.known c.requires.within c.requires.marked c.args.atoms.now.items
-    c.gate-gate.result c.face_at.result c.mark_own.new.marks.items _ c.note_atom.new.atoms.items c.face_at.ensures (sym c.index.ensures ∙ c.if-not-index.false) c.gate-gate.ensures.formula c.gate-gate.ensures.fits
-    c.mark_own.ensures.items refl c.note_atom.ensures.items
+    visit_same (circuit_formulas circuit) (circuit_terms circuit) c.args.number (length (circuit_terms circuit)) c.args.faces.now c.requires.known c.requires.within c.gate.result c.face_at.result c.face_at.ensures c.gate.ensures.formula c.gate.ensures.fits
+    c.args.reached.now.items c.reach_all.new.reached.items
+    (subst (λ (ps : List ℕ). Reaches c.args.reached.now.items c.reach_all.new.reached.items ps) c.own_parts-parts.ensures c.reach_all.ensures.reaches) c.requires.own
 
-pub returns-clause-between : goal.returns-clause-between
-returns-clause-between c =
+pub returns-clause-gates : goal.returns-clause-gates
+returns-clause-gates c =
     let circuit = c.args.circuit.now in
-    visited_between (circuit_formulas circuit) c.args.faces.now c.args.number (length (circuit_terms circuit)) c.index.result.now c.gate-gate.result c.face_at.result c.args.low.now c.mark_own.new.low c.args.marks.now.items c.mark_own.new.marks.items _
-    c.requires.marked (sym c.index.ensures ∙ c.if-not-index.false) c.gate-gate.ensures.fits c.requires.between c.mark_own.ensures.low c.mark_own.ensures.items refl
+    reached_gates (length c.args.faces.now) c.args.reached.now.items c.reach_all.new.reached.items _
+    (subst (λ (ps : List ℕ). Reaches c.args.reached.now.items c.reach_all.new.reached.items ps) c.own_parts-parts.ensures c.reach_all.ensures.reaches) c.requires.gates
+    (λ m h. omega (arith, c.requires.within, parts_below (circuit_formulas circuit) c.args.number (length (circuit_terms circuit)) c.args.faces.now c.face_at.result c.gate.result c.gate.ensures.fits m h))
