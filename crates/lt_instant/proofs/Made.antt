@@ -88,10 +88,10 @@ module _ (s : Scenario) (standing : Standing) where
   roots_are ns h = h ∙ ap flattened offered_is
 
   -- what was taken of a tree that isn't too large is the instant
-  pub small_taken : (seed most own : ℕ) (inputs : List Value) (n : ℕ) (r : Result Taken Memory) → n ≡ capped (size (offers_of (kinds_of s.locals.items) (process standing.term))) → n ≤ most_tree_nodes → own ≡ seed
-      → IfOk r (λ k. instant_by s.table c k ≡ taken_instant (scene s) own most c inputs (taken_in (scene s) own most c inputs)) → IfOk r (λ k. instant_by s.table c k ≡ instant_of (scene s) seed most c inputs)
-  small_taken seed most own inputs n (Err a) e l o h = tt
-  small_taken seed most own inputs n (Ok k) e l o h = h ∙ ap (λ x. taken_instant (scene s) x most c inputs (taken_in (scene s) x most c inputs)) o ∙ sym (small_is seed most inputs n e l)
+  pub small_taken : (seed most : ℕ) (inputs : List Value) (n : ℕ) (r : Result Taken Memory) → n ≡ capped (size (offers_of (kinds_of s.locals.items) (process standing.term))) → n ≤ most_tree_nodes
+      → IfOk r (λ k. instant_by s.table c k ≡ taken_instant (scene s) seed most c inputs (taken_in (scene s) seed most c inputs)) → IfOk r (λ k. instant_by s.table c k ≡ instant_of (scene s) seed most c inputs)
+  small_taken seed most inputs n (Err a) e l h = tt
+  small_taken seed most inputs n (Ok k) e l h = h ∙ sym (small_is seed most inputs n e l)
 
   -- the targets of the instant
   pub targets_are : (w : StepOfSeed) (rs : List Range) (ts : List ℤ) → ts ≡ targets_from (word_at w.seed w.step) 0 rs → rs ≡ drawn_ranges (scene s) → w.step ≡ standing.step → ts ≡ targets_of (scene s) (words_of w.seed c)

@@ -32,14 +32,14 @@ pub targets_long : (m : Moment) (rs : List Range) → rs ≡ drawn_ranges (scene
 targets_long m rs r = ap length m.targets_are ∙ targets_len (word_of m) 0 (drawn_ranges (scene_of m)) ∙ ap length (sym r)
 
 -- one more target
-pub targets_more : (word : ℕ → ℕ) (n : ℕ) (rs : List Range) (d : Range) (ts us : List ℤ) (t : ℤ) (all : List ℤ) → n < length rs → ts ++ targets_from word n (drop n rs) ≡ all → t ≡ target_of (get_or rs n d) (word (slot_of_variable n)) → us ≡ ts ++ t ∷ []
+pub targets_more : (word : ℕ → ℕ) (n : ℕ) (rs : List Range) (d : Range) (ts us : List ℤ) (t : ℤ) (w : ℕ) (all : List ℤ) → n < length rs → ts ++ targets_from word n (drop n rs) ≡ all → t ≡ target_of (get_or rs n d) w → w ≡ word (slot_of_variable n) → us ≡ ts ++ t ∷ []
     → us ++ targets_from word (n + 1) (drop (n + 1) rs) ≡ all
-targets_more word n rs d ts us t all l h e g =
+targets_more word n rs d ts us t w all l h e at g =
     let next : n + 1 ≡ suc n = omega arith in
     let more : List ℤ = targets_from word (suc n) (drop (suc n) rs) in
     (λ i. g i ++ targets_from word (next i) (drop (next i) rs))
     ∙ append_assoc ts (t ∷ []) more
-    ∙ ap (λ x. ts ++ x ∷ more) e
+    ∙ ap (λ x. ts ++ x ∷ more) (e ∙ ap (target_of (get_or rs n d)) at)
     ∙ ap (λ qs. ts ++ targets_from word n qs) (sym (drop-cons rs n d l))
     ∙ h
 

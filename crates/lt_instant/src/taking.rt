@@ -25,7 +25,6 @@ use crate::finding::Finding;
 use crate::moment::Moment;
 use crate::reaction::Reaction;
 use crate::scopes::{scoped, values_of};
-use crate::settings::Settings;
 use crate::sizes::sizes_of;
 use crate::solver::Solver;
 use crate::standing::Standing;
@@ -76,8 +75,9 @@ pub enum Taken {
     },
 }
 
-/// What an instant takes of what is offered where a run stands, where the inputs have these values. Nothing is
-/// made of a tree that is too large.
+/// What an instant takes of what is offered where a run stands, where the inputs have these values. It draws by the
+/// words of the step at which the run stands, and begins no search whose need is over the budget. Nothing is made
+/// of a tree that is too large.
 ///
 /// # Errors
 ///
@@ -87,16 +87,18 @@ pub fn take_instant(
     scenario: &Scenario,
     standing: &Standing,
     inputs: &[Value],
-    settings: Settings,
+    words: &StepWords,
+    budget: u64,
     solver: &mut Solver,
 ) -> Result<Taken, Memory>
+    requires words { words.now.step ≡ standing.now.step }
     requires within { IsTrue (passes (numbers_of scenario.now) (process standing.now.term)) }
     requires counted { IsCounted (process standing.now.term) }
     requires solver { IsSolverOf scenario.now solver.old }
     // It is the instant of the rules.
     ensures takes { IfOk result (λ k.
         instant_by scenario.now.table (configuration scenario.now.table standing.now) k ≡
-        instant_of (scene scenario.now) settings.seed settings.budget
+        instant_of (scene scenario.now) words.now.seed budget
         (configuration scenario.now.table standing.now) inputs.now) }
     // What is left to be done has the numbers of the scenario, and at most one more turn done.
     ensures within { IfOk result (NextOf (λ p. IsTrue (passes (numbers_of scenario.now) p))) }
@@ -113,16 +115,15 @@ pub fn take_instant(
     let tree = offers(alloc, scenario, &standing.term)?;
     let sizes = sizes_of(alloc, &tree.nodes)?;
     let earlier = earlier_values(alloc, scenario, &standing.previous)?;
-    let words = StepWords::new(settings.seed, standing.step);
-    let targets = targets_of(alloc, &words, solver.ranges())?;
+    let targets = targets_of(alloc, words, solver.ranges())?;
     let moment = Moment {
         scenario,
         standing,
         inputs,
         earlier: &earlier,
-        words: &words,
+        words,
         targets: &targets,
-        budget: settings.budget,
+        budget,
     };
     take_drawn(alloc, &moment, solver, tree.nodes, &sizes)
 }

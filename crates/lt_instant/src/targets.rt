@@ -1,10 +1,9 @@
 //! The targets of an instant.
 
-ghost use Rattle.std.specs.Prelude.{◌≡◌, ◌<◌, ◌≤◌, ◌≤ℤ◌, IfOk, length};
-ghost use Rattle.lt_draw.specs.Target.{target_of};
+ghost use Rattle.std.specs.Prelude.{◌≡◌, ◌≤◌, IfOk, length};
 ghost use Rattle.lt_draw.specs.Word.{word_at};
 ghost use Rattle.lt_formula.specs.Limits.{most_variables};
-ghost use Rattle.lt_instant.specs.Solved.{slot_of_variable, targets_from};
+ghost use Rattle.lt_instant.specs.Solved.{targets_from};
 ghost use Rattle.lt_instant.specs.inner.Ranges.{AreSome};
 
 use lt_draw::{StepWords, target};
@@ -26,18 +25,9 @@ pub fn targets_of(
         targets_from (word_at words.now.seed words.now.step) 0 ranges.now) }
 {
     let mut targets = Vec::new(alloc);
-    for (number, range) in ranges.iter().enumerate() {
-        targets.push(target_of(words, number, *range))?;
+    let mut drawn = words.starting_at(FIRST_SLOT);
+    for range in ranges {
+        targets.push(target(*range, drawn.next_word()))?;
     }
     Ok(targets)
-}
-
-// The target of the variable of this number, whose range is this.
-fn target_of(words: &StepWords, number: usize, range: Range) -> i64
-    requires some { range.low ≤ℤ range.high }
-    requires few { number < most_variables }
-    ensures { result ≡ target_of range
-        (word_at words.now.seed words.now.step (slot_of_variable number)) }
-{
-    target(range, words.word(FIRST_SLOT + number as u32))
 }

@@ -1,5 +1,5 @@
 -- What a step answers, from what is taken.
-use Rattle.std.proofs.Common.{◌≡◌, ◌≤◌, Bool, true, false, List, ap, sym, ◌∙◌}
+use Rattle.std.proofs.Common.{◌≡◌, ◌≤◌, ℕ, Bool, true, false, List, ap, sym, ◌∙◌}
 use Rattle.std.specs.declared.option.Option.{Option}
 use Rattle.lt_num.specs.declared.value.Value.{Value}
 use Rattle.lt_term.specs.Configuration.{Configuration}
@@ -20,10 +20,10 @@ module _ (m : State) (b : Bool) (c : Configuration) (locals : List (Option Value
   answers i h e = ap (answered m) (sym e) ∙ ap (λ p. step_in m (phase_of p c locals) inputs) (sym h)
 
   -- one with values
-  pub answers_values : (next : Configuration) (shown : List (Option Value)) (outputs : List Value) → b ≡ false → values outputs shown next ≡ instant_of m.scene m.seed m.budget c inputs
-      → record { outcome = outcome.Values; state = record m { phase = phase_of b next shown } } ≡ step_in m (phase_of b c locals) inputs
-  answers_values next shown outputs h e =
-      ap (λ p. let x : Step = record { outcome = outcome.Values; state = record m { phase = phase_of p next shown } } in x) h ∙ answers (values outputs shown next) h (sym e)
+  pub answers_values : (next : Configuration) (shown : List (Option Value)) (outputs : List Value) (own : ℕ) → b ≡ false → own ≡ m.seed → values outputs shown next ≡ instant_of m.scene m.seed m.budget c inputs
+      → record { outcome = outcome.Values; state = record m { seed = own; phase = phase_of b next shown } } ≡ step_in m (phase_of b c locals) inputs
+  answers_values next shown outputs own h s e =
+      (λ i. let x : Step = record { outcome = outcome.Values; state = record m { seed = s i; phase = phase_of (h i) next shown } } in x) ∙ answers (values outputs shown next) h (sym e)
 
   -- one that ends the run
   pub answers_end : (i : Instant) (o r : Outcome) (st : State) → b ≡ false → i ≡ instant_of m.scene m.seed m.budget c inputs → ended m o ≡ answered m i → r ≡ o → st ≡ record m { phase = finished }

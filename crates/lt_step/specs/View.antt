@@ -21,7 +21,7 @@ standing_of m = configuration m.scenario.table m.standing
 abbrev pub machine_state : Machine → State
 machine_state m = record {
   scene = scene m.scenario;
-  seed = m.settings.seed;
-  budget = m.settings.budget;
+  seed = m.words.seed;
+  budget = m.budget;
   phase = phase_of m.is_finished (standing_of m) m.locals.items;
 }

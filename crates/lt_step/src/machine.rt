@@ -8,7 +8,8 @@ ghost use Rattle.lt_term.specs.Within.{passes};
 ghost use Rattle.lt_instant.specs.SolverView.{IsSolverOf};
 ghost use Rattle.lt_step.specs.inner.Done.{is_done_to};
 
-use lt_instant::{Settings, Solver, Standing, Taken, take_instant};
+use lt_draw::StepWords;
+use lt_instant::{Solver, Standing, Taken, take_instant};
 use lt_num::{Arith, Value};
 use lt_term::{Memory, Scenario, Var, body_is_valid, turns_grow_by_one};
 use std::alloc::Global;
@@ -48,7 +49,8 @@ pub enum Outcome {
 #[derive(Drop)]
 pub struct Machine {
     scenario: Scenario,
-    settings: Settings,
+    words: StepWords,
+    budget: u64,
     solver: Solver,
     standing: Standing,
     locals: Vec<Option<Value>>,
@@ -56,6 +58,7 @@ pub struct Machine {
     ghost within: { IsTrue (passes (numbers_of scenario) (process standing.term)) },
     ghost counted: { IsTrue (is_done_to standing.step (process standing.term)) },
     ghost solves: { IsSolverOf scenario solver },
+    ghost in_step: { words.step ≡ standing.step },
 }
 
 impl Machine {
@@ -85,7 +88,8 @@ impl Machine {
         let solver = Solver::make(alloc, &scenario)?;
         Ok(Machine {
             scenario,
-            settings: Settings { seed, budget },
+            words: StepWords::new(seed, 1),
+            budget,
             solver,
             standing: Standing {
                 term,
@@ -120,7 +124,8 @@ impl Machine {
             &self.scenario,
             &self.standing,
             inputs,
-            self.settings,
+            &self.words,
+            self.budget,
             &mut self.solver,
         ) {
             Ok(
@@ -130,6 +135,7 @@ impl Machine {
                     next,
                 },
             ) => {
+                self.words.next_step();
                 self.standing = Standing {
                     term: next,
                     step: self.standing.step + 1,

@@ -1,6 +1,5 @@
 use Rattle.std.proofs.Common.{List, ap, sym, subst, ◌∙◌, arith}
 use Rattle.lt_num.specs.declared.range.Range.{Range}
-use Rattle.lt_draw.specs.Word.{StepOfSeed}
 use Rattle.lt_term.specs.SceneView.{scene}
 use Rattle.lt_term.specs.View.{kinds_of, process}
 use Rattle.lt_instant.specs.Instant.{offered}
@@ -14,13 +13,12 @@ use Rattle.lt_instant.proofs.taking.take_instant.Goals as goal
 pub returns-then-count-gt-MOST_NODES-clause-takes : goal.returns-then-count-gt-MOST_NODES-clause-takes
 returns-then-count-gt-MOST_NODES-clause-takes c =
     let s = c.args.scenario.now in
-    is_over s c.args.standing.now c.args.settings.seed c.args.settings.budget c.args.inputs.now c.in_ok-count.count (c.in_ok-count.ensures (kinds_of s.locals.items)) (omega (arith, c.if-count-gt-MOST_NODES.true))
+    is_over s c.args.standing.now c.args.words.now.seed c.args.budget c.args.inputs.now c.in_ok-count.count (c.in_ok-count.ensures (kinds_of s.locals.items)) (omega (arith, c.if-count-gt-MOST_NODES.true))
 
 pub returns-clause-takes : goal.returns-clause-takes
 returns-clause-takes c =
     let s = c.args.scenario.now in
-    small_taken s c.args.standing.now c.args.settings.seed c.args.settings.budget _ c.args.inputs.now c.in_ok-count.count c.take_drawn.result (c.in_ok-count.ensures (kinds_of s.locals.items)) (omega (arith, c.if-count-gt-MOST_NODES.false))
-    (ap (λ (w : StepOfSeed). w.seed) c.new-words.ensures) c.take_drawn.ensures.takes
+    small_taken s c.args.standing.now c.args.words.now.seed c.args.budget c.args.inputs.now c.in_ok-count.count c.take_drawn.result (c.in_ok-count.ensures (kinds_of s.locals.items)) (omega (arith, c.if-count-gt-MOST_NODES.false)) c.take_drawn.ensures.takes
 
 pub returns-clause-done : goal.returns-clause-done
 returns-clause-done c =

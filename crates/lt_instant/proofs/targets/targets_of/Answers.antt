@@ -1,5 +1,5 @@
-use Rattle.std.proofs.Common.{rules, ◌≡◌, [], ◌∷◌, ◌++◌, ℕ, ℤ, of_z, to_z, w64, refl, ap, ◌∙◌, arith}
-use Rattle.lt_draw.specs.Word.{word_at}
+use Rattle.std.proofs.Common.{rules, ◌≡◌, [], ◌∷◌, ◌++◌, ◌+◌, ℕ, ℤ, of_z, to_z, w64, refl, ap, ◌∙◌, arith}
+use Rattle.lt_draw.specs.Word.{SlotOfSeed, word_at}
 use Rattle.lt_draw.specs.Target.{target_of}
 use Rattle.lt_num.specs.declared.range.Range.{Range}
 use Rattle.lt_instant.proofs.Listed.{left_none}
@@ -7,19 +7,27 @@ use Rattle.lt_instant.proofs.Ranges.{some_here, some_next, targets_more}
 use Rattle.lt_instant.specs.Solved.{slot_of_variable, targets_from}
 use Rattle.lt_instant.proofs.targets.targets_of.Goals as goal
 
-pub loop-number-preserved : goal.loop-number-preserved
-loop-number-preserved c =
-    let same : to_z w64 (of_z w64 c.target_of.result) ≡ c.target_of.result = search rules in
+pub loop-range-preserved : goal.loop-range-preserved
+loop-range-preserved c =
+    let same : to_z w64 (of_z w64 c.target.result) ≡ c.target.result = search rules in
+    let seed = c.args.words.now.seed in
+    let step = c.args.words.now.step in
+    let word = c.next_word.ensures.word ∙ ap (λ (w : SlotOfSeed). word_at w.seed w.step w.slot) c.loop-range.invariant.slot in
+    let on : slot_of_variable c.loop-range.range-index + 1 ≡ slot_of_variable (c.loop-range.range-index + 1) = omega arith in
     record {
-      targets = targets_more (word_at c.args.words.now.seed c.args.words.now.step) c.loop-number.number c.args.ranges.now _ c.loop-number.targets.items _ c.target_of.result _ c.loop-number-test.true c.loop-number.invariant.targets c.target_of.ensures (c.in_ok-push.ensures.items ∙ ap (λ (t : ℤ). c.loop-number.targets.items ++ t ∷ []) same);
-      some = some_next c.args.ranges.now c.loop-number.number c.loop-number-test.true c.loop-number.invariant.some;
+      targets = targets_more (word_at seed step) c.loop-range.range-index c.args.ranges.now _ c.loop-range.targets.items _ c.target.result _ _ c.loop-range-test.true c.loop-range.invariant.targets c.target.ensures.target word (c.in_ok-push.ensures.items ∙ ap (λ (t : ℤ). c.loop-range.targets.items ++ t ∷ []) same);
+      some = some_next c.args.ranges.now c.loop-range.range-index c.loop-range-test.true c.loop-range.invariant.some;
+      slot =
+          c.next_word.ensures.next
+          ∙ ap (λ (w : SlotOfSeed). record w { slot = w.slot + 1 }) c.loop-range.invariant.slot
+          ∙ ap (λ (n : ℕ). let w : SlotOfSeed = record { seed = seed; step = step; slot = n } in w) on;
     }
 
-pub target_of-requires-clause-some : goal.target_of-requires-clause-some
-target_of-requires-clause-some c = some_here c.args.ranges.now c.loop-number.number _ c.loop-number-test.true c.loop-number.invariant.some
+pub target-requires : goal.target-requires
+target-requires c = some_here c.args.ranges.now c.loop-range.range-index _ c.loop-range-test.true c.loop-range.invariant.some
 
 pub returns : goal.returns
 returns c =
     let word = word_at c.args.words.now.seed c.args.words.now.step in
-    left_none (targets_from word) (λ (i : ℕ) (r : Range). target_of r (word (slot_of_variable i))) (λ i r rs. refl) c.args.ranges.now c.loop-number.number c.loop-number.number c.loop-number.targets.items _
-    (omega (arith, c.loop-number-test.false)) refl c.loop-number.invariant.targets
+    left_none (targets_from word) (λ (i : ℕ) (r : Range). target_of r (word (slot_of_variable i))) (λ i r rs. refl) c.args.ranges.now c.loop-range.range-index c.loop-range.range-index c.loop-range.targets.items _
+    (omega (arith, c.loop-range-test.false)) refl c.loop-range.invariant.targets

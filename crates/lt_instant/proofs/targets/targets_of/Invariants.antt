@@ -1,12 +1,13 @@
 use Rattle.std.proofs.Common.{◌≡◌, ◌++◌, drop}
 use Rattle.lt_draw.specs.Word.{word_at}
-use Rattle.lt_instant.specs.Solved.{targets_from}
+use Rattle.lt_instant.specs.Solved.{slot_of_variable, targets_from}
 use Rattle.lt_instant.specs.inner.Ranges.{AreSome}
 use Rattle.lt_instant.proofs.targets.targets_of.Given as goal
 
--- the targets so far, and those that are left to find, are all of them
-abbrev pub invariant-loop-number : goal.invariant-loop-number
-invariant-loop-number l = record {
-  targets : l.targets.items ++ targets_from (word_at l.words.seed l.words.step) l.number (drop l.number l.ranges) ≡ targets_from (word_at l.words.seed l.words.step) 0 l.ranges;
-  some : AreSome (drop l.number l.ranges);
+-- The targets so far, and those that are left to find, are all of them. The next word is that of the next one.
+abbrev pub invariant-loop-range : goal.invariant-loop-range
+invariant-loop-range l = record {
+  targets : l.targets.items ++ targets_from (word_at l.words.seed l.words.step) l.range-index (drop l.range-index l.ranges) ≡ targets_from (word_at l.words.seed l.words.step) 0 l.ranges;
+  some : AreSome (drop l.range-index l.ranges);
+  slot : l.drawn ≡ record { seed = l.words.seed; step = l.words.step; slot = slot_of_variable l.range-index };
 }

@@ -1,4 +1,5 @@
 use Rattle.std.proofs.Common.{◌≡◌, ℕ, ap, sym, ◌∙◌, subst, arith}
+use Rattle.lt_draw.specs.Word.{StepOfSeed}
 use Rattle.lt_term.specs.Counted.{IsDoneTo}
 use Rattle.lt_term.specs.Process.{Process}
 use Rattle.lt_term.specs.SceneView.{numbers_of}
@@ -16,4 +17,5 @@ invariant_of-result c =
       within = ap (passes (numbers_of s)) same ∙ c.body_is_valid.ensures.within;
       counted = done_test 1 (process c.in_ok-term.term) (subst P (sym same) (c.turns_grow_by_one.ensures.few 0 1 (process s.body) (omega (arith)) c.body_is_valid.ensures.unbegun));
       solves = c.in_ok-solver.ensures;
+      in_step = ap (λ (w : StepOfSeed). w.step) c.new.ensures;
     }

@@ -1,4 +1,5 @@
 use Rattle.std.proofs.Common.{ℕ, ◌+◌, suc, IsTrue, ap, ◌∙◌, sym, refl, subst, arith}
+use Rattle.lt_draw.specs.Word.{StepOfSeed}
 use Rattle.lt_instant.specs.Instant.{budget, deadlock, fault, normal, raise, too_large}
 use Rattle.lt_instant.specs.TakenView.{NextOf, instant_by}
 use Rattle.lt_instant.specs.declared.taking.Taken.{Taken}
@@ -16,7 +17,7 @@ use Rattle.lt_step.proofs.machine.Machine.step.Goals as goal
 pub returns-in-Ok-Go-clause-steps : goal.returns-in-Ok-Go-clause-steps
 returns-in-Ok-Go-clause-steps c = λ _.
     let m = c.args.self.now in
-    answers_values (machine_state m) m.is_finished (standing_of m) m.locals.items c.args.inputs.now _ _ _ c.if-self.false
+    answers_values (machine_state m) m.is_finished (standing_of m) m.locals.items c.args.inputs.now _ _ _ _ c.if-self.false (ap (λ (w : StepOfSeed). w.seed) c.next_step.ensures)
     (sym (ap (instant_by m.scenario.table (standing_of m)) c.in-Ok-Go.field-0-is) ∙ c.in-Ok-Go.ensures.takes)
 
 pub returns-in-Ok-Vanish-clause-steps : goal.returns-in-Ok-Vanish-clause-steps
@@ -70,4 +71,5 @@ invariant_of-self c =
       within = subst P c.in-Ok-Go.field-0-is c.in-Ok-Go.ensures.within;
       counted = one_more k (k + 1) (process c.in-Ok-Go.next) (omega (arith)) (subst D c.in-Ok-Go.field-0-is (c.in-Ok-Go.ensures.done k (done_of k (process m.standing.term) m.counted)));
       solves = c.take_instant.ensures.solver;
+      in_step = ap (λ (w : StepOfSeed). w.step) c.next_step.ensures ∙ ap (λ n. n + 1) m.in_step;
     }
