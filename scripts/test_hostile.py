@@ -1,0 +1,112 @@
+"""That a hostile text can be made again, and that an end is judged as the documents have it."""
+
+import os
+import re
+import unittest
+
+import hostile
+
+TOP = os.path.dirname(os.path.dirname(os.path.abspath(__file__)))
+TRACE = b'#seed 0\n#inputs "b":bool\n#outputs\n'
+
+
+def codes():
+    """The rows of COMMAND's table of codes: each code with its modes and its place."""
+    with open(os.path.join(TOP, "docs", "COMMAND.md"), encoding="utf-8") as file:
+        page = file.read()
+    rows = re.findall(r"^\| `(\w+\.\w+)` \| (both|`run`) \| .* \| ([^|]*) \|$", page, re.M)
+    return {code: (modes, place) for code, modes, place in rows}
+
+
+def fault(mode, status, said="", output=b"", length=40):
+    errors = f"lurette: {said}\n".encode() if said else b""
+    return hostile.fault_of(mode, length, hostile.Outcome(status, output, errors, 0.0))
+
+
+class Texts(unittest.TestCase):
+    def test_a_seed_and_a_number_make_one_text(self):
+        for kind, made in hostile.TEXTS.items():
+            texts = [made(7, number) for number in range(40)]
+            self.assertEqual(texts, [made(7, number) for number in range(40)], kind)
+            self.assertNotEqual(texts, [made(8, number) for number in range(40)], kind)
+            self.assertGreater(len(set(texts)), 35, kind)
+
+    def test_what_is_drawn_is_the_same_in_every_version(self):
+        chance = hostile.Chance("a name")
+        self.assertEqual([chance.below(100) for _ in range(6)], [2, 19, 70, 62, 3, 89])
+
+    def test_each_way_of_a_word_ends(self):
+        for word, ways in hostile.RULES.items():
+            for way in ways:
+                parts = [it for it in way.split() if it.isupper()]
+                self.assertEqual([it for it in parts if it not in hostile.RULES], [], word)
+            self.assertTrue(hostile.spelled_out(word, 0, hostile.Chance("")), word)
+
+    def test_each_change_takes_any_text(self):
+        for change in hostile.CHANGES:
+            for text in (b"x", b"\n", b"node n() returns (b: bool) = b\n", b"\xff\x00"):
+                for number in range(20):
+                    self.assertIsInstance(change(text, hostile.Chance(f"{number}")), bytes)
+
+
+class Ends(unittest.TestCase):
+    def test_codes_have_the_places_and_the_modes_of_the_document(self):
+        found = codes()
+        self.assertEqual(sorted(found), sorted(hostile.explain.CODES))
+        for code, (modes, place) in found.items():
+            place_said, other = f"refused {code} at 3", f"refused {code}"
+            if place == "none":
+                place_said, other = other, place_said
+            self.assertIsNone(fault("run", 3, place_said), code)
+            self.assertIsNotNone(fault("run", 3, other), code)
+            self.assertEqual(fault("print", 3, place_said) is None, modes == "both", code)
+
+    def test_ends_that_are_right(self):
+        for mode, status, said, output in (
+            ("print", 0, "", b"node n ( ) returns ( b : bool ) = b\n"),
+            ("print", 0, "", b""),
+            ("run", 0, "", TRACE + b"#end limit 3\n"),
+            ("run", 0, "", TRACE + b"#end normal 0\n"),
+            ("run", 4, "deadlock 1", TRACE + b"#end deadlock 1\n"),
+            ("run", 5, "raise e 3", TRACE + b"#end raise e 3\n"),
+            ("run", 6, "fault Overflow 2", TRACE + b"#end fault Overflow 2\n"),
+            ("run", 10, "budget 200000000 1", TRACE + b"#end budget 200000000 1\n"),
+            ("run", 14, "toolarge 1", TRACE + b"#end toolarge 1\n"),
+            ("run", 11, "memory", b""),
+        ):
+            self.assertIsNone(fault(mode, status, said, output), (mode, status))
+
+    def test_ends_that_are_wrong(self):
+        for mode, status, said, output in (
+            ("run", None, "", b""),
+            ("run", -11, "", b""),
+            ("run", 134, "", b""),
+            ("run", 2, "usage: words", b""),
+            ("print", 4, "deadlock 1", b""),
+            ("print", 3, "refused lex.BadByte at 41", b""),
+            ("print", 3, "refused lex.BadByte at 03", b""),
+            ("print", 3, "refused lex.BadByte at 3", b"node"),
+            ("print", 0, "", b"node"),
+            ("print", 0, "a line", b""),
+            ("run", 0, "", TRACE),
+            ("run", 0, "", TRACE + b"#end limit 2\n"),
+            ("run", 4, "deadlock 4", TRACE + b"#end deadlock 4\n"),
+            ("run", 4, "deadlock 1", TRACE + b"#end deadlock 2\n"),
+            ("run", 4, "deadlock 1\nmore", TRACE + b"#end deadlock 1\n"),
+            ("run", 6, "fault Other 1", TRACE + b"#end fault Other 1\n"),
+        ):
+            self.assertIsNotNone(fault(mode, status, said, output), (mode, status, said))
+
+    def test_outcomes_beside_each_other(self):
+        made = lambda status, output, said: hostile.Outcome(status, output, said, 0.0)
+        refused = made(3, b"", b"lurette: refused lex.BadByte at 1\n")
+        printed, other = made(0, b"b\n", b""), made(0, b"c\n", b"")
+        untyped = made(3, b"", b"lurette: refused type.NoNode\n")
+        self.assertIsNone(hostile.fault_between(printed, printed, untyped))
+        self.assertIsNone(hostile.fault_between(refused, refused, refused))
+        self.assertIsNotNone(hostile.fault_between(printed, other, untyped))
+        self.assertIsNotNone(hostile.fault_between(printed, printed, refused))
+        self.assertIsNotNone(hostile.fault_between(refused, refused, untyped))
+
+if __name__ == "__main__":
+    unittest.main()
