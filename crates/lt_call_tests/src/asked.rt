@@ -53,7 +53,7 @@ f is node n() returns (b: bool) = b fby not b
 
 $ run f -l 1
 
-$ -l1 --seed=+0 run f --budget=0004
+$ -l1 --seed=+0 run f --budget=0360
 
 $ run --node n f -l 1 --precision 0
 

@@ -153,7 +153,7 @@ f is node n() returns (b: bool) = { | {<<14 times  &> { |1: b |1: b }>> } | {<<1
 ## a search over the budget ends a run
 > #seed 0\n#inputs "x":int "y":int "z":int\n#outputs
 
--- Three variables of six values each have 216 points, and twice as many are needed.
+-- An equation of three variables of six values each needs 180 * 4 * 216.
 $ run f
 f is node n() returns (x, y, z: int [0;5]) = 2 * x + 2 * y + 2 * z = 7
 > #end deadlock 1
@@ -164,21 +164,22 @@ f is node n() returns (x, y, z: int [0;5]) = 2 * x + 2 * y + 2 * z = 7
 > #end deadlock 1
 = 4 lurette: deadlock 1
 
-$ run f --budget 432
+$ run f --budget 155519
 f is node n() returns (x, y, z: int [0;5]) = 2 * x + 2 * y + 2 * z = 7
+> #end budget 155520 1
+= 10 lurette: budget 155520 1
+
+-- Differences need no more than that, whatever the ranges are.
+$ run f
+f is node n() returns (x, y, z: int) = x < y and y < z and z < x
 > #end deadlock 1
 = 4 lurette: deadlock 1
 
-$ run f --budget 431
-f is node n() returns (x, y, z: int [0;5]) = 2 * x + 2 * y + 2 * z = 7
-> #end budget 432 1
-= 10 lurette: budget 432 1
-
 -- It is compared before the search, also where any point would do ..
-$ run f --budget 431
+$ run f --budget 719
 f is node n() returns (x, y, z: int [0;5]) = true
-> #end budget 432 1
-= 10 lurette: budget 432 1
+> #end budget 720 1
+= 10 lurette: budget 720 1
 
 -- .. and not for what isn't looked at.
 $ run f --budget 1

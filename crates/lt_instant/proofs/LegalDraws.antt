@@ -6,7 +6,7 @@ use Rattle.lt_num.specs.declared.value.Value.{Value}
 use Rattle.lt_formula.specs.Expression.{Expression}
 use Rattle.lt_formula.specs.Solution.{FirstSolutionIsFirst, IsFirst, IsPointOf, or_else}
 use Rattle.lt_space.specs.Formula.{Formula}
-use Rattle.lt_space.specs.Need.{ranges_in}
+use Rattle.lt_space.specs.Scope.{ranges_in}
 use Rattle.lt_term.specs.Configuration.{Configuration}
 use Rattle.lt_term.specs.Evaluated.{Outlook, vanish, nothing, raised, faulty, go}
 use Rattle.lt_term.specs.Live.{IsLive}
@@ -76,10 +76,10 @@ module _ (law : FirstSolutionIsFirst) (s : Scene) (seed most : ℕ) (c : Configu
   costly nothing h e = absurd (cc)
   costly (raised z) h e = absurd (cc)
   costly (faulty f) h e = absurd (cc)
-  costly (go f ls n) h e = costly_go (need_of s ls) (nat_lt most (need_of s ls)) (go_instant s c inputs ls n (solution_of s (words_of seed c) ls f)) h e
+  costly (go f ls n) h e = costly_go (need_of s ls f) (nat_lt most (need_of s ls f)) (go_instant s c inputs ls n (solution_of s (words_of seed c) ls f)) h e
 
   -- nor is one that takes a live leaf
-  go_lives : (f : Formula) (ls : Lasts) (n : Process Expression) (b : Bool) (o : Option (List ℤ)) → Says s (words_of seed c) ls f o → CanHold s f ls → (if b then budget (need_of s ls) else go_instant s c inputs ls n o) ≡ deadlock → ⊥
+  go_lives : (f : Formula) (ls : Lasts) (n : Process Expression) (b : Bool) (o : Option (List ℤ)) → Says s (words_of seed c) ls f o → CanHold s f ls → (if b then budget (need_of s ls f) else go_instant s c inputs ls n o) ≡ deadlock → ⊥
   go_lives f ls n true o h k e = absurd (cc)
   go_lives f ls n false None h k e = h k
   go_lives f ls n false (Some raws) h k e = absurd (cc)
@@ -89,7 +89,7 @@ module _ (law : FirstSolutionIsFirst) (s : Scene) (seed most : ℕ) (c : Configu
   lives nothing h e = h
   lives (raised z) h e = absurd (cc)
   lives (faulty f) h e = absurd (cc)
-  lives (go f ls n) h e = go_lives f ls n (nat_lt most (need_of s ls)) (solution_of s (words_of seed c) ls f) (says law s (words_of seed c) ls f) h e
+  lives (go f ls n) h e = go_lives f ls n (nat_lt most (need_of s ls f)) (solution_of s (words_of seed c) ls f) (says law s (words_of seed c) ls f) h e
 
   abbrev HasOne : Type 0
   HasOne = HasLiveLeaf s (judged s c inputs)

@@ -13,7 +13,8 @@ use Rattle.lt_solver.specs.declared.answering.Answer.{Answer}
 use Rattle.lt_solver.specs.declared.answering.Answer.TheVariants.{Solution, Unsat, Budget}
 use Rattle.lt_space.specs.Formula.{Formula, holds}
 use Rattle.lt_space.specs.Meaning.{formula_of_all}
-use Rattle.lt_space.specs.Need.{need, ranges_in}
+use Rattle.lt_need.specs.Need.{need}
+use Rattle.lt_space.specs.Scope.{ranges_in}
 use Rattle.lt_term.specs.Configuration.{earlier_locals_from, scene_kinds}
 use Rattle.lt_term.specs.Tree.{Lasts}
 use Rattle.lt_instant.specs.Solved.{drawn_ranges, holds_of, scope_of, targets_of}
@@ -28,11 +29,11 @@ module _ (m : Moment) (ls : Lasts) (locals : List (Option Value)) (es : List Exp
 
   -- they have a formula, for which this was found
   pub formula_solved : (f : Formula) (scope : List Bool) (x : Found) → Ok f ≡ formula_of_all (valuation_with m locals) (scene_kinds (scene_of m)) es → scope ≡ scope_of (scene_of m) ls
-      → x ≡ found_by m.budget (need scope (drawn_ranges (scene_of m))) (first_solution (holds_of (scene_of m) f) (ranges_in scope (drawn_ranges (scene_of m))) (targets_of (scene_of m) (word_of m)))
+      → x ≡ found_by m.budget (need f scope (drawn_ranges (scene_of m))) (first_solution (holds_of (scene_of m) f) (ranges_in scope (drawn_ranges (scene_of m))) (targets_of (scene_of m) (word_of m)))
       → x ≡ found_in (scene_of m) (word_of m) m.budget ls ((worth_of m).formula ls es)
   formula_solved f scope x h s found =
       found
-      ∙ ap (λ marks. found_by m.budget (need marks (drawn_ranges (scene_of m))) (first_solution (holds_of (scene_of m) f) (ranges_in marks (drawn_ranges (scene_of m))) (targets_of (scene_of m) (word_of m)))) s
+      ∙ ap (λ marks. found_by m.budget (need f marks (drawn_ranges (scene_of m))) (first_solution (holds_of (scene_of m) f) (ranges_in marks (drawn_ranges (scene_of m))) (targets_of (scene_of m) (word_of m)))) s
       ∙ ap (found_in (scene_of m) (word_of m) m.budget ls) (worth_is (Ok f) h)
 
   -- they have a fault
@@ -69,8 +70,8 @@ told_found (Budget n) raws solution need most h = over_found most need n solutio
 
 -- the same, where these are the ranges of the workspace
 pub search_found : (m : Moment) (f : Formula) (scope : List Bool) (rs : List Range) (targets : List ℤ) (answer : Answer) (raws : List ℤ) (decimals : ℕ) → rs ≡ drawn_ranges (scene_of m) → targets ≡ targets_of (scene_of m) (word_of m) → decimals ≡ (scene_of m).decimals
-    → Tells answer raws (first_solution (λ vs. holds decimals vs f) (ranges_in scope rs) targets) (need scope rs) m.budget
-    → finding raws (finding_for answer) ≡ found_by m.budget (need scope (drawn_ranges (scene_of m))) (first_solution (holds_of (scene_of m) f) (ranges_in scope (drawn_ranges (scene_of m))) (targets_of (scene_of m) (word_of m)))
+    → Tells answer raws (first_solution (λ vs. holds decimals vs f) (ranges_in scope rs) targets) (need f scope rs) m.budget
+    → finding raws (finding_for answer) ≡ found_by m.budget (need f scope (drawn_ranges (scene_of m))) (first_solution (holds_of (scene_of m) f) (ranges_in scope (drawn_ranges (scene_of m))) (targets_of (scene_of m) (word_of m)))
 search_found m f scope rs targets answer raws decimals r t d h =
-    told_found answer raws (first_solution (λ vs. holds decimals vs f) (ranges_in scope rs) targets) (need scope rs) m.budget h
-    ∙ (λ i. found_by m.budget (need scope (r i)) (first_solution (λ vs. holds (d i) vs f) (ranges_in scope (r i)) (t i)))
+    told_found answer raws (first_solution (λ vs. holds decimals vs f) (ranges_in scope rs) targets) (need f scope rs) m.budget h
+    ∙ (λ i. found_by m.budget (need f scope (r i)) (first_solution (λ vs. holds (d i) vs f) (ranges_in scope (r i)) (t i)))

@@ -45,7 +45,7 @@ stops_agree m vanish = refl
 stops_agree m nothing = refl
 stops_agree m (raised z) = refl
 stops_agree m (faulty f) = refl
-stops_agree m (go f ls n) = go_stops (need_of (scene_of m) ls) (nat_lt m.budget (need_of (scene_of m) ls)) (solution_of (scene_of m) (word_of m) ls f)
+stops_agree m (go f ls n) = go_stops (need_of (scene_of m) ls f) (nat_lt m.budget (need_of (scene_of m) ls f)) (solution_of (scene_of m) (word_of m) ls f)
 
 pub stop_is_taken : (m : Moment) → stop_of m ≡ taken_in (scene_of m) m.words.now.seed m.budget (configuration_of m) m.inputs.now
 stop_is_taken m =

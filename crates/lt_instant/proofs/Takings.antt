@@ -75,8 +75,8 @@ module _ (s : Scene) (seed most : ℕ) (c : Configuration) (inputs : List Value)
   other_go x need false None o h = absurd (let P : Found → Type 0 = IsOther in subst P h o)
   other_go x need false (Some raws) o h = absurd (let P : Found → Type 0 = IsOther in subst P h o)
 
-  abbrev test : Lasts → Bool
-  test ls = nat_lt most (need_of s ls)
+  abbrev test : Lasts → Formula → Bool
+  test ls f = nat_lt most (need_of s ls f)
 
   abbrev solution : Lasts → Formula → Option (List ℤ)
   solution ls f = solution_of s (words_of seed c) ls f
@@ -92,39 +92,39 @@ module _ (s : Scene) (seed most : ℕ) (c : Configuration) (inputs : List Value)
   passed_by nothing h = refl
   passed_by (raised z) h = absurd (cc)
   passed_by (faulty f) h = absurd (cc)
-  passed_by (go f ls n) h = passed_go (need_of s ls) ls n (test ls) (solution ls f) h
+  passed_by (go f ls n) h = passed_go (need_of s ls f) ls n (test ls f) (solution ls f) h
 
   over_by : (k : ℕ) (o : Leaf) → over k ≡ found_here o → budget k ≡ due o
   over_by k vanish h = absurd (cc)
   over_by k nothing h = absurd (cc)
   over_by k (raised z) h = absurd (cc)
   over_by k (faulty f) h = absurd (cc)
-  over_by k (go f ls n) h = over_go (need_of s ls) k ls n (test ls) (solution ls f) h
+  over_by k (go f ls n) h = over_go (need_of s ls f) k ls n (test ls f) (solution ls f) h
 
   vanish_by : (o : Leaf) → vanishes ≡ found_here o → normal ≡ due o
   vanish_by vanish h = refl
   vanish_by nothing h = absurd (cc)
   vanish_by (raised z) h = absurd (cc)
   vanish_by (faulty f) h = absurd (cc)
-  vanish_by (go f ls n) h = other_go vanishes (need_of s ls) (test ls) (solution ls f) tt h
+  vanish_by (go f ls n) h = other_go vanishes (need_of s ls f) (test ls f) (solution ls f) tt h
 
   raise_by : (y : ℕ) (o : Leaf) → raises y ≡ found_here o → raise y ≡ due o
   raise_by y vanish h = absurd (cc)
   raise_by y nothing h = absurd (cc)
   raise_by y (raised z) h = let e : y ≡ z = cc in ap raise e
   raise_by y (faulty f) h = absurd (cc)
-  raise_by y (go f ls n) h = other_go (raises y) (need_of s ls) (test ls) (solution ls f) tt h
+  raise_by y (go f ls n) h = other_go (raises y) (need_of s ls f) (test ls f) (solution ls f) tt h
 
   fault_by : (g : Arith) (o : Leaf) → fails g ≡ found_here o → fault g ≡ due o
   fault_by g vanish h = absurd (cc)
   fault_by g nothing h = absurd (cc)
   fault_by g (raised z) h = absurd (cc)
   fault_by g (faulty f) h = let e : g ≡ f = cc in ap fault e
-  fault_by g (go f ls n) h = other_go (fails g) (need_of s ls) (test ls) (solution ls f) tt h
+  fault_by g (go f ls n) h = other_go (fails g) (need_of s ls f) (test ls f) (solution ls f) tt h
 
   -- an instant whose constraints are worth this, with its first solution
   solved_by_worth : (raws : List ℤ) (r : Result Formula Arith) (ls : Lasts) (n : Process Expression) (o : Leaf) → going r ls n ≡ o → solved raws ≡ found_here o → go_instant s c inputs ls n (Some raws) ≡ due o
-  solved_by_worth raws (Ok f) ls n o e h = solved_go (need_of s ls) raws ls n (test ls) (solution ls f) (h ∙ ap found_here (sym e)) ∙ ap due e
+  solved_by_worth raws (Ok f) ls n o e h = solved_go (need_of s ls f) raws ls n (test ls f) (solution ls f) (h ∙ ap found_here (sym e)) ∙ ap due e
   solved_by_worth raws (Err f) ls n o e h = absurd (let k : solved raws ≡ fails f = h ∙ ap found_here (sym e) in cc)
 
 -- What the code takes.

@@ -64,7 +64,7 @@ is_live s word (go f ls n) = is_some (solution_of s word ls f)
 
 -- whether the search at a leaf would need more than the budget
 abbrev pub is_over : Scene → ℕ → Leaf → Bool
-is_over s most (go f ls n) = nat_lt most (need_of s ls)
+is_over s most (go f ls n) = nat_lt most (need_of s ls f)
 is_over s most other = false
 
 -- the words of an instant, by slot
@@ -94,7 +94,7 @@ leaf_instant s seed most c inputs vanish = normal
 leaf_instant s seed most c inputs nothing = deadlock
 leaf_instant s seed most c inputs (raised z) = raise z
 leaf_instant s seed most c inputs (faulty f) = fault f
-leaf_instant s seed most c inputs (go f ls n) = if nat_lt most (need_of s ls) then budget (need_of s ls) else go_instant s c inputs ls n (solution_of s (words_of seed c) ls f)
+leaf_instant s seed most c inputs (go f ls n) = if nat_lt most (need_of s ls f) then budget (need_of s ls f) else go_instant s c inputs ls n (solution_of s (words_of seed c) ls f)
 
 -- the instant that takes this leaf, if any
 abbrev pub taken_instant : Scene → ℕ → ℕ → Configuration → List Value → Option (Met Formula (Process Expression)) → Instant

@@ -9,7 +9,8 @@ use Rattle.lt_num.specs.declared.value.Value.TheVariants as value
 use Rattle.lt_draw.specs.Target.{target_of}
 use Rattle.lt_formula.specs.Solution.{IsSatisfiable, first_solution}
 use Rattle.lt_space.specs.Formula.{Formula, holds}
-use Rattle.lt_space.specs.Need.{need, ranges_in}
+use Rattle.lt_need.specs.Need.{need}
+use Rattle.lt_space.specs.Scope.{ranges_in}
 use Rattle.lt_term.specs.Scene.{Variable, Scene}
 use Rattle.lt_term.specs.Tree.{Lasts}
 
@@ -65,8 +66,8 @@ abbrev pub solution_of : Scene → (ℕ → ℕ) → Lasts → Formula → Optio
 solution_of s word ls f = first_solution (holds_of s f) (ranges_at s ls) (targets_of s word)
 
 -- how much work the search for them may need
-abbrev pub need_of : Scene → Lasts → ℕ
-need_of s ls = need (scope_of s ls) (drawn_ranges s)
+abbrev pub need_of : Scene → Lasts → Formula → ℕ
+need_of s ls f = need f (scope_of s ls) (drawn_ranges s)
 
 -- the values of variables, the first of which has this number, by the raw numbers of all that is drawn
 abbrev pub values_from : ℕ → List Variable → List ℤ → List Value

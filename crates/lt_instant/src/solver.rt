@@ -33,7 +33,8 @@ impl Solver {
     ghost use Rattle.lt_instant.specs.SolverView.{solver_values, IsSolverOf};
     ghost use Rattle.lt_formula.specs.Solution.{first_solution};
     ghost use Rattle.lt_space.specs.Meaning.{formula_of_all};
-    ghost use Rattle.lt_space.specs.Need.{need, ranges_in};
+    ghost use Rattle.lt_need.specs.Need.{need};
+    ghost use Rattle.lt_space.specs.Scope.{ranges_in};
     ghost use Rattle.lt_space.specs.SpaceView.{loaded, space_decimals, space_formula, space_most};
     ghost use Rattle.lt_term.specs.Configuration.{scene_kinds};
     ghost use Rattle.lt_instant.specs.Solved.{holds_of, targets_of};
@@ -153,7 +154,7 @@ impl Solver {
         requires decimals { space_decimals self.old.space ≡ (scene_of moment.now).decimals }
         requires scope { length scope.now ≡ length (drawn_ranges (scene_of moment.now)) }
         ensures finds { finding (solver_values self.new) result ≡
-            found_by moment.now.budget (need scope.now (drawn_ranges (scene_of moment.now)))
+            found_by moment.now.budget (need (space_formula self.old.space) scope.now (drawn_ranges (scene_of moment.now)))
             (first_solution (holds_of (scene_of moment.now) (space_formula self.old.space))
             (ranges_in scope.now (drawn_ranges (scene_of moment.now)))
             (targets_of (scene_of moment.now) (word_of moment.now))) }

@@ -7,7 +7,7 @@ use Rattle.lt_num.specs.Range.{count_of}
 use Rattle.lt_num.specs.declared.range.Range.{Range}
 use Rattle.lt_space.specs.Absorbed.{conjuncts}
 use Rattle.lt_space.specs.Formula.{Formula}
-use Rattle.lt_space.specs.Need.{most_need}
+use Rattle.lt_need.specs.Need.{most_need}
 use Rattle.lt_space.specs.declared.formula.Atom.{Atom}
 use Rattle.lt_need.specs.Need.{atoms_of, choices_of, has_variable, hard_points, is_difference, is_equation, is_hard, is_hard_variable, same_atom, several_terms, variables_in, whole_need}
 use Rattle.lt_need.specs.inner.Marks.{HaveSame}

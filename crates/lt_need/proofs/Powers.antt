@@ -4,7 +4,7 @@ use Rattle.std.proofs.lemmas.Int.{ints, by_lt_z}
 use Rattle.std.proofs.lemmas.Bool.{cases_lt}
 use Rattle.std.proofs.lemmas.Nat.{mul-le}
 use Rattle.std.proofs.Math.Nat.{mul_assoc, pow-suc}
-use Rattle.lt_space.specs.Need.{most_need}
+use Rattle.lt_need.specs.Need.{most_need}
 
 stopped : (x most : ℕ) → min (min x most * 3) most ≡ min (x * 3) most
 stopped x most = omega arith

@@ -1,8 +1,7 @@
--- The work that a search may need, as a number that is known before it.
---
--- Truths are absorbed first. There are three ways for each choice of the conjuncts, and the hard
--- variables have so many points: the need is so many times 180, and that for each variable of the
--- scope and once more.
+-- The work that a search may need, as a number that is known before it: 180 * (n + 1) * 3 ^ h * S, and
+-- at most 2 ^ 127. There are n variables in scope, h choices are left by the conjuncts once truths are
+-- absorbed, and S is how many points the hard variables have. A choice is a way to split a search here,
+-- and not an `if`.
 use Rattle.std.specs.Prelude.{ℕ, suc, ◌+◌, ◌*◌, ◌^◌, Bool, true, false, not, ◌&&◌, ◌||◌, nat_eq, nat_lt, if◌then◌else◌, List, [], ◌∷◌, ◌++◌, length, min, neg_ℤ}
 use Rattle.std.specs.List.{list_any}
 use Rattle.std.specs.Ordering.{int_eq}
@@ -11,11 +10,14 @@ use Rattle.lt_num.specs.Range.{count_of}
 use Rattle.lt_num.specs.declared.range.Range.{Range}
 use Rattle.lt_space.specs.Absorbed.{absorbed, conjuncts}
 use Rattle.lt_space.specs.Formula.{Formula, atom, choice, conjunction, disjunction, exclusive, negation, truth}
-use Rattle.lt_space.specs.Need.{most_need}
 use Rattle.lt_space.specs.declared.formula.Atom.{Atom}
 use Rattle.lt_space.specs.declared.formula.Atom.TheVariants.{Compare, Flag}
 use Rattle.lt_space.specs.declared.formula.Relation.{Relation}
 use Rattle.lt_space.specs.declared.formula.Relation.TheVariants.{Below, Equal, NotAbove}
+
+-- the greatest need
+abbrev pub most_need : ℕ
+most_need = 2 ^ 127
 
 -- Atoms are the same where they are the same data, whatever they mean.
 
@@ -96,7 +98,7 @@ several_terms (Compare form relation) = if nat_lt 1 (length form.terms) then for
 abbrev pub has_variable : List Term → ℕ → Bool
 has_variable terms i = list_any (λ t. nat_eq t.0 i) terms
 
--- whether these are one variable less another one, but for a factor
+-- whether these are c * x - c * y for two variables
 abbrev pub is_difference : List Term → Bool
 is_difference [] = false
 is_difference (s ∷ []) = false
@@ -110,25 +112,27 @@ is_equation (Compare form Below) = false
 is_equation (Compare form NotAbove) = false
 is_equation (Compare form Equal) = true
 
--- whether another atom among these compares several variables, and one of them is in one of the
--- terms
+-- whether another atom among these compares several variables, one of which this atom compares with
+-- others too
 abbrev pub is_shared : List Atom → Atom → Bool
 is_shared atoms a =
     list_any (λ b. not (same_atom a b)
     && list_any (λ t. has_variable (several_terms b) t.0) (several_terms a)) atoms
 
--- Whether an atom is hard: it compares several variables, isn't a difference, and is an equation or
--- shares a variable. The least point of an inequality that shares none is easily found.
+-- Whether an atom of several variables is hard: it isn't a difference, and is an equation or shares a
+-- variable. An inequality that shares none is decided by the corner of the ranges at which its form is
+-- least.
 abbrev pub is_hard : List Atom → Atom → Bool
 is_hard atoms a =
     not (is_difference (several_terms a)) && (is_equation a || is_shared atoms a)
 
--- whether a variable is in a hard atom
+-- whether a variable is in a hard atom of several variables
 abbrev pub is_hard_variable : List Atom → ℕ → Bool
 is_hard_variable atoms i =
     list_any (λ a. is_hard atoms a && has_variable (several_terms a) i) atoms
 
--- how many points the hard ones have of these variables, of which the first has this number
+-- the product of how many numbers the ranges of hard variables have, of which the first range is that of
+-- a variable with this number, whether they are in scope or not
 abbrev pub hard_points : List Atom → ℕ → List Range → ℕ
 hard_points atoms i [] = 1
 hard_points atoms i (range ∷ ranges) =
@@ -142,13 +146,13 @@ variables_in [] = 0
 variables_in (true ∷ marks) = suc (variables_in marks)
 variables_in (false ∷ marks) = variables_in marks
 
--- that of a formula whose truths are absorbed, before it stops
+-- that of a formula whose truths are absorbed, not yet cut at the greatest need
 abbrev pub whole_need : Formula → List Bool → List Range → ℕ
 whole_need f scope ranges =
     180 * (variables_in scope + 1)
     * (hard_points (atoms_of f) 0 ranges * 3 ^ choices_of (conjuncts f))
 
--- The need of a search for values of the variables of a scope at which a formula holds: it stops at
--- 2^127.
+-- The need of a search for values of variables at which a formula holds, at most 2 ^ 127. The scope says
+-- how many variables there are.
 abbrev pub need : Formula → List Bool → List Range → ℕ
 need f scope ranges = min (whole_need (absorbed f) scope ranges) most_need

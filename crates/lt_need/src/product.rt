@@ -2,7 +2,7 @@
 
 ghost use Rattle.std.specs.Prelude.{◌≡◌, ◌≤◌, ◌*◌, ◌^◌, min};
 ghost use Rattle.lt_num.specs.Range.{count_of};
-ghost use Rattle.lt_space.specs.Need.{most_need};
+ghost use Rattle.lt_need.specs.Need.{most_need};
 ghost use Rattle.lt_need.specs.inner.Points.{marked_points, points_in};
 
 use crate::hard::is_marked;

@@ -70,7 +70,8 @@ impl Room {
 
     /// Which variables are hard in the formula that was measured last, by their numbers. Before the first one none is.
     pub fn hard(&self) -> &[bool]
-        ensures { result.now ≡ room_hard self.now }
+        ensures hard { result.now ≡ room_hard self.now }
+        ensures len { length result.now ≡ most_variables }
     {
         &self.hard
     }

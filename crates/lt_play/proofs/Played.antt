@@ -76,7 +76,7 @@ module _ (s : Scene) (seed most : ℕ) (c : Configuration) (inputs : List Value)
   leaf_leads nothing = tt
   leaf_leads (raised z) = tt
   leaf_leads (faulty f) = tt
-  leaf_leads (go f ls n) = tested_leads (nat_lt most (need_of s ls)) (need_of s ls) ls n (solution_of s (words_of seed c) ls f)
+  leaf_leads (go f ls n) = tested_leads (nat_lt most (need_of s ls f)) (need_of s ls f) ls n (solution_of s (words_of seed c) ls f)
 
   taken_leads : (m : Option (Met Formula (Process Expression))) → LeadsOn s c (taken_instant s seed most c inputs m)
   taken_leads None = tt

@@ -50,7 +50,7 @@ impl Numbers {
         let mut question = Question {
             scope: [true; 6],
             targets: [0; 6],
-            budget: 1_000_000,
+            budget: 1_000_000_000_000_000,
         };
         for i in 0..6 {
             question.scope[i] = self.below(8) > 0;
@@ -79,9 +79,8 @@ impl Problem {
 
     /// Puts what is to be found, by going through all points, and answers whether there is a solution.
     pub(crate) fn put_due(&self, due: &mut String) -> Result<bool, Fail> {
-        let need = self.points().wrapping_mul(2);
         let wanted = self.sheet.numbers.as_slice();
-        write!(due, "{wanted:?} at 2 decimals, need {need}, ")?;
+        write!(due, "{wanted:?} at 2 decimals, ")?;
         let first = self.first_by_trial();
         match first {
             Some(point) => write!(due, "Solution {point:?}")?,

@@ -4,6 +4,7 @@
 use crate::form_texts::put_spelled;
 use crate::forms::put_operated;
 use crate::formulas::put_stated;
+use crate::needs::put_need;
 use crate::parts::{put_atom, put_most, put_parts};
 use crate::problems::RANGES;
 use crate::searching::{put_found, question_of};
@@ -46,6 +47,9 @@ pub(crate) enum Told {
 
     /// The same, where two small ints are in scope.
     SearchOfInts,
+
+    /// Of constraints, and of the variables in scope: how much work a search may need, and its hard variables.
+    Need,
 }
 
 /// That what is told in each row of a table, which has so many, is what stands there.
@@ -117,6 +121,7 @@ fn put_told_of_sheet(
         Told::Atom => put_atom(found, alloc, sheet),
         Told::Search => put_found(found, alloc, sheet, &RANGES, question_of(rest)?),
         Told::SearchOfInts => put_found(found, alloc, sheet, &TWO_INTS, question_of(rest)?),
+        Told::Need => put_need(found, alloc, sheet, rest),
     }
 }
 

@@ -33,16 +33,24 @@ pub(crate) fn question_of(text: &str) -> Result<Question, Fail> {
     let (marks, rest) = halves(text, " from ");
     let (targets, budget) = halves(rest, " within ");
     let mut question = Question {
-        scope: [false; 6],
+        scope: scope_of(marks),
         targets: [0; 6],
         budget: budget.parse()?,
     };
     let mut words = targets.split(' ');
     for i in 0..6 {
-        question.scope[i] = !matches!(marks.as_bytes().get(i), None | Some(b'-'));
         question.targets[i] = words.next().unwrap_or("").parse()?;
     }
     Ok(question)
+}
+
+/// A mark for each variable in scope, where others have a `-`, as `-j--k-`.
+pub(crate) fn scope_of(marks: &str) -> [bool; 6] {
+    let mut scope = [false; 6];
+    for i in 0..6 {
+        scope[i] = !matches!(marks.as_bytes().get(i), None | Some(b'-'));
+    }
+    scope
 }
 
 /// A space with the constraints that were read, which are loaded where there are any, and the fault if they have one.
@@ -98,26 +106,21 @@ fn put_solution(
     if let Err(fault) = loaded {
         write!(found, "{fault:?}, ")?;
     }
-    let need = space.need(&question.scope, ranges);
     let mut workspace = Workspace::make(alloc, ranges, space.gates())?;
     let answer = workspace.first_from(space, &question.scope, &question.targets, question.budget);
-    put_answer(found, space, need, answer, workspace.values())
+    put_answer(found, space, answer, workspace.values())
 }
 
-// Puts which constraints are loaded, at how many decimals, the need of a search, its answer, and the values of a solution,
-// as `[4] at 2 decimals, need 32, Solution [0, 2, 0, 0, 1, 0]`.
+// Puts which constraints are loaded, at how many decimals, the answer of a search, and the values of a solution, as
+// `[4] at 2 decimals, Solution [0, 2, 0, 0, 1, 0]`.
 fn put_answer(
     found: &mut String,
     space: &Space,
-    need: u128,
     answer: Answer,
     values: &[i64],
 ) -> Result<(), Fail> {
     let (wanted, decimals) = (space.wanted(), space.decimals());
-    write!(
-        found,
-        "{wanted:?} at {decimals} decimals, need {need}, {answer:?}"
-    )?;
+    write!(found, "{wanted:?} at {decimals} decimals, {answer:?}")?;
     if answer == Answer::Solution {
         write!(found, " {values:?}")?;
     }

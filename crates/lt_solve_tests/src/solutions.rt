@@ -25,31 +25,32 @@ pub(crate) const TWO_INTS: [Range; 6] = [ZERO, SMALL, ZERO, ZERO, SMALL, ZERO];
 const SEARCHES: &str = "\
 -- A list of constraints is loaded in its order.
 k = 1 + 1 , j > 1 in bjyckz from 0 0 0 0 0 -149 within 10000 ==> \
-[3, 5] at 2 decimals, need 1920, Solution [0, 2, 0, 0, 2, -149]
+[3, 5] at 2 decimals, Solution [0, 2, 0, 0, 2, -149]
 -- A fault leaves nothing of a list.
 k = 1 + 1 , j = 1 div 0 in bjyckz from 1 1 1 1 1 -148 within 10000 ==> \
-DivisionByZero, [] at 2 decimals, need 1920, Solution [1, 1, 1, 1, 1, -148]
+DivisionByZero, [] at 2 decimals, Solution [1, 1, 1, 1, 1, -148]
 -- What is out of scope is 0.
-nothing in ------ from 1 1 1 1 1 -148 within 10000 ==> [] at 0 decimals, need 2, Solution [0, 0, 0, 0, 0, 0]
--- A need over the budget is the answer. This is problem 1, and twice its 960 points are needed.
+nothing in ------ from 1 1 1 1 1 -148 within 10000 ==> [] at 0 decimals, Solution [0, 0, 0, 0, 0, 0]
+-- A need over the budget is the answer. This is problem 1, whose parts have 3, 2 and 2 different comparisons: it needs
+-- 180 * 7 * 3^7.
 if k + 4 < k + -2 then j + -1 <= k + k else j + -1 >= j + j , ( z + -3u = z + 4u ) => ( z + z > y ) , \
-( j + j < 3 - j ) xor ( 0 * k <> j ) in bjyckz from -1 -2 1 1 1 -151 within 1919 ==> \
-[13, 23, 30] at 2 decimals, need 1920, Budget(1920)
+( j + j < 3 - j ) xor ( 0 * k <> j ) in bjyckz from -1 -2 1 1 1 -151 within 2755619 ==> \
+[13, 23, 30] at 2 decimals, Budget(2755620)
 if k + 4 < k + -2 then j + -1 <= k + k else j + -1 >= j + j , ( z + -3u = z + 4u ) => ( z + z > y ) , \
-( j + j < 3 - j ) xor ( 0 * k <> j ) in bjyckz from -1 -2 1 1 1 -151 within 1920 ==> \
-[13, 23, 30] at 2 decimals, need 1920, Unsat";
+( j + j < 3 - j ) xor ( 0 * k <> j ) in bjyckz from -1 -2 1 1 1 -151 within 2755620 ==> \
+[13, 23, 30] at 2 decimals, Unsat";
 
 // The same, where two small ints are in scope.
 const TARGETS: &str = "\
 -- Each variable goes on from its target.
-j + k = 3 , j + k = 3 in -j--k- from 0 2 0 0 2 0 within 32 ==> \
-[4, 4] at 2 decimals, need 32, Solution [0, 2, 0, 0, 1, 0]
+j + k = 3 , j + k = 3 in -j--k- from 0 2 0 0 2 0 within 8640 ==> \
+[4, 4] at 2 decimals, Solution [0, 2, 0, 0, 1, 0]
 -- The first can't be 3, so it begins anew at 0.
-j + k = 3 , j <= 2 in -j--k- from 0 3 0 0 0 0 within 32 ==> \
-[4, 6] at 2 decimals, need 32, Solution [0, 0, 0, 0, 3, 0]
--- Twice the 16 points are needed.
-j + k = 7 , j + k = 7 in -j--k- from 0 0 0 0 0 0 within 32 ==> [4, 4] at 2 decimals, need 32, Unsat
-j + k = 7 , j + k = 7 in -j--k- from 0 0 0 0 0 0 within 31 ==> [4, 4] at 2 decimals, need 32, Budget(32)";
+j + k = 3 , j <= 2 in -j--k- from 0 3 0 0 0 0 within 8640 ==> \
+[4, 6] at 2 decimals, Solution [0, 0, 0, 0, 3, 0]
+-- An equation of two numbers of 4 values each needs 180 * 3 * 16.
+j + k = 7 , j + k = 7 in -j--k- from 0 0 0 0 0 0 within 8640 ==> [4, 4] at 2 decimals, Unsat
+j + k = 7 , j + k = 7 in -j--k- from 0 0 0 0 0 0 within 8639 ==> [4, 4] at 2 decimals, Budget(8640)";
 
 #[test]
 fn searches(rt: HostRuntime) -> Result<(), Fail> {

@@ -5,7 +5,7 @@ use Rattle.std.proofs.lemmas.List.{length-take, take_all}
 use Rattle.lt_bounds.specs.Ranges.{IsNarrower, range_at}
 use Rattle.lt_bounds.proofs.Public.{narrower_length}
 use Rattle.lt_num.specs.declared.range.Range.{Range}
-use Rattle.lt_space.specs.Need.{range_in, ranges_in, zero_alone}
+use Rattle.lt_space.specs.Scope.{range_in, ranges_in, zero_alone}
 use Rattle.lt_propagation.specs.Domains.{AreDomains}
 
 -- there are as many

@@ -5,8 +5,9 @@ ghost use Rattle.lt_formula.specs.Limits.{most_variables};
 ghost use Rattle.lt_formula.specs.Solution.{first_solution};
 ghost use Rattle.lt_propagation.specs.Domains.{AreDomains};
 ghost use Rattle.lt_space.specs.CircuitView.{circuit_len};
-ghost use Rattle.lt_space.specs.Need.{need, range_in, ranges_in};
-ghost use Rattle.lt_space.specs.SpaceView.{space_circuit};
+ghost use Rattle.lt_need.specs.Need.{need};
+ghost use Rattle.lt_space.specs.Scope.{range_in, ranges_in};
+ghost use Rattle.lt_space.specs.SpaceView.{space_circuit, space_formula};
 ghost use Rattle.lt_solver.specs.Answers.{Tells};
 ghost use Rattle.lt_solver.specs.inner.Classified.{passes};
 ghost use Rattle.lt_solver.specs.inner.Points.{first_point, first_raw};
@@ -14,6 +15,7 @@ ghost use Rattle.lt_solver.specs.inner.Roomy.{IsRoomy};
 
 use crate::classifying::BoxRoom;
 use crate::search::search;
+use lt_need::measure;
 use lt_num::Range;
 use lt_propagation::find_ties;
 use lt_space::Space;
@@ -49,8 +51,8 @@ pub(crate) struct Room {
     /// For each gate an earlier one with the same form, or else itself.
     pub(crate) same: Vec<u32>,
 
-    /// A mark for each variable that may be halved where a reason is sought why a box has no solution.
-    pub(crate) hard: Vec<bool>,
+    /// Room to measure needs in, with the hard variables of the last one.
+    pub(crate) need: lt_need::Room,
 }
 
 /// Finds the first solution of a space within the ranges of a scope, in the order from targets, where the need is
@@ -71,13 +73,13 @@ pub(crate) fn answer_within(
     requires roomy { IsRoomy (length ranges.now) (circuit_len (space_circuit space.now)) room.old }
     ensures tells { Tells result values.new
         (first_solution (passes space.now) (ranges_in scope.now ranges.now) targets.now)
-        (need scope.now ranges.now) budget }
+        (need (space_formula space.now) scope.now ranges.now) budget }
     ensures roomy { (gates : ℕ) → IsRoomy (length ranges.now) gates room.old →
         IsRoomy (length ranges.now) gates room.new }
     ensures gates { vec_capacity room.new.boxes.refuter.kleenes ≡
         vec_capacity room.old.boxes.refuter.kleenes }
 {
-    let need = space.need(scope, ranges);
+    let need = measure(space.circuit(), space.root(), scope, ranges, &mut room.need);
     if need > u128::from(budget) {
         return Answer::Budget(need);
     }
@@ -87,8 +89,8 @@ pub(crate) fn answer_within(
         space,
         &room.same,
         targets,
-        &room.hard,
-        budget,
+        &room.need.hard()[..targets.len()],
+        u64::try_from(need).unwrap_or(budget),
         &mut room.current,
         &mut room.stack,
         &mut room.boxes,

@@ -31,7 +31,8 @@ impl Workspace {
     ghost use Rattle.lt_formula.specs.Solution.{first_solution};
     ghost use Rattle.lt_space.specs.CircuitView.{circuit_len};
     ghost use Rattle.lt_space.specs.Formula.{holds};
-    ghost use Rattle.lt_space.specs.Need.{need, ranges_in};
+    ghost use Rattle.lt_need.specs.Need.{need};
+    ghost use Rattle.lt_space.specs.Scope.{ranges_in};
     ghost use Rattle.lt_solver.specs.Answers.{Tells};
     ghost use Rattle.lt_space.specs.SpaceView.{space_circuit, space_decimals, space_formula};
     ghost use Rattle.lt_solver.specs.WorkspaceView.{workspace_gates, workspace_ranges, workspace_values};
@@ -75,7 +76,7 @@ impl Workspace {
             (first_solution (λ vs.
             holds (space_decimals space.now) vs (space_formula space.now))
             (ranges_in scope.now (workspace_ranges self.old)) targets.now)
-            (need scope.now (workspace_ranges self.old)) budget }
+            (need (space_formula space.now) scope.now (workspace_ranges self.old)) budget }
         ensures ranges { workspace_ranges self.new ≡ workspace_ranges self.old }
         ensures gates { workspace_gates self.new ≡ workspace_gates self.old }
     {
@@ -112,7 +113,7 @@ fn make_room(alloc: Global, ranges: &[Range], gates: usize) -> Result<Room, Memo
         boxes: BoxRoom::make(alloc, count, gates)?,
         latest: vec![in alloc; 0; LATEST]?,
         same: Vec::with_capacity(alloc, gates)?,
-        hard: vec![in alloc; false; count]?,
+        need: lt_need::Room::make(alloc, gates)?,
     })
 }
 

@@ -1,5 +1,4 @@
 pub mod Tellings
-pub mod Needs
 pub mod Circuits
 pub mod Memos
 pub mod FormLists

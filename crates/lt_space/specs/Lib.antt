@@ -6,8 +6,8 @@ pub mod FormulaView
 pub mod Meaning
 -- How large a formula may be.
 pub mod Size
--- The work that a search may need.
-pub mod Need
+-- The ranges of a scope.
+pub mod Scope
 -- Answers of calls that may lack memory.
 pub mod Refusal
 -- Formulas as lists of gates.

@@ -1,9 +1,8 @@
 //! What constraints say of the outputs and locals of an instant.
 //!
 //! [`formula_of`] is what a constraint says of them: a [`Formula`] whose [`Atom`]s are Boolean variables and
-//! comparisons of linear forms. [`holds`] says where a formula holds, exactly, and [`need`] how much work a search
-//! for such a place may need. A [`Circuit`] has formulas as a list of gates, in room that was reserved, and a
-//! [`Space`] loads the constraints of an instant as one, without memory.
+//! comparisons of linear forms. [`holds`] says where a formula holds, exactly. A [`Circuit`] has formulas as a list of
+//! gates, in room that was reserved, and a [`Space`] loads the constraints of an instant as one, without memory.
 //!
 //! `specs/Meaning.antt` says which formula an expression is, `specs/Formula.antt` where formulas hold, and
 //! `specs/Circuit.antt` which formula a gate is.
@@ -20,7 +19,6 @@ mod loading;
 mod measures;
 mod measuring;
 mod memo;
-mod needed;
 mod noting;
 mod refusal;
 mod space;
@@ -32,6 +30,5 @@ pub use circuit::{Circuit, Gate};
 pub use formula::{Atom, Formula, Relation};
 pub use holding::holds;
 pub use loaded::Loaded;
-pub use needed::need;
 pub use refusal::FormulaRefusal;
 pub use space::Space;

@@ -10,7 +10,6 @@ ghost use Rattle.lt_formula.specs.View.{table_expressions, table_kinds, table_le
 ghost use Rattle.lt_space.specs.CircuitView.{circuit_formulas, circuit_len};
 ghost use Rattle.lt_space.specs.Formula.{truth};
 ghost use Rattle.lt_space.specs.Meaning.{formula_of_all};
-ghost use Rattle.lt_space.specs.Need.{need};
 ghost use Rattle.lt_space.specs.inner.Memo.{memo_numbers};
 ghost use Rattle.lt_space.specs.inner.Noted.{are_below};
 ghost use Rattle.lt_space.specs.inner.Work.{HasWorkRoom, formulas_in, gates_in};
@@ -19,10 +18,9 @@ use crate::circuit::Circuit;
 use crate::loaded::{Loaded, atom_at};
 use crate::loading::load_and_note;
 use crate::memo::Memo;
-use crate::needed::need;
 use crate::work::Work;
 use lt_formula::{Known, Memory, Table};
-use lt_num::{Arith, Range};
+use lt_num::Arith;
 use std::alloc::Global;
 
 // How many expressions a table may have that a space is made for.
@@ -178,12 +176,5 @@ impl Space {
         ensures within { circuit_len (space_circuit self.now) ≤ result }
     {
         self.work.circuit.room()
-    }
-
-    /// How much work a search for values of the variables of a scope may need, within these ranges: [`need`].
-    pub fn need(&self, scope: &[bool], ranges: &[Range]) -> u128
-        ensures { result ≡ need scope.now ranges.now }
-    {
-        need(scope, ranges)
     }
 }

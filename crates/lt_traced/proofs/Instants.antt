@@ -19,7 +19,7 @@ use Rattle.lt_num.specs.declared.value.Value.TheVariants as value
 use Rattle.lt_rif.specs.Enough.{AreLocalsSized, IsSized}
 use Rattle.lt_rif.specs.ReadBack.{HoldAll}
 use Rattle.lt_space.specs.Formula.{Formula}
-use Rattle.lt_space.specs.Need.{range_in, ranges_in}
+use Rattle.lt_space.specs.Scope.{range_in, ranges_in}
 use Rattle.lt_term.specs.Configuration.{Configuration}
 use Rattle.lt_term.specs.Evaluated as e
 use Rattle.lt_term.specs.Fitting.{IsValueOf}
@@ -154,7 +154,7 @@ module _ (law : FirstSolutionIsFirst) (s : Scene) (has : HasRanges s) where
   leaf_own seed most c y (e.raised z) = λ outputs locals next is. absurd (cc)
   leaf_own seed most c y (e.faulty f) = λ outputs locals next is. absurd (cc)
   leaf_own seed most c y (e.go f ls n) =
-      within_own (nat_lt most (need_of s ls)) (need_of s ls) (go_instant s c y ls n (solution_of s (words_of seed c) ls f)) (go_own c y ls n (solution_of s (words_of seed c) ls f) (solution_is_point law s (words_of seed c) ls f))
+      within_own (nat_lt most (need_of s ls f)) (need_of s ls f) (go_instant s c y ls n (solution_of s (words_of seed c) ls f)) (go_own c y ls n (solution_of s (words_of seed c) ls f) (solution_is_point law s (words_of seed c) ls f))
 
   taken_own : (seed most : ℕ) (c : Configuration) (y : List Value) (o : Option (Met Formula (Process Expression))) → GivesOwn s (taken_instant s seed most c y o)
   taken_own seed most c y None = λ outputs locals next is. absurd (cc)

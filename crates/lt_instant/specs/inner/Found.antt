@@ -40,7 +40,7 @@ found_by most need solution = if nat_lt most need then over need else solved_by 
 
 -- what is found at an instant whose constraints are worth this
 abbrev pub found_in : Scene → (ℕ → ℕ) → ℕ → Lasts → Result Formula Arith → Found
-found_in s word most ls (Ok f) = found_by most (need_of s ls) (solution_of s word ls f)
+found_in s word most ls (Ok f) = found_by most (need_of s ls f) (solution_of s word ls f)
 found_in s word most ls (Err fault) = fails fault
 
 -- what is found at a leaf
@@ -49,7 +49,7 @@ found_at s word most vanish = vanishes
 found_at s word most nothing = passed
 found_at s word most (raised z) = raises z
 found_at s word most (faulty fault) = fails fault
-found_at s word most (go f ls n) = found_by most (need_of s ls) (solution_of s word ls f)
+found_at s word most (go f ls n) = found_by most (need_of s ls f) (solution_of s word ls f)
 
 -- whether a draw stops where this is found
 abbrev pub is_stop : Found → Bool

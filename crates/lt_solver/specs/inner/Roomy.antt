@@ -1,5 +1,6 @@
 -- Room that is enough for searches.
 use Rattle.std.specs.Prelude.{◌≡◌, ◌<◌, ◌≤◌, ◌+◌, ◌*◌, ℕ, length, vec_capacity}
+use Rattle.lt_need.specs.RoomView.{room_gates}
 use Rattle.lt_solver.specs.declared.answering.Room.{Room}
 use Rattle.lt_solver.specs.declared.classifying.BoxRoom.{BoxRoom}
 
@@ -16,4 +17,4 @@ pub record IsRoomy (variables gates : ℕ) (room : Room) : Type 0 where
   pub wide : IsWide variables gates room.boxes
   pub latest : 0 < length room.latest.items
   pub same : gates ≤ vec_capacity room.same
-  pub hard : length room.hard.items ≡ variables
+  pub need : gates ≤ room_gates room.need

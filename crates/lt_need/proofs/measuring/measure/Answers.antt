@@ -1,6 +1,6 @@
 use Rattle.std.proofs.Common.{◌+◌, ◌*◌, ◌∙◌, ap, sym, min, List, ℕ, Bool}
 use Rattle.lt_space.specs.CircuitView.{circuit_formulas}
-use Rattle.lt_space.specs.Need.{most_need}
+use Rattle.lt_need.specs.Need.{most_need}
 use Rattle.lt_need.specs.Need.{atoms_of, is_hard_variable}
 use Rattle.lt_need.specs.inner.Counts.{found_atoms}
 use Rattle.lt_need.specs.inner.Faces.{absorbed_at}

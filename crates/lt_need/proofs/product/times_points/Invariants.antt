@@ -1,5 +1,5 @@
 use Rattle.std.proofs.Common.{◌≡◌, ◌≤◌, ◌*◌, drop, min}
-use Rattle.lt_space.specs.Need.{most_need}
+use Rattle.lt_need.specs.Need.{most_need}
 use Rattle.lt_need.specs.inner.Points.{marked_points}
 use Rattle.lt_need.proofs.product.times_points.Given as goal
 

@@ -1,6 +1,10 @@
-use Rattle.std.proofs.Common.{rules, ◌≡◌, ◌*◌, length, sym, ap, ◌∙◌, arith}
+use Rattle.std.proofs.Common.{ℕ, List, ◌≡◌, ◌*◌, length, sym, subst, ap, ◌∙◌, arith}
+use Rattle.std.proofs.lemmas.List.{length-take}
 use Rattle.std.proofs.lemmas.Nat.{mul-le}
-use Rattle.lt_space.specs.Need.{ranges_in}
+use Rattle.lt_space.specs.Scope.{ranges_in}
+use Rattle.lt_space.specs.SpaceView.{space_circuit}
+use Rattle.lt_space.specs.declared.circuit.Circuit.{Circuit}
+use Rattle.lt_propagation.specs.Ties.{AreTies}
 use Rattle.lt_solver.specs.inner.Levels.{levels_of}
 use Rattle.lt_solver.proofs.Levels.{levels_most}
 use Rattle.lt_solver.proofs.Scopes.{domains_in, kept_some, length-ranges_in, written_length}
@@ -18,8 +22,8 @@ search-requires c =
       domains = domains_in c.args.scope.now ranges c.requires.domains;
       few = omega (arith, long, c.requires.few);
       targets = c.requires.targets ∙ sym long;
-      ties = search rules;
-      hard = ap length c.deref-2.ensures.value ∙ c.requires.roomy.hard ∙ sym long;
+      ties = subst (λ (xs : List ℕ). AreTies (space_circuit c.args.space.now) xs) (sym c.deref.ensures.value) (subst (λ (k : Circuit). AreTies k c.find_ties.new.same.items) c.circuit-2.ensures c.find_ties.ensures.ties);
+      hard = omega (arith, length-take (length targets) c.hard.result.now, c.hard.ensures.len, c.requires.targets, c.requires.few, long);
       stack = omega (arith, most, ap (λ n. n * 42 * n) long, c.requires.roomy.stack);
       widened = omega (arith, long, c.requires.roomy.wide.widened);
       copy = omega (arith, long, c.requires.roomy.wide.copy);
@@ -47,7 +51,7 @@ returns-then-search-clause-roomy c gates roomy = record {
   };
   latest = kept_some c.args.room.now.latest.len c.args.room.now.latest.items c.find_ties.new.latest c.args.room.now.latest.ok.0 (c.find_ties.ensures.latest ∙ ap length c.deref_mut.ensures.value) roomy.latest;
   same = omega (arith, roomy.same, c.find_ties.ensures.room);
-  hard = search rules;
+  need = omega (arith, roomy.need, c.measure-need.ensures.gates);
 }
 
 pub returns-else-search-clause-roomy : goal.returns-else-search-clause-roomy
@@ -61,5 +65,5 @@ returns-else-search-clause-roomy c gates roomy = record {
   };
   latest = kept_some c.args.room.now.latest.len c.args.room.now.latest.items c.find_ties.new.latest c.args.room.now.latest.ok.0 (c.find_ties.ensures.latest ∙ ap length c.deref_mut.ensures.value) roomy.latest;
   same = omega (arith, roomy.same, c.find_ties.ensures.room);
-  hard = search rules;
+  need = omega (arith, roomy.need, c.measure-need.ensures.gates);
 }

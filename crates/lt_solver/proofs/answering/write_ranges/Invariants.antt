@@ -1,5 +1,5 @@
 use Rattle.std.proofs.Common.{◌≡◌, ◌++◌, length, take, drop}
-use Rattle.lt_space.specs.Need.{ranges_in}
+use Rattle.lt_space.specs.Scope.{ranges_in}
 use Rattle.lt_solver.proofs.answering.write_ranges.Given as goal
 
 -- they are those that were written, and those that are left

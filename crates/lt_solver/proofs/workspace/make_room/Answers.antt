@@ -8,5 +8,5 @@ returns-clause-roomy c = record {
   wide = search rules;
   latest = search rules;
   same = search rules;
-  hard = search rules;
+  need = search rules;
 }

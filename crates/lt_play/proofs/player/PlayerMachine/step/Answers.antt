@@ -1,7 +1,7 @@
 use Rattle.std.proofs.Common.{map, ap, sym, ◌∙◌}
 use Rattle.lt_term.specs.Scene.{Scene}
 use Rattle.lt_step.specs.View.{machine_state}
-use Rattle.lt_play.specs.Rules.{known_variable}
+use Rattle.lt_play.specs.Rules.{known_scene, known_variable}
 use Rattle.lt_play.proofs.Played.{as_many, scene_stays, step_shows}
 use Rattle.lt_play.proofs.player.PlayerMachine.step.Goals as goal
 
@@ -19,3 +19,10 @@ invariant_of-self c =
       outputs_are = c.args.self.now.outputs_are ∙ ap (λ (s : Scene). map known_variable s.outputs) stays;
       locals_are = c.args.self.now.locals_are ∙ ap (λ (s : Scene). map known_variable s.locals) stays;
     }
+
+pub returns-clause-scene : goal.returns-clause-scene
+returns-clause-scene c =
+    let old = machine_state c.args.self.now.machine in
+    let new = machine_state c.step.new.self in
+    let stays = scene_stays old new c.args.inputs.now c.step.result c.step.ensures.steps c.step.ensures.memory in
+    ap known_scene stays

@@ -1,11 +1,6 @@
--- The work that a search may need, as a number that is known before it.
-use Rattle.std.specs.Prelude.{ℕ, ◌*◌, ◌^◌, Bool, true, false, List, [], ◌∷◌, min, pos}
-use Rattle.lt_num.specs.Range.{count_of}
+-- The ranges of a scope.
+use Rattle.std.specs.Prelude.{Bool, true, false, List, [], ◌∷◌, pos}
 use Rattle.lt_num.specs.declared.range.Range.{Range}
-
--- where a need stops
-abbrev pub most_need : ℕ
-most_need = 2 ^ 127
 
 -- the range of a variable that is out of scope: 0 alone
 abbrev pub zero_alone : Range
@@ -22,12 +17,3 @@ ranges_in [] [] = []
 ranges_in [] (range ∷ ranges) = zero_alone ∷ ranges_in [] ranges
 ranges_in (mark ∷ marks) [] = []
 ranges_in (mark ∷ marks) (range ∷ ranges) = range_in mark range ∷ ranges_in marks ranges
-
--- how many points variables of these ranges have
-abbrev pub points_of : List Range → ℕ
-points_of [] = 1
-points_of (range ∷ ranges) = count_of range * points_of ranges
-
--- The need of a search over the variables of a scope: twice its points. The formula plays no part yet.
-abbrev pub need : List Bool → List Range → ℕ
-need scope ranges = min (2 * points_of (ranges_in scope ranges)) most_need
