@@ -77,7 +77,7 @@ ENDS = {
     "deadlock": "No values do for this instant. Look at what its constraints and ranges leave.",
     "raise": "The scenario raised this exception, and no `catch` is for it.",
     "ended": "It closed its output, or ended, where an answer was due.",
-    "budget": "The search would be over the budget: give the numbers of its equations smaller ranges, or --budget more.",
+    "budget": "The search would be over the budget: give the numbers of its equations smaller ranges.",
     "memory": "Memory ran out.",
     "toolarge": "This instant offers more than 65,536 alternatives.",
 }

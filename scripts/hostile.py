@@ -254,6 +254,7 @@ WITHOUT_PLACE = (
     "expand.UnknownNode",
     "expand.TooLarge",
     "run.NeedsController",
+    "run.TooManyAtoms",
 )
 OF_PRINT = ("file.", "lex.", "parse.")
 UNREAD = (b"lurette: refused lex.", b"lurette: refused parse.")

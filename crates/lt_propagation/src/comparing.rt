@@ -17,6 +17,7 @@ ghost use Rattle.lt_propagation.specs.inner.Sums.{least_signed, signed};
 
 use crate::evaluation::{scaled, span_of, terms_between};
 use crate::narrowing::narrow;
+use crate::touching::Touched;
 use lt_bounds::cut_in_row;
 use lt_num::Range;
 use lt_space::{Circuit, Gate};
@@ -28,7 +29,7 @@ pub(crate) fn raise_comparison(
     decimals: u32,
     count: usize,
     ranges: &mut [Range],
-    changed: &mut bool,
+    touched: &mut Touched,
 ) -> bool
     requires within { number < circuit_len circuit.now }
     requires decimals { decimals ≤ most_decimals }
@@ -56,7 +57,7 @@ pub(crate) fn raise_comparison(
         low: sign_of(span.least + constant),
         high: sign_of(span.greatest + constant),
     };
-    narrow(ranges, count + number as usize, signs, changed)
+    narrow(ranges, count + number as usize, signs, touched)
 }
 
 // The sign of a number: -1, 0 or 1.
@@ -79,7 +80,7 @@ pub(crate) fn lower_comparison(
     decimals: u32,
     count: usize,
     ranges: &mut [Range],
-    changed: &mut bool,
+    touched: &mut Touched,
 ) -> bool
     requires within { number < circuit_len circuit.now }
     requires decimals { decimals ≤ most_decimals }
@@ -101,10 +102,10 @@ pub(crate) fn lower_comparison(
     let signs = ranges[count + number as usize];
     let terms = terms_between(circuit.terms(), first, after);
     let constant = scaled(constant, decimals);
-    if !cut_above(terms, constant, signs.high, count, ranges, changed) {
+    if !cut_above(terms, constant, signs.high, count, ranges, touched) {
         return false;
     }
-    cut_below(terms, constant, signs.low, count, ranges, changed)
+    cut_below(terms, constant, signs.low, count, ranges, touched)
 }
 
 // Narrows ranges by a sum of terms and a constant that is at most the greatest sign, where that isn't over 0.
@@ -114,7 +115,7 @@ fn cut_above(
     high: i64,
     count: usize,
     ranges: &mut [Range],
-    changed: &mut bool,
+    touched: &mut Touched,
 ) -> bool
     requires exact { IsTrue (are_terms terms.now) }
     requires few { length terms.now ≤ most_terms }
@@ -137,7 +138,7 @@ fn cut_above(
         constant - i128::from(high),
         count,
         ranges,
-        changed,
+        touched,
     )
 }
 
@@ -148,7 +149,7 @@ fn cut_below(
     low: i64,
     count: usize,
     ranges: &mut [Range],
-    changed: &mut bool,
+    touched: &mut Touched,
 ) -> bool
     requires exact { IsTrue (are_terms terms.now) }
     requires few { length terms.now ≤ most_terms }
@@ -171,7 +172,7 @@ fn cut_below(
         i128::from(low) - constant,
         count,
         ranges,
-        changed,
+        touched,
     )
 }
 
@@ -182,7 +183,7 @@ fn cut_sum(
     constant: i128,
     count: usize,
     ranges: &mut [Range],
-    changed: &mut bool,
+    touched: &mut Touched,
 ) -> bool
     requires exact { IsTrue (are_terms terms.now) }
     requires few { length terms.now ≤ most_terms }
@@ -201,7 +202,7 @@ fn cut_sum(
     }
     let mut rest = terms;
     while let Some((term, more)) = rest.split_first() {
-        if !cut_term(*term, negated, least, count, ranges, changed) {
+        if !cut_term(*term, negated, least, count, ranges, touched) {
             return false;
         }
         rest = more;
@@ -228,7 +229,7 @@ fn cut_term(
     least: i128,
     count: usize,
     ranges: &mut [Range],
-    changed: &mut bool,
+    touched: &mut Touched,
 ) -> bool
     requires coefficient { unsigned_abs term.1 ≤ most_coefficient }
     requires least { unsigned_abs least ≤ 2 ^ 109 }
@@ -246,7 +247,7 @@ fn cut_term(
         return true;
     }
     match cut_range(term.1, negated, least, ranges[place]) {
-        Some(range) => narrow(ranges, place, range, changed),
+        Some(range) => narrow(ranges, place, range, touched),
         None => false,
     }
 }

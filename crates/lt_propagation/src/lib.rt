@@ -19,6 +19,7 @@ mod laws;
 mod narrowing;
 mod propagating;
 mod refuting;
+mod touching;
 mod tying;
 
 pub use evaluation::evaluate;
@@ -27,4 +28,5 @@ pub use laws::kleene_agrees;
 pub use narrowing::demand_truth;
 pub use propagating::propagate;
 pub use refuting::{Room, refute};
+pub use touching::Touched;
 pub use tying::find_ties;

@@ -15,12 +15,13 @@ ghost use Rattle.lt_propagation.specs.inner.Demands.{Knows, signs_compared, sign
 
 use crate::evaluation::evaluate_flag;
 use crate::kleene::Kleene;
+use crate::touching::Touched;
 use lt_num::Range;
 use lt_space::{Circuit, Gate, Relation};
 
 /// Narrows a range of a box to what it has of another one, and says whether there is anything left. Where there is nothing,
-/// the box stays. `changed` becomes true where the range was narrowed.
-pub(crate) fn narrow(ranges: &mut [Range], place: usize, to: Range, changed: &mut bool) -> bool
+/// the box stays. The place is marked where its range was narrowed.
+pub(crate) fn narrow(ranges: &mut [Range], place: usize, to: Range, touched: &mut Touched) -> bool
     requires within { place < length ranges.old }
     requires domains { AreDomains ranges.old }
     ensures keeps { (values : List ℤ) → IsPointOf ranges.old values →
@@ -37,7 +38,7 @@ pub(crate) fn narrow(ranges: &mut [Range], place: usize, to: Range, changed: &mu
         return false;
     }
     if range.low < low || high < range.high {
-        *changed = true;
+        touched.note(place);
         ranges[place] = Range { low, high };
     }
     true
@@ -71,7 +72,7 @@ pub(crate) fn demand(
     kleene: Kleene,
     count: usize,
     ranges: &mut [Range],
-    changed: &mut bool,
+    touched: &mut Touched,
 ) -> bool
     requires within { number < circuit_len circuit.now }
     requires long { length ranges.old ≡ count + circuit_len circuit.now }
@@ -84,8 +85,8 @@ pub(crate) fn demand(
     ensures domains { AreDomains ranges.new }
 {
     match kleene {
-        Kleene::True => demand_truth(circuit, number, true, count, ranges, changed),
-        Kleene::False => demand_truth(circuit, number, false, count, ranges, changed),
+        Kleene::True => demand_truth(circuit, number, true, count, ranges, touched),
+        Kleene::False => demand_truth(circuit, number, false, count, ranges, touched),
         Kleene::Unknown => true,
     }
 }
@@ -97,7 +98,7 @@ pub fn demand_truth(
     so: bool,
     count: usize,
     ranges: &mut [Range],
-    changed: &mut bool,
+    touched: &mut Touched,
 ) -> bool
     requires within { number < circuit_len circuit.now }
     requires long { length ranges.old ≡ count + circuit_len circuit.now }
@@ -111,7 +112,7 @@ pub fn demand_truth(
 {
     let place = count + number as usize;
     let signs = signs_of(circuit.gate(number), so, ranges[place]);
-    narrow(ranges, place, signs, changed)
+    narrow(ranges, place, signs, touched)
 }
 
 // The signs of a gate that holds, or doesn't, by the range that its sign has.

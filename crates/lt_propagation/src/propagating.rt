@@ -19,6 +19,7 @@ use crate::comparing::{lower_comparison, raise_comparison};
 use crate::evaluation::evaluate_flag;
 use crate::kleene::Kleene;
 use crate::narrowing::{demand, kleene_at, narrow};
+use crate::touching::{Touched, is_beside_touched, is_near_touched};
 use crate::tying::tie_all;
 use lt_num::Range;
 use lt_space::{Circuit, Gate};
@@ -26,7 +27,8 @@ use lt_space::{Circuit, Gate};
 // How often the gates are gone through at most.
 const MOST_PASSES: u32 = 8;
 
-/// Narrows a box by what the gates say, and says whether it may have wide points.
+/// Narrows a box by what the gates say, and says whether it may have wide points. Only those gates are looked at beside
+/// which a place is touched: whoever narrowed the box before has marked what changed.
 pub fn propagate(
     circuit: &Circuit,
     same: &[u32],
@@ -34,6 +36,7 @@ pub fn propagate(
     decimals: u32,
     count: usize,
     ranges: &mut [Range],
+    touched: &mut Touched,
 ) -> bool
     requires ties { AreTies circuit.now same.now }
     requires root { root < circuit_len circuit.now }
@@ -45,14 +48,13 @@ pub fn propagate(
     ensures domains { AreDomains ranges.new }
 {
     for _ in 0..MOST_PASSES {
-        let mut changed = false;
-        if !raise_and_tie(circuit, same, root, decimals, count, ranges, &mut changed) {
+        if !raise_and_tie(circuit, same, root, decimals, count, ranges, touched) {
             return false;
         }
-        if !lower_all(circuit, root, decimals, count, ranges, &mut changed) {
+        if !lower_all(circuit, root, decimals, count, ranges, touched) {
             return false;
         }
-        if !changed {
+        if !touched.end_pass() {
             return true;
         }
     }
@@ -67,7 +69,7 @@ fn raise_and_tie(
     decimals: u32,
     count: usize,
     ranges: &mut [Range],
-    changed: &mut bool,
+    touched: &mut Touched,
 ) -> bool
     requires ties { AreTies circuit.now same.now }
     requires root { root < circuit_len circuit.now }
@@ -78,10 +80,10 @@ fn raise_and_tie(
     ensures narrower { IsNarrower ranges.old ranges.new }
     ensures domains { AreDomains ranges.new }
 {
-    if !raise_all(circuit, root, decimals, count, ranges, changed) {
+    if !raise_all(circuit, root, decimals, count, ranges, touched) {
         return false;
     }
-    tie_all(circuit, same, decimals, count, ranges, changed)
+    tie_all(circuit, same, decimals, count, ranges, touched)
 }
 
 // Narrows the signs of all gates up to one, parts before wholes.
@@ -91,7 +93,7 @@ fn raise_all(
     decimals: u32,
     count: usize,
     ranges: &mut [Range],
-    changed: &mut bool,
+    touched: &mut Touched,
 ) -> bool
     requires root { root < circuit_len circuit.now }
     requires decimals { decimals ≤ most_decimals }
@@ -102,11 +104,11 @@ fn raise_all(
     ensures domains { AreDomains ranges.new }
 {
     for number in 0..root {
-        if !raise_gate(circuit, number, decimals, count, ranges, changed) {
+        if !raise_due(circuit, number, decimals, count, ranges, touched) {
             return false;
         }
     }
-    raise_gate(circuit, root, decimals, count, ranges, changed)
+    raise_due(circuit, root, decimals, count, ranges, touched)
 }
 
 // Narrows by the signs of all gates from one down, wholes before parts.
@@ -116,7 +118,7 @@ fn lower_all(
     decimals: u32,
     count: usize,
     ranges: &mut [Range],
-    changed: &mut bool,
+    touched: &mut Touched,
 ) -> bool
     requires root { root < circuit_len circuit.now }
     requires decimals { decimals ≤ most_decimals }
@@ -128,7 +130,7 @@ fn lower_all(
 {
     let mut number = root;
     'gates: loop {
-        if !lower_gate(circuit, number, decimals, count, ranges, changed) {
+        if !lower_due(circuit, number, decimals, count, ranges, touched) {
             return false;
         }
         if number == 0 {
@@ -138,6 +140,52 @@ fn lower_all(
     }
 }
 
+// Narrows the sign of a gate by what is known of its parts, where a place beside it is touched.
+fn raise_due(
+    circuit: &Circuit,
+    number: u32,
+    decimals: u32,
+    count: usize,
+    ranges: &mut [Range],
+    touched: &mut Touched,
+) -> bool
+    requires within { number < circuit_len circuit.now }
+    requires decimals { decimals ≤ most_decimals }
+    requires long { length ranges.old ≡ count + circuit_len circuit.now }
+    requires domains { AreDomains ranges.old }
+    ensures keeps { Keeps decimals circuit.now result ranges.old ranges.new }
+    ensures narrower { IsNarrower ranges.old ranges.new }
+    ensures domains { AreDomains ranges.new }
+{
+    if !is_beside_touched(circuit, number, count, touched) {
+        return true;
+    }
+    raise_gate(circuit, number, decimals, count, ranges, touched)
+}
+
+// Narrows by the sign of a gate, where that or a place beside it is touched.
+fn lower_due(
+    circuit: &Circuit,
+    number: u32,
+    decimals: u32,
+    count: usize,
+    ranges: &mut [Range],
+    touched: &mut Touched,
+) -> bool
+    requires within { number < circuit_len circuit.now }
+    requires decimals { decimals ≤ most_decimals }
+    requires long { length ranges.old ≡ count + circuit_len circuit.now }
+    requires domains { AreDomains ranges.old }
+    ensures keeps { Keeps decimals circuit.now result ranges.old ranges.new }
+    ensures narrower { IsNarrower ranges.old ranges.new }
+    ensures domains { AreDomains ranges.new }
+{
+    if !is_near_touched(circuit, number, count, touched) {
+        return true;
+    }
+    lower_gate(circuit, number, decimals, count, ranges, touched)
+}
+
 // Narrows the sign of a gate by what is known of its parts.
 fn raise_gate(
     circuit: &Circuit,
@@ -145,7 +193,7 @@ fn raise_gate(
     decimals: u32,
     count: usize,
     ranges: &mut [Range],
-    changed: &mut bool,
+    touched: &mut Touched,
 ) -> bool
     requires within { number < circuit_len circuit.now }
     requires decimals { decimals ≤ most_decimals }
@@ -156,10 +204,10 @@ fn raise_gate(
     ensures domains { AreDomains ranges.new }
 {
     if let Gate::Compare { .. } = circuit.gate(number) {
-        return raise_comparison(circuit, number, decimals, count, ranges, changed);
+        return raise_comparison(circuit, number, decimals, count, ranges, touched);
     }
     let kleene = evaluate_parts(circuit, number, count, ranges);
-    demand(circuit, number, kleene, count, ranges, changed)
+    demand(circuit, number, kleene, count, ranges, touched)
 }
 
 // What is known of a gate by what is known of its parts, but for a comparison.
@@ -200,7 +248,7 @@ fn lower_gate(
     decimals: u32,
     count: usize,
     ranges: &mut [Range],
-    changed: &mut bool,
+    touched: &mut Touched,
 ) -> bool
     requires within { number < circuit_len circuit.now }
     requires decimals { decimals ≤ most_decimals }
@@ -213,23 +261,23 @@ fn lower_gate(
     let whole = kleene_at(circuit, number, count, ranges);
     match circuit.gate(number) {
         Gate::Truth(_) => true,
-        Gate::Flag(variable) => lower_flag(variable, whole, count, ranges, changed),
-        Gate::Compare { .. } => lower_comparison(circuit, number, decimals, count, ranges, changed),
-        Gate::Not(part) => demand(circuit, part, whole.not(), count, ranges, changed),
+        Gate::Flag(variable) => lower_flag(variable, whole, count, ranges, touched),
+        Gate::Compare { .. } => lower_comparison(circuit, number, decimals, count, ranges, touched),
+        Gate::Not(part) => demand(circuit, part, whole.not(), count, ranges, touched),
         Gate::And(left, right) => {
             let first = whole.part_of_both(kleene_at(circuit, right, count, ranges));
             let second = whole.part_of_both(kleene_at(circuit, left, count, ranges));
-            demand_two(circuit, left, first, right, second, count, ranges, changed)
+            demand_two(circuit, left, first, right, second, count, ranges, touched)
         }
         Gate::Or(left, right) => {
             let first = whole.part_of_either(kleene_at(circuit, right, count, ranges));
             let second = whole.part_of_either(kleene_at(circuit, left, count, ranges));
-            demand_two(circuit, left, first, right, second, count, ranges, changed)
+            demand_two(circuit, left, first, right, second, count, ranges, touched)
         }
         Gate::Xor(left, right) => {
             let first = whole.xor(kleene_at(circuit, right, count, ranges));
             let second = whole.xor(kleene_at(circuit, left, count, ranges));
-            demand_two(circuit, left, first, right, second, count, ranges, changed)
+            demand_two(circuit, left, first, right, second, count, ranges, touched)
         }
         Gate::If(condition, first, second) => {
             let is = kleene_at(circuit, condition, count, ranges);
@@ -241,7 +289,7 @@ fn lower_gate(
                 first_differs.condition(second_differs),
                 count,
                 ranges,
-                changed,
+                touched,
             ) && demand_two(
                 circuit,
                 first,
@@ -250,7 +298,7 @@ fn lower_gate(
                 is.not().then(whole),
                 count,
                 ranges,
-                changed,
+                touched,
             )
         }
     }
@@ -265,7 +313,7 @@ fn demand_two(
     second: Kleene,
     count: usize,
     ranges: &mut [Range],
-    changed: &mut bool,
+    touched: &mut Touched,
 ) -> bool
     requires left { left < circuit_len circuit.now }
     requires right { right < circuit_len circuit.now }
@@ -279,10 +327,10 @@ fn demand_two(
     ensures narrower { IsNarrower ranges.old ranges.new }
     ensures domains { AreDomains ranges.new }
 {
-    if !demand(circuit, left, first, count, ranges, changed) {
+    if !demand(circuit, left, first, count, ranges, touched) {
         return false;
     }
-    demand(circuit, right, second, count, ranges, changed)
+    demand(circuit, right, second, count, ranges, touched)
 }
 
 // Narrows the range of a variable by what is known of it as a flag.
@@ -291,7 +339,7 @@ fn lower_flag(
     whole: Kleene,
     count: usize,
     ranges: &mut [Range],
-    changed: &mut bool,
+    touched: &mut Touched,
 ) -> bool
     requires count { count ≤ length ranges.old }
     requires domains { AreDomains ranges.old }
@@ -308,8 +356,8 @@ fn lower_flag(
     }
     let range = ranges[place];
     match whole {
-        Kleene::True => narrow(ranges, place, not_zero(range), changed),
-        Kleene::False => narrow(ranges, place, Range { low: 0, high: 0 }, changed),
+        Kleene::True => narrow(ranges, place, not_zero(range), touched),
+        Kleene::False => narrow(ranges, place, Range { low: 0, high: 0 }, touched),
         Kleene::Unknown => true,
     }
 }

@@ -14,6 +14,7 @@ ghost use Rattle.lt_propagation.specs.inner.Choices.{IsChoice, IsSplitAt};
 use crate::choosing::{Choice, choose};
 use crate::kleene::Kleene;
 use crate::propagating::propagate;
+use crate::touching::Touched;
 use lt_num::Range;
 use lt_space::Circuit;
 
@@ -28,6 +29,9 @@ pub struct Room {
 
     /// A truth value of each gate.
     pub kleenes: Vec<Kleene>,
+
+    /// Which places of the box at hand were narrowed lately.
+    pub touched: Touched,
 }
 
 /// Whether it was found out, in so many steps, that a box has no wide point. Where this is false, nothing is known.
@@ -62,10 +66,12 @@ pub fn refute(
         &mut room.current,
         &mut room.stack,
         &mut room.kleenes,
+        &mut room.touched,
         steps,
     )
 }
 
+// Goes over the boxes of a search for a reason.
 fn search(
     circuit: &Circuit,
     same: &[u32],
@@ -75,6 +81,7 @@ fn search(
     current: &mut [Range],
     stack: &mut Vec<Range>,
     kleenes: &mut Vec<Kleene>,
+    touched: &mut Touched,
     steps: u64,
 ) -> bool
     requires ties { AreTies circuit.now same.now }
@@ -89,6 +96,7 @@ fn search(
     ensures kleenes { vec_capacity kleenes.new ≡ vec_capacity kleenes.old }
 {
     stack.clear();
+    touched.touch_all(current.len());
     let mut height: usize = 0;
     let mut left = steps;
     'boxes: loop {
@@ -96,7 +104,7 @@ fn search(
             return false;
         }
         left -= 1;
-        if propagate(circuit, same, root, decimals, hard.len(), current) {
+        if propagate(circuit, same, root, decimals, hard.len(), current, touched) {
             let Some(choice) = choose(circuit, root, hard, current, kleenes) else {
                 return false;
             };
@@ -104,12 +112,14 @@ fn search(
                 return false;
             }
             split_at(choice, current, stack);
+            touched.touch_only(choice.place);
             height += 1;
         } else {
             if height == 0 {
                 return true;
             }
             take_box(current, stack);
+            touched.touch_all(current.len());
             height -= 1;
         }
     }

@@ -12,6 +12,7 @@ ghost use Rattle.lt_propagation.specs.Wide.{Keeps};
 
 use crate::evaluation::terms_between;
 use crate::narrowing::narrow;
+use crate::touching::Touched;
 use lt_num::Range;
 use lt_space::{Circuit, Gate};
 
@@ -22,7 +23,7 @@ pub(crate) fn tie_all(
     decimals: u32,
     count: usize,
     ranges: &mut [Range],
-    changed: &mut bool,
+    touched: &mut Touched,
 ) -> bool
     requires decimals { decimals ≤ most_decimals }
     requires ties { AreTies circuit.now same.now }
@@ -37,7 +38,7 @@ pub(crate) fn tie_all(
             ranges,
             count + number,
             count + same[number] as usize,
-            changed,
+            touched,
         ) {
             return false;
         }
@@ -46,7 +47,7 @@ pub(crate) fn tie_all(
 }
 
 // Narrows two ranges by each other.
-fn narrow_both(ranges: &mut [Range], place: usize, other: usize, changed: &mut bool) -> bool
+fn narrow_both(ranges: &mut [Range], place: usize, other: usize, touched: &mut Touched) -> bool
     requires place { place < length ranges.old }
     requires other { other < length ranges.old }
     requires domains { AreDomains ranges.old }
@@ -56,12 +57,15 @@ fn narrow_both(ranges: &mut [Range], place: usize, other: usize, changed: &mut b
     ensures narrower { IsNarrower ranges.old ranges.new }
     ensures domains { AreDomains ranges.new }
 {
+    if place == other {
+        return true;
+    }
     let range = ranges[other];
-    if !narrow(ranges, place, range, changed) {
+    if !narrow(ranges, place, range, touched) {
         return false;
     }
     let range = ranges[place];
-    narrow(ranges, other, range, changed)
+    narrow(ranges, other, range, touched)
 }
 
 /// Finds for each gate an earlier one with the same form, or else itself, in reserved room. `latest` has gates by their forms:

@@ -17,7 +17,7 @@ use crate::diving::dive;
 use crate::widening::{copy_box, propagate_box, widen};
 use lt_formula::Memory;
 use lt_num::Range;
-use lt_propagation::{Kleene, evaluate, refute};
+use lt_propagation::{Kleene, Touched, evaluate, refute};
 use lt_space::Space;
 use std::alloc::Global;
 
@@ -69,6 +69,7 @@ impl BoxRoom {
                 current: Vec::with_capacity(alloc, places)?,
                 stack: Vec::with_capacity(alloc, kept)?,
                 kleenes: Vec::with_capacity(alloc, gates)?,
+                touched: Touched::make(alloc, places)?,
             },
         })
     }
@@ -176,7 +177,7 @@ fn classify_widened(
     ensures copy { vec_capacity room.old.current ≤ vec_capacity room.new.current }
     ensures kleenes { vec_capacity room.new.kleenes ≡ vec_capacity room.old.kleenes }
 {
-    if !propagate_box(space, same, current, widened) {
+    if !propagate_box(space, same, current, widened, &mut room.touched) {
         return BoxStatus::Infeasible;
     }
     match first_open(current) {
@@ -248,6 +249,7 @@ fn classify_propagated(
         &mut room.current,
         current,
         &mut room.kleenes,
+        &mut room.touched,
     ) {
         return BoxStatus::Solved;
     }
@@ -297,6 +299,7 @@ fn dive_within(
     copy: &mut [Range],
     current: &mut [Range],
     kleenes: &mut Vec<Kleene>,
+    touched: &mut Touched,
 ) -> bool
     requires ties { AreTies (space_circuit space.now) same.now }
     requires targets { length targets.now ≡ length current.old }
@@ -315,7 +318,7 @@ fn dive_within(
     ensures narrower { IsNarrower current.old current.new }
     ensures kleenes { vec_capacity kleenes.new ≡ vec_capacity kleenes.old }
 {
-    if !is_dived(space, same, targets, copy) {
+    if !is_dived(space, same, targets, copy, touched) {
         return false;
     }
     let point = &copy[..targets.len()];
@@ -330,7 +333,13 @@ fn dive_within(
 }
 
 // Fixes each variable at its first number in turn; says whether every one could be fixed.
-fn is_dived(space: &Space, same: &[u32], targets: &[i64], copy: &mut [Range]) -> bool
+fn is_dived(
+    space: &Space,
+    same: &[u32],
+    targets: &[i64],
+    copy: &mut [Range],
+    touched: &mut Touched,
+) -> bool
     requires ties { AreTies (space_circuit space.now) same.now }
     requires long { length copy.old ≡ length targets.now + circuit_len (space_circuit space.now) }
     requires domains { AreDomains copy.old }
@@ -348,6 +357,7 @@ fn is_dived(space: &Space, same: &[u32], targets: &[i64], copy: &mut [Range]) ->
         space.decimals(),
         targets,
         copy,
+        touched,
     )
 }
 

@@ -12,7 +12,7 @@ ghost use Rattle.lt_solver.specs.inner.Points.{AreFixed, first_raw};
 ghost use Rattle.lt_solver.specs.inner.Dive.{Covers, Leads, test_of};
 
 use lt_num::Range;
-use lt_propagation::propagate;
+use lt_propagation::{Touched, propagate};
 use lt_space::Circuit;
 
 /// Fixes each variable at its first number in turn, and propagates the box after each; says whether every one could be fixed.
@@ -23,6 +23,7 @@ pub(crate) fn dive(
     decimals: u32,
     targets: &[i64],
     ranges: &mut [Range],
+    touched: &mut Touched,
 ) -> bool
     requires ties { AreTies circuit.now same.now }
     requires root { root < circuit_len circuit.now }
@@ -41,6 +42,7 @@ pub(crate) fn dive(
     for i in 0..targets.len() {
         let was_fixed = ranges[i].low == ranges[i].high;
         fix(i, targets[i], ranges);
+        touched.touch_only(i);
         if !propagate_fixed(
             circuit,
             same,
@@ -49,6 +51,7 @@ pub(crate) fn dive(
             targets.len(),
             was_fixed,
             ranges,
+            touched,
         ) {
             return false;
         }
@@ -65,6 +68,7 @@ fn propagate_fixed(
     count: usize,
     was_fixed: bool,
     ranges: &mut [Range],
+    touched: &mut Touched,
 ) -> bool
     requires ties { AreTies circuit.now same.now }
     requires root { root < circuit_len circuit.now }
@@ -78,7 +82,7 @@ fn propagate_fixed(
     if was_fixed {
         return true;
     }
-    propagate(circuit, same, root, decimals, count, ranges)
+    propagate(circuit, same, root, decimals, count, ranges, touched)
 }
 
 // Fixes a variable at its first number.

@@ -13,7 +13,7 @@ ghost use Rattle.lt_solver.specs.inner.Dive.{Covers};
 ghost use Rattle.lt_solver.specs.inner.Classified.{passes};
 
 use lt_num::Range;
-use lt_propagation::{demand_truth, propagate};
+use lt_propagation::{Touched, demand_truth, propagate};
 use lt_space::Space;
 
 /// Narrows a box by what the formula says, and says whether it may have solutions. `widened` has any signs of the gates behind it,
@@ -23,6 +23,7 @@ pub(crate) fn propagate_box(
     same: &[u32],
     current: &mut [Range],
     widened: &mut [Range],
+    touched: &mut Touched,
 ) -> bool
     requires ties { AreTies (space_circuit space.now) same.now }
     requires domains { AreDomains current.old }
@@ -41,7 +42,7 @@ pub(crate) fn propagate_box(
     ensures narrower { IsNarrower current.old current.new }
 {
     let count = current.len();
-    if !propagate_demanded(space, same, count, widened) {
+    if !propagate_demanded(space, same, count, widened, touched) {
         return false;
     }
     current.copy_from_slice(&widened[..count]);
@@ -73,7 +74,13 @@ pub(crate) fn copy_box(ranges: &[Range], copy: &mut Vec<Range>)
 }
 
 // Narrows a box of wide points by the demand that the formula holds.
-fn propagate_demanded(space: &Space, same: &[u32], count: usize, ranges: &mut [Range]) -> bool
+fn propagate_demanded(
+    space: &Space,
+    same: &[u32],
+    count: usize,
+    ranges: &mut [Range],
+    touched: &mut Touched,
+) -> bool
     requires ties { AreTies (space_circuit space.now) same.now }
     requires long { length ranges.old ≡ count + circuit_len (space_circuit space.now) }
     requires domains { AreDomains ranges.old }
@@ -85,15 +92,8 @@ fn propagate_demanded(space: &Space, same: &[u32], count: usize, ranges: &mut [R
     ensures narrower { IsNarrower ranges.old ranges.new }
     ensures domains { AreDomains ranges.new }
 {
-    let mut changed = false;
-    if !demand_truth(
-        space.circuit(),
-        space.root(),
-        true,
-        count,
-        ranges,
-        &mut changed,
-    ) {
+    touched.touch_all(ranges.len());
+    if !demand_truth(space.circuit(), space.root(), true, count, ranges, touched) {
         return false;
     }
     propagate(
@@ -103,5 +103,6 @@ fn propagate_demanded(space: &Space, same: &[u32], count: usize, ranges: &mut [R
         space.decimals(),
         count,
         ranges,
+        touched,
     )
 }

@@ -15,8 +15,8 @@ returns-then-not-raise_and_tie-clause-narrower c = narrower_more c.args.ranges.n
 pub returns-then-not-lower_all-clause-narrower : goal.returns-then-not-lower_all-clause-narrower
 returns-then-not-lower_all-clause-narrower c = narrower_more c.args.ranges.now c.raise_and_tie.new.ranges c.lower_all.new.ranges (narrower_more c.args.ranges.now c.loop.ranges c.raise_and_tie.new.ranges c.loop.invariant.narrower c.raise_and_tie.ensures.narrower) c.lower_all.ensures.narrower
 
-pub returns-then-not-changed-clause-narrower : goal.returns-then-not-changed-clause-narrower
-returns-then-not-changed-clause-narrower c = narrower_more c.args.ranges.now c.raise_and_tie.new.ranges c.lower_all.new.ranges (narrower_more c.args.ranges.now c.loop.ranges c.raise_and_tie.new.ranges c.loop.invariant.narrower c.raise_and_tie.ensures.narrower) c.lower_all.ensures.narrower
+pub returns-then-not-end_pass-clause-narrower : goal.returns-then-not-end_pass-clause-narrower
+returns-then-not-end_pass-clause-narrower c = narrower_more c.args.ranges.now c.raise_and_tie.new.ranges c.lower_all.new.ranges (narrower_more c.args.ranges.now c.loop.ranges c.raise_and_tie.new.ranges c.loop.invariant.narrower c.raise_and_tie.ensures.narrower) c.lower_all.ensures.narrower
 
 pub loop-preserved : goal.loop-preserved
 loop-preserved c =

@@ -4,7 +4,7 @@ use Rattle.lt_bounds.specs.Ranges.{range_at}
 use Rattle.lt_formula.specs.Solution.{IsPointOf}
 use Rattle.lt_num.specs.Range.{IsWithin}
 use Rattle.lt_space.specs.Evaluated.{Where}
-use Rattle.lt_propagation.proofs.Boxes.{point_within}
+use Rattle.lt_propagation.proofs.Boxes.{narrower_here, point_within}
 use Rattle.lt_propagation.proofs.tying.narrow_both.Goals as goal
 
 pub returns-clause-keeps : goal.returns-clause-keeps
@@ -24,3 +24,6 @@ returns-then-not-narrow-clause-keeps c = λ values p e.
     let old = c.args.ranges.now in
     let w = subst (λ (z : ℤ). IsWithin (range_at old c.args.other) z) (sym e) (point_within old values c.args.other c.requires.other p) in
     subst (λ (b : Bool). Where b (IsPointOf c.narrow.new.ranges values)) c.if-not-narrow.true (c.narrow.ensures.keeps values p w.0 w.1)
+
+pub returns-then-place-other-clause-narrower : goal.returns-then-place-other-clause-narrower
+returns-then-place-other-clause-narrower c = narrower_here c.args.ranges.now c.requires.domains
