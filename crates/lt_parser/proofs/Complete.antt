@@ -281,10 +281,10 @@ mutual
       braced_first y whole most d d ts (lexeme t.CloseBrace x.0 q ∷ rest) x.1 k ∙ reads_at y as_whole most d ts (lexeme t.CloseBrace x.0 q ∷ rest) x.1 (λ y'. after_first d y' k)
   reads_braced (s.choice true ps) most d q ts rest x k = reads_alternatives ps most d q ts rest (some_braced d k) (λ ps' q'. k (s.choice true ps') q') (λ w p m. refl) x.0 x.1
   reads_braced (s.choice false ps) most d q ts rest x k = reads_choice ps most d q ts rest x k
-  reads_braced (s.priority true ys) most d q ts rest x k = reads_led ys t.Priority refl most d q ts rest (some_braced d k) (λ ys' q'. k (s.priority true ys') q') (λ w p m. refl) x.0 x.1
-  reads_braced (s.priority false ys) most d q ts rest x k = reads_unled ys t.Priority refl most d q ts rest k (λ ys' q'. k (s.priority false ys') q') (λ y' w p m. refl) x
-  reads_braced (s.parallel true ys) most d q ts rest x k = reads_led ys t.Parallel refl most d q ts rest (some_braced d k) (λ ys' q'. k (s.parallel true ys') q') (λ w p m. refl) x.0 x.1
-  reads_braced (s.parallel false ys) most d q ts rest x k = reads_unled ys t.Parallel refl most d q ts rest k (λ ys' q'. k (s.parallel false ys') q') (λ y' w p m. refl) x
+  reads_braced (s.priority true ys) most d q ts rest x k = reads_after_sign ys t.Priority refl most d q ts rest (some_braced d k) (λ ys' q'. k (s.priority true ys') q') (λ w p m. refl) x.0 x.1
+  reads_braced (s.priority false ys) most d q ts rest x k = reads_with_first ys t.Priority refl most d q ts rest k (λ ys' q'. k (s.priority false ys') q') (λ y' w p m. refl) x
+  reads_braced (s.parallel true ys) most d q ts rest x k = reads_after_sign ys t.Parallel refl most d q ts rest (some_braced d k) (λ ys' q'. k (s.parallel true ys') q') (λ w p m. refl) x.0 x.1
+  reads_braced (s.parallel false ys) most d q ts rest x k = reads_with_first ys t.Parallel refl most d q ts rest k (λ ys' q'. k (s.parallel false ys') q') (λ y' w p m. refl) x
 
   reads_choice : (ps : Alternatives) (most d : ℕ) (q : Span) (ts rest : Lexemes) → DerivesChoice most d ts ps q rest → (k : Braces → Span → Goal) → outcome most (some_braced d k) ts ≡ outcome most (k (s.choice false ps) q) rest
   reads_choice s.no_alternatives most d q ts rest x k = absurd x
@@ -315,21 +315,21 @@ mutual
       ∙ fully e most d ts (lexeme t.Colon x.0 x.1 ∷ x.2) (reads_exp e most d 0 ts (lexeme t.Colon x.0 x.1 ∷ x.2) x.3 (stands_zero e) (no_heads (λ op. rank op ≤ top e) (lexeme t.Colon x.0 x.1 ∷ x.2) c)) c (λ e'. after_weight d e' k)
       ∙ reads_at y as_whole most d x.2 rest x.4 (λ y'. k (s.weighted e y'))
 
-  reads_led : (ys : Traces) (sign : Sign) (j : joins_traces sign ≡ true) (most d : ℕ) (q : Span) (ts rest : Lexemes) (goal : Goal) (k : Traces → Span → Goal)
+  reads_after_sign : (ys : Traces) (sign : Sign) (j : joins_traces sign ≡ true) (most d : ℕ) (q : Span) (ts rest : Lexemes) (goal : Goal) (k : Traces → Span → Goal)
       → ((w : List ℕ) (p : Span) (m : Lexemes) → outcome most goal (lexeme sign w p ∷ m) ≡ outcome most (a_trace d (λ y. more_traces d sign (λ zs q'. k (s.one_trace y zs) q'))) m)
       → HasTrace ys → DerivesMoreTraces most d sign ts ys q rest → outcome most goal ts ≡ outcome most (k ys q) rest
-  reads_led s.no_traces sign j most d q ts rest goal k h n x = absurd n
-  reads_led (s.one_trace y ys) sign j most d q ts rest goal k h n x =
+  reads_after_sign s.no_traces sign j most d q ts rest goal k h n x = absurd n
+  reads_after_sign (s.one_trace y ys) sign j most d q ts rest goal k h n x =
       ap (outcome most goal) x.3 ∙ h x.0 x.1 x.2 ∙ reads_at y as_whole most d x.2 x.4 x.5 (λ y'. more_traces d sign (λ zs q'. k (s.one_trace y' zs) q'))
       ∙ reads_more_traces ys sign j most d q x.4 rest x.6 (λ zs q'. k (s.one_trace y zs) q')
 
-  reads_unled : (ys : Traces) (sign : Sign) (j : joins_traces sign ≡ true) (most d : ℕ) (q : Span) (ts rest : Lexemes) (k : Braces → Span → Goal) (k' : Traces → Span → Goal)
+  reads_with_first : (ys : Traces) (sign : Sign) (j : joins_traces sign ≡ true) (most d : ℕ) (q : Span) (ts rest : Lexemes) (k : Braces → Span → Goal) (k' : Traces → Span → Goal)
       → ((y : Trace) (w : List ℕ) (p : Span) (m : Lexemes) → outcome most (after_first d y k) (lexeme sign w p ∷ m) ≡ outcome most (a_trace d (λ z. more_traces d sign (λ zs q'. k' (s.one_trace y (s.one_trace z zs)) q'))) m)
       → DerivesTraces most d sign ts ys q rest → outcome most (some_braced d k) ts ≡ outcome most (k' ys q) rest
-  reads_unled s.no_traces sign j most d q ts rest k k' h x = absurd x
-  reads_unled (s.one_trace y ys) sign j most d q ts rest k k' h x =
+  reads_with_first s.no_traces sign j most d q ts rest k k' h x = absurd x
+  reads_with_first (s.one_trace y ys) sign j most d q ts rest k k' h x =
       braced_first y whole most d d ts x.0 x.1 k ∙ reads_at y as_whole most d ts x.0 x.1 (λ y'. after_first d y' k)
-      ∙ reads_led ys sign j most d q x.0 rest (after_first d y k) (λ zs q'. k' (s.one_trace y zs) q') (h y) x.2 x.3
+      ∙ reads_after_sign ys sign j most d q x.0 rest (after_first d y k) (λ zs q'. k' (s.one_trace y zs) q') (h y) x.2 x.3
 
   reads_more_traces : (ys : Traces) (sign : Sign) (j : joins_traces sign ≡ true) (most d : ℕ) (q : Span) (ts rest : Lexemes) → DerivesMoreTraces most d sign ts ys q rest → (k : Traces → Span → Goal) → outcome most (more_traces d sign k) ts ≡ outcome most (k ys q) rest
   reads_more_traces s.no_traces sign j most d q ts rest x k = ap (outcome most (more_traces d sign k)) x.1

@@ -124,7 +124,7 @@ cap_right b.Gt f = three_side f
 cap_right b.Ge f = three_side f
 cap_right op f = omega arith
 
--- the same of an operator with one operand
+-- What may follow an operator with one operand may follow its operand.
 pub under_top : (op : UnOp) (e f : Exp) (at : Span) → Stands (under op) e → top (s.unary op f at) ≤ top e
 under_top u.Neg e f at h = high_top e 7 (omega arith) (omega arith) (looser e 7 8 (omega arith) h)
 under_top u.Not e f at h = low_top e 3 (omega arith) (omega arith) (looser e 3 4 (omega arith) h)

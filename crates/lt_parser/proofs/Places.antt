@@ -126,7 +126,7 @@ refuses_later most g sign w at us left goal e acc r = record {
   here = stuck_step g sign w at goal r.before r.rest e r.here;
 }
 
--- The same after a token that opens a level.
+-- A refusal further on, after a token that opens a level.
 refuses_open : (most : ℕ) (g : Goal) (sign : Sign) (w : List ℕ) (at : Span) (us : Lexemes) (left d : ℕ) (goal : Goal) → step g sign w at ≡ opens d goal → (outcome most goal us ≡ Err (unexpected left) → Refuses most goal us left)
     → (b' : Bool) → nat_le d most ≡ b' → (if b' then outcome most goal us else Err (too_deep (suc (length us)))) ≡ Err (unexpected left) → Refuses most g (lexeme sign w at ∷ us) left
 refuses_open most g sign w at us left d goal e ih true q r =
@@ -162,7 +162,7 @@ refuses [] most left g le h e = record {
 }
 refuses (lexeme sign w at ∷ us) most left g le h e = refuses_step most g sign w at us left le h (step g sign w at) refl (tidy_step g sign w at h) (λ goal n z. refuses us most left goal le n z) e
 
--- The same of a level too many.
+-- A level too many further on.
 deepens_later : (most : ℕ) (g : Goal) (sign : Sign) (w : List ℕ) (at : Span) (us : Lexemes) (left : ℕ) (goal : Goal) → Takes (step g sign w at) goal
     → ((limit : ℕ) (ts : Lexemes) → most ≤ limit → Accepts limit goal ts → Accepted limit (step g sign w at) ts) → Deepens most goal us left → Deepens most g (lexeme sign w at ∷ us) left
 deepens_later most g sign w at us left goal e acc r = record {
@@ -215,7 +215,7 @@ deepens (lexeme sign w at ∷ us) most left g le h low e =
 
 -- OF A WHOLE TEXT
 
--- Behind the whole program comes nothing.
+-- After the whole program comes nothing.
 start_tidy : Tidy (declarations done)
 start_tidy = λ xs. (tt, refl)
 

@@ -70,7 +70,7 @@ Accepts most (a_first d k) ts = (x : MaybeExp) × (m : Lexemes) × DerivesFirst 
 Accepts most (some_parameters d k) ts = (x : Parameters) × (m : Lexemes) × DerivesParameters most d ts x m × Accepts most (k x) m
 Accepts most (declarations k) ts = (x : List Declaration) × (m : Lexemes) × DerivesAll most ts x m × Accepts most (k x) m
 
--- The same after a token, where the level that it opens may be opened.
+-- What is left after a token is accepted, where the level that it opens may be opened.
 abbrev pub Accepted : ℕ → Move → Lexemes → Type 0
 Accepted most stuck ts = ⊥
 Accepted most (next goal) ts = Accepts most goal ts

@@ -143,7 +143,7 @@ pub grows : {X L K : Type 0} (more : (L → Goal) → Goal) (f : X → L → L) 
 grows more f onward_ want ts rest next' xs ys x e h g k =
     h k ∙ g (λ l. onward_ k (onto f xs l)) ∙ sym (λ i. outcome most_levels (more (λ l. onward_ k (onto-push f xs x l i))) next') ∙ sym (ap (λ zs. outcome most_levels (more (λ l. onward_ k (onto f zs l))) next') e)
 
--- the same where the place of the last sign is handed on
+-- a list so far, one more part, and the list that it makes, with the place of the last sign
 pub grows_to : {X L K : Type 0} (more : (L → Span → Goal) → Goal) (f : X → L → L) (onward_ : K → L → Span → Goal) (want : K → Goal) (ts rest next' : Lexemes) (xs ys : List X) (x : X) → ys ≡ xs ++ x ∷ []
     → ((k : K) → outcome most_levels (want k) ts ≡ outcome most_levels (more (λ l. onward_ k (onto f xs l))) rest)
     → ((k : L → Span → Goal) → outcome most_levels (more k) rest ≡ outcome most_levels (more (λ l. k (f x l))) next')
@@ -199,7 +199,7 @@ refused_by want part inner ts us (r.Unexpected left) q h = λ k. q k ∙ h (inne
 refused_by want part inner ts us (r.TooDeep left) q h = λ k. q k ∙ h (inner k)
 refused_by want part inner ts us r.Memory q h = tt
 
--- the same of an answer that hands the refusal on
+-- A part that is wanted is refused, and an answer that hands the refusal on is that of the whole.
 pub err_by : {X K J : Type 0} (onto_ : X → K → Goal) (rest_of : X → Lexemes) (want : K → Goal) (part : J → Goal) (inner : K → J) (ts us : Lexemes) (e : Refusal) (result : Result X Refusal)
     → ((k : K) → outcome most_levels (want k) ts ≡ outcome most_levels (part (inner k)) us) → Refused part us e → IsErrAnd result (λ e'. e' ≡ e) → ReadsTo onto_ rest_of want ts result
 err_by onto_ rest_of want part inner ts us e (Ok x) q h a = absurd a

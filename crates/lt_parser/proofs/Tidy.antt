@@ -103,7 +103,7 @@ abbrev pub is_number : Option Sign → Bool
 is_number (Some t.Number) = true
 is_number sign = false
 
--- Behind each want comes what may come there.
+-- After each want comes what may come there.
 abbrev pub Tidy : Goal → Type 0
 Tidy (done xs) = Unit {0}
 Tidy (a_sign wanted k) = (p : Span) → Tidy (k p)

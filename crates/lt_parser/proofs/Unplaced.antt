@@ -47,7 +47,7 @@ record TakesThree (a : Sign) (w : List ℕ) (b : Sign) (v : List ℕ) (c : Sign)
   is : us ≡ lexeme a w at ∷ (lexeme b v at' ∷ (lexeme c z at'' ∷ left))
   like : Alike m left
 
--- the same for the record's word
+-- What is like tokens that begin with a sign begins with it too, by what the record says.
 taken : (sign : Sign) (w : List ℕ) (p : Span) (m us : Lexemes) → AreAlike (lexeme sign w p ∷ m) us → Takes sign w m us
 taken sign w p m [] h = absurd h
 taken sign w p m (lexeme sign' w' p' ∷ us) h = record { at = p'; left = us; is = λ i. lexeme (sym h.0.0 i) (sym h.0.1 i) p' ∷ us; like = record { are = h.1 } }
@@ -60,25 +60,25 @@ take {sign = sign} {w = w} {p = p} {m = m} {us = us} h = taken sign w p m us h.a
 along : {ts rest us : Lexemes} → ts ≡ rest → Alike ts us → Alike rest us
 along {us = us} e h = subst (λ (z : Lexemes). Alike z us) e h
 
--- the same for tokens that are known to begin with a sign by an equation
+-- What is like tokens that are equal to some with a sign first begins with that sign.
 first : {sign : Sign} {w : List ℕ} {p : Span} {m ts us : Lexemes} → ts ≡ lexeme sign w p ∷ m → Alike ts us → Takes sign w m us
 first e h = take (along e h)
 
--- the same for two signs
+-- What is like tokens that begin with two signs begins with both.
 two : {a b : Sign} {w v : List ℕ} {p q : Span} {m ts us : Lexemes} → ts ≡ lexeme a w p ∷ (lexeme b v q ∷ m) → Alike ts us → TakesTwo a w b v m us
 two {a = a} {w = w} e h =
     let k = first e h in
     let l = take k.like in
     record { at = k.at; at' = l.at; left = l.left; is = k.is ∙ (λ i. lexeme a w k.at ∷ l.is i); like = l.like }
 
--- the same for three signs
+-- What is like tokens that begin with three signs begins with all of them.
 three : {a b c : Sign} {w v z : List ℕ} {p q r : Span} {m ts us : Lexemes} → ts ≡ lexeme a w p ∷ (lexeme b v q ∷ (lexeme c z r ∷ m)) → Alike ts us → TakesThree a w b v c z m us
 three {a = a} {w = w} e h =
     let k = first e h in
     let l = two refl k.like in
     record { at = k.at; at' = l.at; at'' = l.at'; left = l.left; is = k.is ∙ (λ i. lexeme a w k.at ∷ l.is i); like = l.like }
 
--- the same for the record's word
+-- Being alike holds both ways, by what the record says.
 are_turned : (ts us : Lexemes) → AreAlike ts us → AreAlike us ts
 are_turned [] [] h = tt
 are_turned [] (u ∷ us) h = absurd h

@@ -120,7 +120,7 @@ number_written : (c : Bool) (text : List ℕ) (at : Span) (ts rest : Lexemes) �
 number_written false text at ts rest x = from x (put_number text)
 number_written true text at ts rest x = from x.3 (put t.Minus refl (put_number text))
 
--- the same for the number of a tree
+-- the number of a tree, with a minus or without one
 figure_written : (f : Figure) (ts rest : Lexemes) → DerivesFigure ts f rest → Writes ts (figure_tokens f) rest
 figure_written f ts rest x = number_written f.minus f.text f.span ts rest x
 
@@ -143,16 +143,16 @@ ref_written true ts rest x = from x.2 (put t.Ref refl none)
 -- LEADING SIGNS
 
 -- Alternatives after a leading bar are alternatives each after a bar.
-led_alternatives : (ps : Alternatives) (ts rest : Lexemes) → HasAlternative ps → Writes ts (more_alternatives ps ++ (mark t.CloseBrace ∷ [])) rest
+alternatives_after_sign : (ps : Alternatives) (ts rest : Lexemes) → HasAlternative ps → Writes ts (more_alternatives ps ++ (mark t.CloseBrace ∷ [])) rest
     → Writes ts ((mark t.Bar ∷ alternatives_tokens ps) ++ (mark t.CloseBrace ∷ [])) rest
-led_alternatives s.no_alternatives ts rest n f = absurd n
-led_alternatives (s.alternative p ps) ts rest n f = f
+alternatives_after_sign s.no_alternatives ts rest n f = absurd n
+alternatives_after_sign (s.alternative p ps) ts rest n f = f
 
 -- Traces after a leading sign are traces each after the sign.
-led_traces : (sign : Sign) (xs : Traces) (ts rest : Lexemes) → HasTrace xs → Writes ts (more_traces sign xs ++ (mark t.CloseBrace ∷ [])) rest
+traces_after_sign : (sign : Sign) (xs : Traces) (ts rest : Lexemes) → HasTrace xs → Writes ts (more_traces sign xs ++ (mark t.CloseBrace ∷ [])) rest
     → Writes ts ((mark sign ∷ traces_tokens sign xs) ++ (mark t.CloseBrace ∷ [])) rest
-led_traces sign s.no_traces ts rest n f = absurd n
-led_traces sign (s.one_trace x xs) ts rest n f = f
+traces_after_sign sign s.no_traces ts rest n f = absurd n
+traces_after_sign sign (s.one_trace x xs) ts rest n f = f
 
 -- EXPRESSIONS AND TRACES
 
@@ -193,11 +193,11 @@ mutual
   -- what stands in braces, and the `}` after it
   braced_written : (y : Braces) (most d : ℕ) (q : Span) (ts rest : Lexemes) → DerivesBraced most d ts y q rest → Writes ts (braced_tokens y ++ (mark t.CloseBrace ∷ [])) rest
   braced_written (s.plain y) most d q ts rest x = then (trace_written y whole most d ts (lexeme t.CloseBrace x.0 q ∷ rest) x.1) (put t.CloseBrace refl none)
-  braced_written (s.choice true ps) most d q ts rest x = led_alternatives ps ts rest x.0 (more_alternatives_written ps most d q ts rest x.1)
+  braced_written (s.choice true ps) most d q ts rest x = alternatives_after_sign ps ts rest x.0 (more_alternatives_written ps most d q ts rest x.1)
   braced_written (s.choice false ps) most d q ts rest x = choice_written ps most d q ts rest x
-  braced_written (s.priority true ys) most d q ts rest x = led_traces t.Priority ys ts rest x.0 (more_traces_written ys t.Priority refl most d q ts rest x.1)
+  braced_written (s.priority true ys) most d q ts rest x = traces_after_sign t.Priority ys ts rest x.0 (more_traces_written ys t.Priority refl most d q ts rest x.1)
   braced_written (s.priority false ys) most d q ts rest x = traces_written ys t.Priority refl most d q ts rest x
-  braced_written (s.parallel true ys) most d q ts rest x = led_traces t.Parallel ys ts rest x.0 (more_traces_written ys t.Parallel refl most d q ts rest x.1)
+  braced_written (s.parallel true ys) most d q ts rest x = traces_after_sign t.Parallel ys ts rest x.0 (more_traces_written ys t.Parallel refl most d q ts rest x.1)
   braced_written (s.parallel false ys) most d q ts rest x = traces_written ys t.Parallel refl most d q ts rest x
 
   -- a choice that no `|` leads, and the `}`

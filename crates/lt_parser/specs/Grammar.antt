@@ -37,7 +37,7 @@ DerivesNumber ts false text at rest = ts ≡ lexeme t.Number text at ∷ rest
 DerivesNumber ts true text at rest =
     (w : List ℕ) × (p : Span) × (q : Span) × (ts ≡ lexeme t.Minus w p ∷ (lexeme t.Number text q ∷ rest)) × (at ≡ across p q)
 
--- the same for the number of a tree
+-- a number of a tree
 abbrev pub DerivesFigure : Lexemes → Figure → Lexemes → Type 0
 DerivesFigure ts f rest = DerivesNumber ts f.minus f.text f.span rest
 

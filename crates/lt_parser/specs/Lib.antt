@@ -8,7 +8,7 @@ pub mod Grammar
 pub mod Nesting
 -- that tokens are a program, that they begin one, and where they stop doing so
 pub mod Program
--- the same of a text: its program, or why it has none
+-- which program a text is, or why it is none
 pub mod Text
 -- codes and places of refusals
 pub mod Refusals

@@ -22,7 +22,8 @@ pub(crate) type Parsed<'a, T> = Result<(T, &'a [Token<'a>]), Refusal>;
 
 /// The name that a token is.
 pub(crate) fn name_of(alloc: Global, token: &Token<'_>) -> Result<Name, AllocError>
-    ensures { IfOk result (λ n. word n ≡ record { text = token.now.text.now; span = token.now.span }) }
+    ensures { IfOk result
+        (λ n. word n ≡ record { text = token.now.text.now; span = token.now.span }) }
 {
     Ok(Name {
         text: String::from_str(alloc, token.text)?,
@@ -38,7 +39,8 @@ pub(crate) fn number_of(
     token: &Token<'_>,
 ) -> Result<Literal, AllocError>
     requires { token.now.sign ≡ Sign.Number }
-    ensures { IfOk result (λ l. figure l ≡ record { minus = minus; text = token.now.text.now; span = span }) }
+    ensures { IfOk result
+        (λ l. figure l ≡ record { minus = minus; text = token.now.text.now; span = span }) }
 {
     let text = String::from_str(alloc, token.text)?;
     Ok(Literal::new(minus, text, span))
@@ -47,7 +49,9 @@ pub(crate) fn number_of(
 /// One level more.
 pub(crate) fn deeper(depth: u32, left: usize) -> Result<u32, Refusal>
     requires { depth ≤ most_levels }
-    ensures deep { MatchResult result (λ d. (d ≡ suc depth) × (d ≤ most_levels) × (nat_le (suc depth) most_levels ≡ true)) (λ e. (e ≡ Refusal.TooDeep left) × (nat_le (suc depth) most_levels ≡ false)) }
+    ensures deep { MatchResult result
+        (λ d. (d ≡ suc depth) × (d ≤ most_levels) × (nat_le (suc depth) most_levels ≡ true))
+        (λ e. (e ≡ Refusal.TooDeep left) × (nat_le (suc depth) most_levels ≡ false)) }
 {
     if depth == MOST_LEVELS {
         return Err(Refusal::TooDeep(left));
@@ -58,8 +62,10 @@ pub(crate) fn deeper(depth: u32, left: usize) -> Result<u32, Refusal>
 /// The place of this sign and the tokens after it, where it is the first.
 #[tactic(auto, using(crate::proofs::Steps::firsts))]
 pub(crate) fn after<'a>(tokens: &'a [Token<'a>], sign: Sign) -> Option<(Span, &'a [Token<'a>])>
-    ensures found { MatchOption result (IsNotFirst sign (lexemes tokens.now)) (λ r. Begins sign r.0 (lexemes tokens.now) (lexemes r.1.now)) }
-    ensures shorter { MatchOption result (length tokens.now ≡ length tokens.now) (λ r. length r.1.now < length tokens.now) }
+    ensures found { MatchOption result (IsNotFirst sign (lexemes tokens.now))
+        (λ r. Begins sign r.0 (lexemes tokens.now) (lexemes r.1.now)) }
+    ensures shorter { MatchOption result (length tokens.now ≡ length tokens.now)
+        (λ r. length r.1.now < length tokens.now) }
 {
     match tokens.split_first() {
         None => None,
@@ -74,7 +80,8 @@ pub(crate) fn after<'a>(tokens: &'a [Token<'a>], sign: Sign) -> Option<(Span, &'
 
 /// This sign.
 pub(crate) fn expect<'a>(tokens: &'a [Token<'a>], sign: Sign) -> Parsed<'a, Span>
-    ensures reads { ReadsAs (λ x. x.0) (λ x. lexemes x.1.now) (a_sign sign) (lexemes tokens.now) result }
+    ensures reads { ReadsAs (λ x. x.0) (λ x. lexemes x.1.now) (a_sign sign) (lexemes tokens.now)
+        result }
     ensures shorter { IfOk result (λ x. length x.1.now < length tokens.now) }
 {
     match after(tokens, sign) {
@@ -84,8 +91,9 @@ pub(crate) fn expect<'a>(tokens: &'a [Token<'a>], sign: Sign) -> Parsed<'a, Span
 }
 
 /// A name.
-pub(crate) fn name<'a>(alloc: Global, tokens: &'a [Token<'a>]) -> Parsed<'a, Name>
-    ensures reads { ReadsAs (λ x. word x.0) (λ x. lexemes x.1.now) a_name (lexemes tokens.now) result }
+pub(crate) fn parse_name<'a>(alloc: Global, tokens: &'a [Token<'a>]) -> Parsed<'a, Name>
+    ensures reads { ReadsAs (λ x. word x.0) (λ x. lexemes x.1.now) a_name (lexemes tokens.now)
+        result }
     ensures shorter { IfOk result (λ x. length x.1.now < length tokens.now) }
 {
     match tokens.split_first() {
@@ -96,14 +104,15 @@ pub(crate) fn name<'a>(alloc: Global, tokens: &'a [Token<'a>]) -> Parsed<'a, Nam
 
 /// Names with commas between them.
 #[tactic(auto, using(crate::proofs::Skips::no_name))]
-pub(crate) fn names<'a>(alloc: Global, tokens: &'a [Token<'a>]) -> Parsed<'a, Names>
-    ensures reads { ReadsAs (λ x. words x.0) (λ x. lexemes x.1.now) reading.names (lexemes tokens.now) result }
+pub(crate) fn parse_names<'a>(alloc: Global, tokens: &'a [Token<'a>]) -> Parsed<'a, Names>
+    ensures reads { ReadsAs (λ x. words x.0) (λ x. lexemes x.1.now) reading.names
+        (lexemes tokens.now) result }
     ensures shorter { IfOk result (λ x. length x.1.now < length tokens.now) }
 {
-    let (first, mut rest) = name(alloc, tokens)?;
+    let (first, mut rest) = parse_name(alloc, tokens)?;
     let mut items = vec![in alloc; first]?;
     while let Some((_, next)) = after(rest, Sign::Comma) {
-        let (another, remaining) = name(alloc, next)?;
+        let (another, remaining) = parse_name(alloc, next)?;
         items.push(another)?;
         rest = remaining;
     }
@@ -111,7 +120,7 @@ pub(crate) fn names<'a>(alloc: Global, tokens: &'a [Token<'a>]) -> Parsed<'a, Na
 }
 
 /// The name of a type.
-pub(crate) fn type_name<'a>(tokens: &'a [Token<'a>]) -> Parsed<'a, TypeName>
+pub(crate) fn parse_type_name<'a>(tokens: &'a [Token<'a>]) -> Parsed<'a, TypeName>
     ensures reads { ReadsAs (λ x. x.0) (λ x. lexemes x.1.now) a_type (lexemes tokens.now) result }
     ensures shorter { IfOk result (λ x. length x.1.now < length tokens.now) }
 {
@@ -129,8 +138,10 @@ pub(crate) fn type_name<'a>(tokens: &'a [Token<'a>]) -> Parsed<'a, TypeName>
 
 /// Whether `ref` comes.
 #[tactic(auto, using(crate::proofs::Skips::no_ref))]
-pub(crate) fn by_ref<'a>(tokens: &'a [Token<'a>]) -> (bool, &'a [Token<'a>])
-    ensures reads { (k : Bool → Goal) → outcome most_levels (a_ref k) (lexemes tokens.now) ≡ outcome most_levels (k result.0) (lexemes result.1.now) }
+pub(crate) fn parse_ref<'a>(tokens: &'a [Token<'a>]) -> (bool, &'a [Token<'a>])
+    ensures reads { (k : Bool → Goal) →
+        outcome most_levels (a_ref k) (lexemes tokens.now)
+        ≡ outcome most_levels (k result.0) (lexemes result.1.now) }
     ensures shorter { length result.1.now ≤ length tokens.now }
 {
     match after(tokens, Sign::Ref) {
@@ -140,23 +151,25 @@ pub(crate) fn by_ref<'a>(tokens: &'a [Token<'a>]) -> (bool, &'a [Token<'a>])
 }
 
 /// A number, with a minus or without one.
-pub(crate) fn literal<'a>(alloc: Global, tokens: &'a [Token<'a>]) -> Parsed<'a, Literal>
-    ensures reads { ReadsAs (λ x. figure x.0) (λ x. lexemes x.1.now) a_figure (lexemes tokens.now) result }
+pub(crate) fn parse_literal<'a>(alloc: Global, tokens: &'a [Token<'a>]) -> Parsed<'a, Literal>
+    ensures reads { ReadsAs (λ x. figure x.0) (λ x. lexemes x.1.now) a_figure (lexemes tokens.now)
+        result }
     ensures shorter { IfOk result (λ x. length x.1.now < length tokens.now) }
 {
     let Some((first, rest)) = tokens.split_first() else {
         return Err(Refusal::Unexpected(0));
     };
     match first.sign {
-        Sign::Minus => digits(alloc, first.span, rest),
+        Sign::Minus => parse_digits(alloc, first.span, rest),
         Sign::Number => Ok((number_of(alloc, false, first.span, first)?, rest)),
         _ => Err(Refusal::Unexpected(tokens.len())),
     }
 }
 
 // The number after a minus.
-fn digits<'a>(alloc: Global, start: Span, tokens: &'a [Token<'a>]) -> Parsed<'a, Literal>
-    ensures reads { ReadsAs (λ x. figure x.0) (λ x. lexemes x.1.now) (a_digits start) (lexemes tokens.now) result }
+fn parse_digits<'a>(alloc: Global, start: Span, tokens: &'a [Token<'a>]) -> Parsed<'a, Literal>
+    ensures reads { ReadsAs (λ x. figure x.0) (λ x. lexemes x.1.now) (a_digits start)
+        (lexemes tokens.now) result }
     ensures shorter { IfOk result (λ x. length x.1.now < length tokens.now) }
 {
     match tokens.split_first() {
@@ -169,16 +182,17 @@ fn digits<'a>(alloc: Global, start: Span, tokens: &'a [Token<'a>]) -> Parsed<'a,
 
 /// A range, where it is there.
 #[tactic(auto, using(crate::proofs::Skips::no_range))]
-pub(crate) fn range<'a>(alloc: Global, tokens: &'a [Token<'a>]) -> Parsed<'a, Option<Range>>
-    ensures reads { ReadsAs (λ x. interval x.0) (λ x. lexemes x.1.now) a_range (lexemes tokens.now) result }
+pub(crate) fn parse_range<'a>(alloc: Global, tokens: &'a [Token<'a>]) -> Parsed<'a, Option<Range>>
+    ensures reads { ReadsAs (λ x. interval x.0) (λ x. lexemes x.1.now) a_range (lexemes tokens.now)
+        result }
     ensures shorter { IfOk result (λ x. length x.1.now ≤ length tokens.now) }
 {
     match after(tokens, Sign::OpenBracket) {
         None => Ok((None, tokens)),
         Some((_, rest)) => {
-            let (low, rest) = literal(alloc, rest)?;
+            let (low, rest) = parse_literal(alloc, rest)?;
             let (_, rest) = expect(rest, Sign::Semicolon)?;
-            let (high, rest) = literal(alloc, rest)?;
+            let (high, rest) = parse_literal(alloc, rest)?;
             let (_, rest) = expect(rest, Sign::CloseBracket)?;
             Ok((Some(Range { low, high }), rest))
         }

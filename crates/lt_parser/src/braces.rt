@@ -11,10 +11,10 @@ ghost use Rattle.lt_parser.specs.inner.Onto.{choice_after, parallel_after, plain
 ghost use Rattle.lt_parser.specs.inner.Reading.{after_first, an_alternative, some_braced};
 
 use crate::atoms::{Parsed, after, expect};
-use crate::expressions::expr;
+use crate::expressions::parse_expr;
 use crate::refusal::Refusal;
 use crate::token::Token;
-use crate::traces::{sequence, trace};
+use crate::traces::{parse_sequence, parse_trace};
 use lt_ast::{Braced, Part, Parts, Sign, Span, TraceExpr, Traces};
 use std::alloc::Global;
 
@@ -23,29 +23,36 @@ pub(crate) type InBraces<'a> = Result<(Braced, Span, &'a [Token<'a>]), Refusal>;
 
 /// What stands in braces.
 #[cycle(parser)]
-pub(crate) fn braced<'a>(alloc: Global, depth: u32, tokens: &'a [Token<'a>]) -> InBraces<'a>
+pub(crate) fn parse_braced<'a>(alloc: Global, depth: u32, tokens: &'a [Token<'a>]) -> InBraces<'a>
     requires { depth ≤ most_levels }
-    ensures reads { ReadsTo (λ x k. k (braced x.0) x.1) (λ x. lexemes x.2.now) (some_braced depth) (lexemes tokens.now) result }
+    ensures reads { ReadsTo (λ x k. k (braced x.0) x.1) (λ x. lexemes x.2.now) (some_braced depth)
+        (lexemes tokens.now) result }
     ensures shorter { IfOk result (λ x. length x.2.now < length tokens.now) }
 {
     if let Some((_, rest)) = after(tokens, Sign::Bar) {
-        return choice(alloc, depth, true, Vec::new(alloc), rest);
+        return parse_choice(alloc, depth, true, Vec::new(alloc), rest);
     }
     if let Some((_, rest)) = after(tokens, Sign::Priority) {
-        return priority(alloc, depth, true, Vec::new(alloc), rest);
+        return parse_priority(alloc, depth, true, Vec::new(alloc), rest);
     }
     if let Some((_, rest)) = after(tokens, Sign::Parallel) {
-        return parallel(alloc, depth, true, Vec::new(alloc), rest);
+        return parse_parallel(alloc, depth, true, Vec::new(alloc), rest);
     }
-    let (first, rest) = trace(alloc, depth, tokens)?;
-    unled(alloc, depth, first, rest)
+    let (first, rest) = parse_trace(alloc, depth, tokens)?;
+    parse_after_first(alloc, depth, first, rest)
 }
 
 // What follows a first trace that no sign leads.
 #[cycle(parser)]
-fn unled<'a>(alloc: Global, depth: u32, first: TraceExpr, tokens: &'a [Token<'a>]) -> InBraces<'a>
+fn parse_after_first<'a>(
+    alloc: Global,
+    depth: u32,
+    first: TraceExpr,
+    tokens: &'a [Token<'a>],
+) -> InBraces<'a>
     requires { depth ≤ most_levels }
-    ensures reads { ReadsTo (λ x k. k (braced x.0) x.1) (λ x. lexemes x.2.now) (after_first depth (trace first)) (lexemes tokens.now) result }
+    ensures reads { ReadsTo (λ x k. k (braced x.0) x.1) (λ x. lexemes x.2.now)
+        (after_first depth (trace first)) (lexemes tokens.now) result }
     ensures shorter { IfOk result (λ x. length x.2.now < length tokens.now) }
 {
     if let Some((_, rest)) = after(tokens, Sign::Bar) {
@@ -53,20 +60,21 @@ fn unled<'a>(alloc: Global, depth: u32, first: TraceExpr, tokens: &'a [Token<'a>
             weight: None,
             body: first,
         };
-        return choice(alloc, depth, false, vec![in alloc; first]?, rest);
+        return parse_choice(alloc, depth, false, vec![in alloc; first]?, rest);
     }
     if let Some((_, rest)) = after(tokens, Sign::Priority) {
-        return priority(alloc, depth, false, vec![in alloc; first]?, rest);
+        return parse_priority(alloc, depth, false, vec![in alloc; first]?, rest);
     }
     if let Some((_, rest)) = after(tokens, Sign::Parallel) {
-        return parallel(alloc, depth, false, vec![in alloc; first]?, rest);
+        return parse_parallel(alloc, depth, false, vec![in alloc; first]?, rest);
     }
-    plain(alloc, first, tokens)
+    parse_plain(alloc, first, tokens)
 }
 
 // A trace alone, which is read, and the brace that ends it.
-fn plain<'a>(alloc: Global, inside: TraceExpr, tokens: &'a [Token<'a>]) -> InBraces<'a>
-    ensures reads { ReadsTo (λ x k. k (braced x.0) x.1) (λ x. lexemes x.2.now) (plain_after (trace inside)) (lexemes tokens.now) result }
+fn parse_plain<'a>(alloc: Global, inside: TraceExpr, tokens: &'a [Token<'a>]) -> InBraces<'a>
+    ensures reads { ReadsTo (λ x k. k (braced x.0) x.1) (λ x. lexemes x.2.now)
+        (plain_after (trace inside)) (lexemes tokens.now) result }
     ensures shorter { IfOk result (λ x. length x.2.now < length tokens.now) }
 {
     let (end, rest) = expect(tokens, Sign::CloseBrace)?;
@@ -75,7 +83,7 @@ fn plain<'a>(alloc: Global, inside: TraceExpr, tokens: &'a [Token<'a>]) -> InBra
 
 // The alternatives of a choice that come after others.
 #[cycle(parser)]
-fn choice<'a>(
+fn parse_choice<'a>(
     alloc: Global,
     depth: u32,
     lead: bool,
@@ -83,14 +91,15 @@ fn choice<'a>(
     tokens: &'a [Token<'a>],
 ) -> InBraces<'a>
     requires { depth ≤ most_levels }
-    ensures reads { ReadsTo (λ x k. k (braced x.0) x.1) (λ x. lexemes x.2.now) (choice_after depth lead before.items) (lexemes tokens.now) result }
+    ensures reads { ReadsTo (λ x k. k (braced x.0) x.1) (λ x. lexemes x.2.now)
+        (choice_after depth lead before.items) (lexemes tokens.now) result }
     ensures shorter { IfOk result (λ x. length x.2.now < length tokens.now) }
 {
-    let (first, mut rest) = alternative(alloc, depth, tokens)?;
+    let (first, mut rest) = parse_alternative(alloc, depth, tokens)?;
     let mut items = before;
     items.push(first)?;
     while let Some((_, next)) = after(rest, Sign::Bar) {
-        let (another, remaining) = alternative(alloc, depth, next)?;
+        let (another, remaining) = parse_alternative(alloc, depth, next)?;
         items.push(another)?;
         rest = remaining;
     }
@@ -101,7 +110,7 @@ fn choice<'a>(
 
 // The traces of a priority that come after others.
 #[cycle(parser)]
-fn priority<'a>(
+fn parse_priority<'a>(
     alloc: Global,
     depth: u32,
     lead: bool,
@@ -109,16 +118,17 @@ fn priority<'a>(
     tokens: &'a [Token<'a>],
 ) -> InBraces<'a>
     requires { depth ≤ most_levels }
-    ensures reads { ReadsTo (λ x k. k (braced x.0) x.1) (λ x. lexemes x.2.now) (priority_after depth lead before.items) (lexemes tokens.now) result }
+    ensures reads { ReadsTo (λ x k. k (braced x.0) x.1) (λ x. lexemes x.2.now)
+        (priority_after depth lead before.items) (lexemes tokens.now) result }
     ensures shorter { IfOk result (λ x. length x.2.now < length tokens.now) }
 {
-    let (parts, end, rest) = traces(alloc, depth, Sign::Priority, before, tokens)?;
+    let (parts, end, rest) = parse_traces(alloc, depth, Sign::Priority, before, tokens)?;
     Ok((Braced::Priority { lead, parts }, end, rest))
 }
 
 // The traces of a parallel composition that come after others.
 #[cycle(parser)]
-fn parallel<'a>(
+fn parse_parallel<'a>(
     alloc: Global,
     depth: u32,
     lead: bool,
@@ -126,16 +136,17 @@ fn parallel<'a>(
     tokens: &'a [Token<'a>],
 ) -> InBraces<'a>
     requires { depth ≤ most_levels }
-    ensures reads { ReadsTo (λ x k. k (braced x.0) x.1) (λ x. lexemes x.2.now) (parallel_after depth lead before.items) (lexemes tokens.now) result }
+    ensures reads { ReadsTo (λ x k. k (braced x.0) x.1) (λ x. lexemes x.2.now)
+        (parallel_after depth lead before.items) (lexemes tokens.now) result }
     ensures shorter { IfOk result (λ x. length x.2.now < length tokens.now) }
 {
-    let (parts, end, rest) = traces(alloc, depth, Sign::Parallel, before, tokens)?;
+    let (parts, end, rest) = parse_traces(alloc, depth, Sign::Parallel, before, tokens)?;
     Ok((Braced::Parallel { lead, parts }, end, rest))
 }
 
 // The traces that come after others, with this sign between two, and the place of the brace that ends them.
 #[cycle(parser)]
-fn traces<'a>(
+fn parse_traces<'a>(
     alloc: Global,
     depth: u32,
     sign: Sign,
@@ -144,14 +155,15 @@ fn traces<'a>(
 ) -> Result<(Traces, Span, &'a [Token<'a>]), Refusal>
     requires open { depth ≤ most_levels }
     requires between { sign ≢ Sign.CloseBrace }
-    ensures reads { ReadsTo (λ x k. k (traces_onto x.0.items.items syntax.no_traces) x.1) (λ x. lexemes x.2.now) (traces_after depth sign before.items) (lexemes tokens.now) result }
+    ensures reads { ReadsTo (λ x k. k (traces_onto x.0.items.items syntax.no_traces) x.1)
+        (λ x. lexemes x.2.now) (traces_after depth sign before.items) (lexemes tokens.now) result }
     ensures shorter { IfOk result (λ x. length x.2.now < length tokens.now) }
 {
-    let (first, mut rest) = trace(alloc, depth, tokens)?;
+    let (first, mut rest) = parse_trace(alloc, depth, tokens)?;
     let mut items = before;
     items.push(first)?;
     while let Some((_, next)) = after(rest, sign) {
-        let (another, remaining) = trace(alloc, depth, next)?;
+        let (another, remaining) = parse_trace(alloc, depth, next)?;
         items.push(another)?;
         rest = remaining;
     }
@@ -161,19 +173,20 @@ fn traces<'a>(
 
 // An alternative: an expression followed by a colon is its weight.
 #[cycle(parser)]
-fn alternative<'a>(alloc: Global, depth: u32, tokens: &'a [Token<'a>]) -> Parsed<'a, Part>
+fn parse_alternative<'a>(alloc: Global, depth: u32, tokens: &'a [Token<'a>]) -> Parsed<'a, Part>
     requires { depth ≤ most_levels }
-    ensures reads { ReadsAs (λ x. weighed x.0.weight x.0.body) (λ x. lexemes x.1.now) (an_alternative depth) (lexemes tokens.now) result }
+    ensures reads { ReadsAs (λ x. weighed x.0.weight x.0.body) (λ x. lexemes x.1.now)
+        (an_alternative depth) (lexemes tokens.now) result }
     ensures shorter { IfOk result (λ x. length x.1.now < length tokens.now) }
 {
     if begins_item(tokens) {
-        let (body, rest) = trace(alloc, depth, tokens)?;
+        let (body, rest) = parse_trace(alloc, depth, tokens)?;
         return Ok((Part { weight: None, body }, rest));
     }
-    let (value, rest) = expr(alloc, depth, 0, tokens)?;
+    let (value, rest) = parse_expr(alloc, depth, 0, tokens)?;
     match after(rest, Sign::Colon) {
         Some((_, rest)) => {
-            let (body, rest) = trace(alloc, depth, rest)?;
+            let (body, rest) = parse_trace(alloc, depth, rest)?;
             Ok((
                 Part {
                     weight: Some(value),
@@ -183,7 +196,7 @@ fn alternative<'a>(alloc: Global, depth: u32, tokens: &'a [Token<'a>]) -> Parsed
             ))
         }
         None => {
-            let (body, rest) = sequence(alloc, depth, TraceExpr::Value(value), rest)?;
+            let (body, rest) = parse_sequence(alloc, depth, TraceExpr::Value(value), rest)?;
             Ok((Part { weight: None, body }, rest))
         }
     }

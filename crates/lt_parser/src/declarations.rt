@@ -8,26 +8,26 @@ ghost use Rattle.lt_parser.specs.inner.Tokens.{lexemes};
 ghost use Rattle.lt_parser.specs.inner.Onto.{declarations_after, declarations_more};
 ghost use Rattle.lt_parser.specs.inner.Reading.{a_list, node_goal};
 
-use crate::atoms::{Parsed, after, expect, name, names};
-use crate::groups::{listed, macro_decl};
+use crate::atoms::{Parsed, after, expect, parse_name, parse_names};
+use crate::groups::{parse_listed_groups, parse_macro};
 use crate::refusal::Refusal;
 use crate::token::Token;
-use crate::traces::trace;
+use crate::traces::parse_trace;
 use lt_ast::{Decl, Groups, NodeDecl, Program, Sign};
 use std::alloc::Global;
 
 /// Declarations up to the end of the tokens.
-pub(crate) fn program<'a>(alloc: Global, tokens: &'a [Token<'a>]) -> Result<Program, Refusal>
+pub(crate) fn parse_program<'a>(alloc: Global, tokens: &'a [Token<'a>]) -> Result<Program, Refusal>
     ensures { ProgramReadsAs (lexemes tokens.now) result }
 {
     let mut decls = Vec::new(alloc);
     if tokens.is_empty() {
         return Ok(Program { decls });
     }
-    let (first, mut rest) = declaration(alloc, tokens)?;
+    let (first, mut rest) = parse_declaration(alloc, tokens)?;
     decls.push(first)?;
     while !rest.is_empty() {
-        let (declared, remaining) = declaration(alloc, rest)?;
+        let (declared, remaining) = parse_declaration(alloc, rest)?;
         decls.push(declared)?;
         rest = remaining;
     }
@@ -35,9 +35,10 @@ pub(crate) fn program<'a>(alloc: Global, tokens: &'a [Token<'a>]) -> Result<Prog
 }
 
 // A declaration that comes after others.
-fn declaration<'a>(alloc: Global, tokens: &'a [Token<'a>]) -> Parsed<'a, Decl>
+fn parse_declaration<'a>(alloc: Global, tokens: &'a [Token<'a>]) -> Parsed<'a, Decl>
     requires { 0 < length tokens.now }
-    ensures reads { ReadsTo (λ x before. declarations_more before (view.declaration x.0)) (λ x. lexemes x.1.now) declarations_after (lexemes tokens.now) result }
+    ensures reads { ReadsTo (λ x before. declarations_more before (view.declaration x.0))
+        (λ x. lexemes x.1.now) declarations_after (lexemes tokens.now) result }
     ensures shorter { IfOk result (λ x. length x.1.now < length tokens.now) }
 {
     let Some((first, rest)) = tokens.split_first() else {
@@ -45,15 +46,15 @@ fn declaration<'a>(alloc: Global, tokens: &'a [Token<'a>]) -> Parsed<'a, Decl>
     };
     match first.sign {
         Sign::Node => {
-            let (declared, rest) = node(alloc, rest)?;
+            let (declared, rest) = parse_node(alloc, rest)?;
             Ok((Decl::Node(declared), rest))
         }
         Sign::Let => {
-            let (declared, rest) = macro_decl(alloc, 0, rest)?;
+            let (declared, rest) = parse_macro(alloc, 0, rest)?;
             Ok((Decl::Macro(declared), rest))
         }
         Sign::Exception => {
-            let (names, rest) = names(alloc, rest)?;
+            let (names, rest) = parse_names(alloc, rest)?;
             Ok((Decl::Exceptions(names), rest))
         }
         _ => Err(Refusal::Unexpected(tokens.len())),
@@ -61,16 +62,17 @@ fn declaration<'a>(alloc: Global, tokens: &'a [Token<'a>]) -> Parsed<'a, Decl>
 }
 
 // What follows `node`.
-fn node<'a>(alloc: Global, tokens: &'a [Token<'a>]) -> Parsed<'a, NodeDecl>
-    ensures reads { ReadsAs (λ x. view.declaration (Decl.Node x.0)) (λ x. lexemes x.1.now) node_goal (lexemes tokens.now) result }
+fn parse_node<'a>(alloc: Global, tokens: &'a [Token<'a>]) -> Parsed<'a, NodeDecl>
+    ensures reads { ReadsAs (λ x. view.declaration (Decl.Node x.0)) (λ x. lexemes x.1.now) node_goal
+        (lexemes tokens.now) result }
     ensures shorter { IfOk result (λ x. length x.1.now < length tokens.now) }
 {
-    let (name, rest) = name(alloc, tokens)?;
-    let (inputs, rest) = list(alloc, rest)?;
+    let (name, rest) = parse_name(alloc, tokens)?;
+    let (inputs, rest) = parse_group_list(alloc, rest)?;
     let (_, rest) = expect(rest, Sign::Returns)?;
-    let (outputs, rest) = list(alloc, rest)?;
+    let (outputs, rest) = parse_group_list(alloc, rest)?;
     let (_, rest) = expect(rest, Sign::Equal)?;
-    let (body, rest) = trace(alloc, 0, rest)?;
+    let (body, rest) = parse_trace(alloc, 0, rest)?;
     Ok((
         NodeDecl {
             name,
@@ -84,12 +86,13 @@ fn node<'a>(alloc: Global, tokens: &'a [Token<'a>]) -> Parsed<'a, NodeDecl>
 
 // Groups in parentheses.
 #[tactic(auto, using(crate::proofs::Steps::no_list))]
-fn list<'a>(alloc: Global, tokens: &'a [Token<'a>]) -> Parsed<'a, Groups>
-    ensures reads { ReadsAs (λ x. groupings x.0) (λ x. lexemes x.1.now) (a_list 0) (lexemes tokens.now) result }
+fn parse_group_list<'a>(alloc: Global, tokens: &'a [Token<'a>]) -> Parsed<'a, Groups>
+    ensures reads { ReadsAs (λ x. groupings x.0) (λ x. lexemes x.1.now) (a_list 0)
+        (lexemes tokens.now) result }
     ensures shorter { IfOk result (λ x. length x.1.now < length tokens.now) }
 {
     match after(tokens, Sign::Open) {
-        Some((_, rest)) => listed(alloc, 1, rest),
+        Some((_, rest)) => parse_listed_groups(alloc, 1, rest),
         None => Err(Refusal::Unexpected(tokens.len())),
     }
 }

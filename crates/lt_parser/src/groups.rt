@@ -9,25 +9,32 @@ ghost use Rattle.lt_parser.specs.inner.Tokens.{lexemes};
 ghost use Rattle.lt_parser.specs.inner.Reading.{a_first, a_group, a_macro, a_meaning, some_groups, some_parameters};
 ghost use Rattle.lt_parser.specs.inner.Reading as reading;
 
-use crate::atoms::{Parsed, after, by_ref, deeper, expect, name, names, range, type_name};
-use crate::expressions::expr;
+use crate::atoms::{
+    Parsed, after, deeper, expect, parse_name, parse_names, parse_range, parse_ref, parse_type_name,
+};
+use crate::expressions::parse_expr;
 use crate::refusal::Refusal;
 use crate::token::Token;
-use crate::traces::trace;
+use crate::traces::parse_trace;
 use lt_ast::{Body, Expr, Group, Groups, MacroDecl, Sign, TypeName};
 use std::alloc::Global;
 
 // A first value, where it is there.
 #[cycle(parser)]
-fn first_value<'a>(alloc: Global, depth: u32, tokens: &'a [Token<'a>]) -> Parsed<'a, Option<Expr>>
+fn parse_first_value<'a>(
+    alloc: Global,
+    depth: u32,
+    tokens: &'a [Token<'a>],
+) -> Parsed<'a, Option<Expr>>
     requires { depth ≤ most_levels }
-    ensures reads { ReadsAs (λ x. maybe_exp x.0) (λ x. lexemes x.1.now) (a_first depth) (lexemes tokens.now) result }
+    ensures reads { ReadsAs (λ x. maybe_exp x.0) (λ x. lexemes x.1.now) (a_first depth)
+        (lexemes tokens.now) result }
     ensures shorter { IfOk result (λ x. length x.1.now ≤ length tokens.now) }
 {
     match after(tokens, Sign::Equal) {
         None => Ok((None, tokens)),
         Some((_, rest)) => {
-            let (value, rest) = expr(alloc, depth, 0, rest)?;
+            let (value, rest) = parse_expr(alloc, depth, 0, rest)?;
             Ok((Some(value), rest))
         }
     }
@@ -35,17 +42,18 @@ fn first_value<'a>(alloc: Global, depth: u32, tokens: &'a [Token<'a>]) -> Parsed
 
 // Names of one type.
 #[cycle(parser)]
-fn group<'a>(alloc: Global, depth: u32, tokens: &'a [Token<'a>]) -> Parsed<'a, Group>
+fn parse_group<'a>(alloc: Global, depth: u32, tokens: &'a [Token<'a>]) -> Parsed<'a, Group>
     requires { depth ≤ most_levels }
-    ensures reads { ReadsAs (λ x. group_of x.0) (λ x. lexemes x.1.now) (a_group depth) (lexemes tokens.now) result }
+    ensures reads { ReadsAs (λ x. group_of x.0) (λ x. lexemes x.1.now) (a_group depth)
+        (lexemes tokens.now) result }
     ensures shorter { IfOk result (λ x. length x.1.now < length tokens.now) }
 {
-    let (names, rest) = names(alloc, tokens)?;
+    let (names, rest) = parse_names(alloc, tokens)?;
     let (_, rest) = expect(rest, Sign::Colon)?;
-    let (kind, rest) = type_name(rest)?;
-    let (by_ref, rest) = by_ref(rest);
-    let (range, rest) = range(alloc, rest)?;
-    let (first, rest) = first_value(alloc, depth, rest)?;
+    let (kind, rest) = parse_type_name(rest)?;
+    let (by_ref, rest) = parse_ref(rest);
+    let (range, rest) = parse_range(alloc, rest)?;
+    let (first, rest) = parse_first_value(alloc, depth, rest)?;
     Ok((
         Group {
             names,
@@ -60,20 +68,21 @@ fn group<'a>(alloc: Global, depth: u32, tokens: &'a [Token<'a>]) -> Parsed<'a, G
 
 /// One group or more, and the sign that ends them.
 #[cycle(parser)]
-pub(crate) fn groups<'a>(
+pub(crate) fn parse_groups<'a>(
     alloc: Global,
     depth: u32,
     end: Sign,
     tokens: &'a [Token<'a>],
 ) -> Parsed<'a, Groups>
     requires { depth ≤ most_levels }
-    ensures reads { ReadsAs (λ x. groupings x.0) (λ x. lexemes x.1.now) (reading.groups depth end) (lexemes tokens.now) result }
+    ensures reads { ReadsAs (λ x. groupings x.0) (λ x. lexemes x.1.now) (reading.groups depth end)
+        (lexemes tokens.now) result }
     ensures shorter { IfOk result (λ x. length x.1.now < length tokens.now) }
 {
-    let (first, mut rest) = group(alloc, depth, tokens)?;
+    let (first, mut rest) = parse_group(alloc, depth, tokens)?;
     let mut items = vec![in alloc; first]?;
     while let Some((_, next)) = after(rest, Sign::Semicolon) {
-        let (another, remaining) = group(alloc, depth, next)?;
+        let (another, remaining) = parse_group(alloc, depth, next)?;
         items.push(another)?;
         rest = remaining;
     }
@@ -83,9 +92,14 @@ pub(crate) fn groups<'a>(
 
 /// Groups, if any, and the parenthesis that ends them.
 #[cycle(parser)]
-pub(crate) fn listed<'a>(alloc: Global, inside: u32, tokens: &'a [Token<'a>]) -> Parsed<'a, Groups>
+pub(crate) fn parse_listed_groups<'a>(
+    alloc: Global,
+    inside: u32,
+    tokens: &'a [Token<'a>],
+) -> Parsed<'a, Groups>
     requires { inside ≤ most_levels }
-    ensures reads { ReadsAs (λ x. groupings x.0) (λ x. lexemes x.1.now) (some_groups inside) (lexemes tokens.now) result }
+    ensures reads { ReadsAs (λ x. groupings x.0) (λ x. lexemes x.1.now) (some_groups inside)
+        (lexemes tokens.now) result }
     ensures shorter { IfOk result (λ x. length x.1.now < length tokens.now) }
 {
     if let Some((_, rest)) = after(tokens, Sign::Close) {
@@ -96,20 +110,25 @@ pub(crate) fn listed<'a>(alloc: Global, inside: u32, tokens: &'a [Token<'a>]) ->
             rest,
         ));
     }
-    groups(alloc, inside, Sign::Close, tokens)
+    parse_groups(alloc, inside, Sign::Close, tokens)
 }
 
 // The parameters of a macro, where they are there.
 #[cycle(parser)]
-fn params<'a>(alloc: Global, depth: u32, tokens: &'a [Token<'a>]) -> Parsed<'a, Option<Groups>>
+fn parse_params<'a>(
+    alloc: Global,
+    depth: u32,
+    tokens: &'a [Token<'a>],
+) -> Parsed<'a, Option<Groups>>
     requires { depth ≤ most_levels }
-    ensures reads { ReadsAs (λ x. parameters_of x.0) (λ x. lexemes x.1.now) (some_parameters depth) (lexemes tokens.now) result }
+    ensures reads { ReadsAs (λ x. parameters_of x.0) (λ x. lexemes x.1.now) (some_parameters depth)
+        (lexemes tokens.now) result }
     ensures shorter { IfOk result (λ x. length x.1.now ≤ length tokens.now) }
 {
     match after(tokens, Sign::Open) {
         None => Ok((None, tokens)),
         Some((_, rest)) => {
-            let (groups, rest) = listed(alloc, deeper(depth, tokens.len())?, rest)?;
+            let (groups, rest) = parse_listed_groups(alloc, deeper(depth, tokens.len())?, rest)?;
             Ok((Some(groups), rest))
         }
     }
@@ -117,21 +136,22 @@ fn params<'a>(alloc: Global, depth: u32, tokens: &'a [Token<'a>]) -> Parsed<'a, 
 
 /// What follows the `let` of a macro.
 #[cycle(parser)]
-pub(crate) fn macro_decl<'a>(
+pub(crate) fn parse_macro<'a>(
     alloc: Global,
     depth: u32,
     tokens: &'a [Token<'a>],
 ) -> Parsed<'a, MacroDecl>
     requires { depth ≤ most_levels }
-    ensures reads { ReadsAs (λ x. macro x.0) (λ x. lexemes x.1.now) (a_macro depth) (lexemes tokens.now) result }
+    ensures reads { ReadsAs (λ x. macro x.0) (λ x. lexemes x.1.now) (a_macro depth)
+        (lexemes tokens.now) result }
     ensures shorter { IfOk result (λ x. length x.1.now < length tokens.now) }
 {
-    let (name, rest) = name(alloc, tokens)?;
-    let (params, rest) = params(alloc, depth, rest)?;
+    let (name, rest) = parse_name(alloc, tokens)?;
+    let (params, rest) = parse_params(alloc, depth, rest)?;
     let (_, rest) = expect(rest, Sign::Colon)?;
-    let (result, rest) = type_name(rest)?;
+    let (result, rest) = parse_type_name(rest)?;
     let (_, rest) = expect(rest, Sign::Equal)?;
-    let (body, rest) = body(alloc, depth, result, rest)?;
+    let (body, rest) = parse_body(alloc, depth, result, rest)?;
     Ok((
         MacroDecl {
             name,
@@ -145,18 +165,24 @@ pub(crate) fn macro_decl<'a>(
 
 // What a macro of this type stands for.
 #[cycle(parser)]
-fn body<'a>(alloc: Global, depth: u32, kind: TypeName, tokens: &'a [Token<'a>]) -> Parsed<'a, Body>
+fn parse_body<'a>(
+    alloc: Global,
+    depth: u32,
+    kind: TypeName,
+    tokens: &'a [Token<'a>],
+) -> Parsed<'a, Body>
     requires { depth ≤ most_levels }
-    ensures reads { ReadsAs (λ x. meaning x.0) (λ x. lexemes x.1.now) (a_meaning depth kind) (lexemes tokens.now) result }
+    ensures reads { ReadsAs (λ x. meaning x.0) (λ x. lexemes x.1.now) (a_meaning depth kind)
+        (lexemes tokens.now) result }
     ensures shorter { IfOk result (λ x. length x.1.now < length tokens.now) }
 {
     match kind {
         TypeName::Trace => {
-            let (body, rest) = trace(alloc, depth, tokens)?;
+            let (body, rest) = parse_trace(alloc, depth, tokens)?;
             Ok((Body::Trace(body), rest))
         }
         TypeName::Bool | TypeName::Int | TypeName::Real => {
-            let (value, rest) = expr(alloc, depth, 0, tokens)?;
+            let (value, rest) = parse_expr(alloc, depth, 0, tokens)?;
             Ok((Body::Value(value), rest))
         }
     }

@@ -9,7 +9,7 @@ ghost use Rattle.lt_parser.specs.inner.Placing.{IsPlaced, IsWithin, last_of};
 ghost use Rattle.lt_parser.specs.Text.{AnswersProgram, AnswersRefusal, AreLexemesOf, IsProgramOf, IsRefusal, start_of};
 ghost use Rattle.lt_parser.specs.declared.refusal.ParseRefusal.{ParseRefusal};
 
-use crate::declarations::program;
+use crate::declarations::parse_program;
 use crate::refusal::{ParseRefusal, Refusal};
 use crate::token::Token;
 use lt_ast::Program;
@@ -28,9 +28,11 @@ pub fn parse(alloc: Global, text: &[u8]) -> Result<Program, ParseRefusal>
     ensures only { (x : List Declaration) → IsProgramOf text.now x → AnswersProgram x result }
 
     // What is refused is refused rightly ..
-    ensures refused { IfErr result (λ refusal. (refusal ≡ ParseRefusal.Memory) ⊎ IsRefusal text.now refusal) }
+    ensures refused { IfErr result
+        (λ refusal. (refusal ≡ ParseRefusal.Memory) ⊎ IsRefusal text.now refusal) }
     // .. and what is to be refused is refused so, unless memory runs out.
-    ensures refuses { (refusal : ParseRefusal) → IsRefusal text.now refusal → AnswersRefusal refusal result }
+    ensures refuses { (refusal : ParseRefusal) →
+        IsRefusal text.now refusal → AnswersRefusal refusal result }
 {
     program_of(alloc, text)
 }
@@ -38,11 +40,12 @@ pub fn parse(alloc: Global, text: &[u8]) -> Result<Program, ParseRefusal>
 // The program that a text's tokens spell.
 fn program_of(alloc: Global, text: &[u8]) -> Result<Program, ParseRefusal>
     ensures found { IfOk result (λ p. IsProgramOf text.now (program p)) }
-    ensures refused { IfErr result (λ refusal. (refusal ≡ ParseRefusal.Memory) ⊎ IsRefusal text.now refusal) }
+    ensures refused { IfErr result
+        (λ refusal. (refusal ≡ ParseRefusal.Memory) ⊎ IsRefusal text.now refusal) }
 {
     let lexed = lex(alloc, text)?;
     let tokens = tokens_of(alloc, text, &lexed)?;
-    match program(alloc, &tokens) {
+    match parse_program(alloc, &tokens) {
         Ok(program) => Ok(program),
         Err(refusal) => Err(placed(text, &tokens, refusal)),
     }

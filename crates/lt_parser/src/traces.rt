@@ -11,10 +11,10 @@ ghost use Rattle.lt_parser.specs.inner.Onto.{items_after};
 ghost use Rattle.lt_parser.specs.inner.Reading.{a_handler, a_name, a_bound, a_trace, an_item, assert_goal, braces_goal, define_goal, exceptions_goal, exist_goal, loop_goal, sequence_goal, try_goal, some_limits, value_goal};
 ghost use Rattle.lt_parser.specs.inner.Reading as reading;
 
-use crate::atoms::{Parsed, after, deeper, expect, name, name_of, names, number_of};
-use crate::braces::braced;
-use crate::expressions::{expr, paren};
-use crate::groups::{groups, macro_decl};
+use crate::atoms::{Parsed, after, deeper, expect, name_of, number_of, parse_name, parse_names};
+use crate::braces::parse_braced;
+use crate::expressions::{parse_expr, parse_paren};
+use crate::groups::{parse_groups, parse_macro};
 use crate::refusal::Refusal;
 use crate::token::Token;
 use lt_ast::{Bounds, Expr, Sign, Span, TraceExpr, Traces};
@@ -22,61 +22,73 @@ use std::alloc::Global;
 
 /// A trace: items with `fby` between them.
 #[cycle(parser)]
-pub(crate) fn trace<'a>(alloc: Global, depth: u32, tokens: &'a [Token<'a>]) -> Parsed<'a, TraceExpr>
+pub(crate) fn parse_trace<'a>(
+    alloc: Global,
+    depth: u32,
+    tokens: &'a [Token<'a>],
+) -> Parsed<'a, TraceExpr>
     requires { depth ≤ most_levels }
-    ensures reads { ReadsAs (λ x. trace x.0) (λ x. lexemes x.1.now) (a_trace depth) (lexemes tokens.now) result }
+    ensures reads { ReadsAs (λ x. trace x.0) (λ x. lexemes x.1.now) (a_trace depth)
+        (lexemes tokens.now) result }
     ensures shorter { IfOk result (λ x. length x.1.now < length tokens.now) }
 {
-    let (first, rest) = item(alloc, depth, tokens)?;
-    sequence(alloc, depth, first, rest)
+    let (first, rest) = parse_item(alloc, depth, tokens)?;
+    parse_sequence(alloc, depth, first, rest)
 }
 
-// The same in a box.
+// A trace in a box.
 #[cycle(parser)]
-fn boxed_trace<'a>(alloc: Global, depth: u32, tokens: &'a [Token<'a>]) -> Parsed<'a, Box<TraceExpr>>
+fn parse_boxed_trace<'a>(
+    alloc: Global,
+    depth: u32,
+    tokens: &'a [Token<'a>],
+) -> Parsed<'a, Box<TraceExpr>>
     requires { depth ≤ most_levels }
-    ensures reads { ReadsAs (λ x. trace x.0.value) (λ x. lexemes x.1.now) (a_trace depth) (lexemes tokens.now) result }
+    ensures reads { ReadsAs (λ x. trace x.0.value) (λ x. lexemes x.1.now) (a_trace depth)
+        (lexemes tokens.now) result }
     ensures shorter { IfOk result (λ x. length x.1.now < length tokens.now) }
 {
-    let (body, rest) = trace(alloc, depth, tokens)?;
+    let (body, rest) = parse_trace(alloc, depth, tokens)?;
     Ok((Box::new(alloc, body)?, rest))
 }
 
 /// A trace whose first item is read.
 #[cycle(parser)]
-pub(crate) fn sequence<'a>(
+pub(crate) fn parse_sequence<'a>(
     alloc: Global,
     depth: u32,
     first: TraceExpr,
     tokens: &'a [Token<'a>],
 ) -> Parsed<'a, TraceExpr>
     requires { depth ≤ most_levels }
-    ensures reads { ReadsAs (λ x. trace x.0) (λ x. lexemes x.1.now) (sequence_goal depth (trace first)) (lexemes tokens.now) result }
+    ensures reads { ReadsAs (λ x. trace x.0) (λ x. lexemes x.1.now)
+        (sequence_goal depth (trace first)) (lexemes tokens.now) result }
     ensures shorter { IfOk result (λ x. length x.1.now ≤ length tokens.now) }
 {
     match after(tokens, Sign::Fby) {
         None => Ok((first, tokens)),
-        Some((_, rest)) => more_items(alloc, depth, vec![in alloc; first]?, rest),
+        Some((_, rest)) => parse_more_items(alloc, depth, vec![in alloc; first]?, rest),
     }
 }
 
 // The items of a sequence that come after others.
 #[cycle(parser)]
-fn more_items<'a>(
+fn parse_more_items<'a>(
     alloc: Global,
     depth: u32,
     before: Vec<TraceExpr>,
     tokens: &'a [Token<'a>],
 ) -> Parsed<'a, TraceExpr>
     requires { depth ≤ most_levels }
-    ensures reads { ReadsAs (λ x. trace x.0) (λ x. lexemes x.1.now) (items_after depth before.items) (lexemes tokens.now) result }
+    ensures reads { ReadsAs (λ x. trace x.0) (λ x. lexemes x.1.now) (items_after depth before.items)
+        (lexemes tokens.now) result }
     ensures shorter { IfOk result (λ x. length x.1.now < length tokens.now) }
 {
-    let (first, mut rest) = item(alloc, depth, tokens)?;
+    let (first, mut rest) = parse_item(alloc, depth, tokens)?;
     let mut items = before;
     items.push(first)?;
     while let Some((_, next)) = after(rest, Sign::Fby) {
-        let (another, remaining) = item(alloc, depth, next)?;
+        let (another, remaining) = parse_item(alloc, depth, next)?;
         items.push(another)?;
         rest = remaining;
     }
@@ -85,134 +97,152 @@ fn more_items<'a>(
 
 // An item of a sequence.
 #[cycle(parser)]
-fn item<'a>(alloc: Global, depth: u32, tokens: &'a [Token<'a>]) -> Parsed<'a, TraceExpr>
+fn parse_item<'a>(alloc: Global, depth: u32, tokens: &'a [Token<'a>]) -> Parsed<'a, TraceExpr>
     requires { depth ≤ most_levels }
-    ensures reads { ReadsAs (λ x. trace x.0) (λ x. lexemes x.1.now) (an_item depth) (lexemes tokens.now) result }
+    ensures reads { ReadsAs (λ x. trace x.0) (λ x. lexemes x.1.now) (an_item depth)
+        (lexemes tokens.now) result }
     ensures shorter { IfOk result (λ x. length x.1.now < length tokens.now) }
 {
     let Some((first, rest)) = tokens.split_first() else {
         return Err(Refusal::Unexpected(0));
     };
     match first.sign {
-        Sign::OpenBrace => braces(alloc, deeper(depth, tokens.len())?, first.span, rest),
-        Sign::Loop => looped(alloc, deeper(depth, tokens.len())?, rest),
-        Sign::Raise => raised(alloc, rest),
-        Sign::Assert => asserted(alloc, deeper(depth, tokens.len())?, rest),
-        Sign::Exist => locals(alloc, deeper(depth, tokens.len())?, rest),
-        Sign::Let => defined(alloc, deeper(depth, tokens.len())?, rest),
-        Sign::Exception => exceptions(alloc, deeper(depth, tokens.len())?, rest),
-        Sign::Catch => guarded(alloc, deeper(depth, tokens.len())?, Guard::Catch, rest),
-        Sign::Trap => guarded(alloc, deeper(depth, tokens.len())?, Guard::Trap, rest),
-        Sign::Try => tried(alloc, deeper(depth, tokens.len())?, rest),
-        _ => value(alloc, depth, tokens),
+        Sign::OpenBrace => parse_braces(alloc, deeper(depth, tokens.len())?, first.span, rest),
+        Sign::Loop => parse_loop(alloc, deeper(depth, tokens.len())?, rest),
+        Sign::Raise => parse_raise(alloc, rest),
+        Sign::Assert => parse_assert(alloc, deeper(depth, tokens.len())?, rest),
+        Sign::Exist => parse_exist(alloc, deeper(depth, tokens.len())?, rest),
+        Sign::Let => parse_let(alloc, deeper(depth, tokens.len())?, rest),
+        Sign::Exception => parse_exceptions(alloc, deeper(depth, tokens.len())?, rest),
+        Sign::Catch => parse_guarded(alloc, deeper(depth, tokens.len())?, Guard::Catch, rest),
+        Sign::Trap => parse_guarded(alloc, deeper(depth, tokens.len())?, Guard::Trap, rest),
+        Sign::Try => parse_try(alloc, deeper(depth, tokens.len())?, rest),
+        _ => parse_value(alloc, depth, tokens),
     }
 }
 
 // An expression as an item.
 #[cycle(parser)]
-fn value<'a>(alloc: Global, depth: u32, tokens: &'a [Token<'a>]) -> Parsed<'a, TraceExpr>
+fn parse_value<'a>(alloc: Global, depth: u32, tokens: &'a [Token<'a>]) -> Parsed<'a, TraceExpr>
     requires { depth ≤ most_levels }
-    ensures reads { ReadsAs (λ x. trace x.0) (λ x. lexemes x.1.now) (value_goal depth) (lexemes tokens.now) result }
+    ensures reads { ReadsAs (λ x. trace x.0) (λ x. lexemes x.1.now) (value_goal depth)
+        (lexemes tokens.now) result }
     ensures shorter { IfOk result (λ x. length x.1.now < length tokens.now) }
 {
-    let (value, rest) = expr(alloc, depth, 0, tokens)?;
+    let (value, rest) = parse_expr(alloc, depth, 0, tokens)?;
     Ok((TraceExpr::Value(value), rest))
 }
 
 // What follows an opening brace.
 #[cycle(parser)]
-fn braces<'a>(
+fn parse_braces<'a>(
     alloc: Global,
     inside: u32,
     start: Span,
     tokens: &'a [Token<'a>],
 ) -> Parsed<'a, TraceExpr>
     requires { inside ≤ most_levels }
-    ensures reads { ReadsAs (λ x. trace x.0) (λ x. lexemes x.1.now) (braces_goal inside start) (lexemes tokens.now) result }
+    ensures reads { ReadsAs (λ x. trace x.0) (λ x. lexemes x.1.now) (braces_goal inside start)
+        (lexemes tokens.now) result }
     ensures shorter { IfOk result (λ x. length x.1.now < length tokens.now) }
 {
-    let (found, end, rest) = braced(alloc, inside, tokens)?;
+    let (found, end, rest) = parse_braced(alloc, inside, tokens)?;
     Ok((TraceExpr::Braces(found, start.to(end)), rest))
 }
 
 // What follows `loop`.
 #[cycle(parser)]
-fn looped<'a>(alloc: Global, inside: u32, tokens: &'a [Token<'a>]) -> Parsed<'a, TraceExpr>
+fn parse_loop<'a>(alloc: Global, inside: u32, tokens: &'a [Token<'a>]) -> Parsed<'a, TraceExpr>
     requires { inside ≤ most_levels }
-    ensures reads { ReadsAs (λ x. trace x.0) (λ x. lexemes x.1.now) (loop_goal inside) (lexemes tokens.now) result }
+    ensures reads { ReadsAs (λ x. trace x.0) (λ x. lexemes x.1.now) (loop_goal inside)
+        (lexemes tokens.now) result }
     ensures shorter { IfOk result (λ x. length x.1.now < length tokens.now) }
 {
-    let (bounds, rest) = bounds(alloc, inside, tokens)?;
-    let (body, rest) = item(alloc, inside, rest)?;
+    let (bounds, rest) = parse_bounds(alloc, inside, tokens)?;
+    let (body, rest) = parse_item(alloc, inside, rest)?;
     Ok((TraceExpr::Loop(bounds, Box::new(alloc, body)?), rest))
 }
 
 // What follows `raise`.
-fn raised<'a>(alloc: Global, tokens: &'a [Token<'a>]) -> Parsed<'a, TraceExpr>
-    ensures reads { ReadsAs (λ x. trace x.0) (λ x. lexemes x.1.now) (λ k. a_name (λ n. k (syntax.raise n))) (lexemes tokens.now) result }
+fn parse_raise<'a>(alloc: Global, tokens: &'a [Token<'a>]) -> Parsed<'a, TraceExpr>
+    ensures reads { ReadsAs (λ x. trace x.0) (λ x. lexemes x.1.now)
+        (λ k. a_name (λ n. k (syntax.raise n))) (lexemes tokens.now) result }
     ensures shorter { IfOk result (λ x. length x.1.now < length tokens.now) }
 {
-    let (name, rest) = name(alloc, tokens)?;
+    let (name, rest) = parse_name(alloc, tokens)?;
     Ok((TraceExpr::Raise(name), rest))
 }
 
 // A trace after `in`.
 #[cycle(parser)]
-fn in_trace<'a>(alloc: Global, inside: u32, tokens: &'a [Token<'a>]) -> Parsed<'a, Box<TraceExpr>>
+fn parse_in_trace<'a>(
+    alloc: Global,
+    inside: u32,
+    tokens: &'a [Token<'a>],
+) -> Parsed<'a, Box<TraceExpr>>
     requires { inside ≤ most_levels }
-    ensures reads { ReadsAs (λ x. trace x.0.value) (λ x. lexemes x.1.now) (reading.in_trace inside) (lexemes tokens.now) result }
+    ensures reads { ReadsAs (λ x. trace x.0.value) (λ x. lexemes x.1.now) (reading.in_trace inside)
+        (lexemes tokens.now) result }
     ensures shorter { IfOk result (λ x. length x.1.now < length tokens.now) }
 {
     let (_, rest) = expect(tokens, Sign::In)?;
-    boxed_trace(alloc, inside, rest)
+    parse_boxed_trace(alloc, inside, rest)
 }
 
 // What follows `assert`.
 #[cycle(parser)]
-fn asserted<'a>(alloc: Global, inside: u32, tokens: &'a [Token<'a>]) -> Parsed<'a, TraceExpr>
+fn parse_assert<'a>(alloc: Global, inside: u32, tokens: &'a [Token<'a>]) -> Parsed<'a, TraceExpr>
     requires { inside ≤ most_levels }
-    ensures reads { ReadsAs (λ x. trace x.0) (λ x. lexemes x.1.now) (assert_goal inside) (lexemes tokens.now) result }
+    ensures reads { ReadsAs (λ x. trace x.0) (λ x. lexemes x.1.now) (assert_goal inside)
+        (lexemes tokens.now) result }
     ensures shorter { IfOk result (λ x. length x.1.now < length tokens.now) }
 {
-    let (condition, rest) = expr(alloc, inside, 0, tokens)?;
-    let (body, rest) = in_trace(alloc, inside, rest)?;
+    let (condition, rest) = parse_expr(alloc, inside, 0, tokens)?;
+    let (body, rest) = parse_in_trace(alloc, inside, rest)?;
     Ok((TraceExpr::Assert(condition, body), rest))
 }
 
 // What follows `exist`.
 #[cycle(parser)]
-fn locals<'a>(alloc: Global, inside: u32, tokens: &'a [Token<'a>]) -> Parsed<'a, TraceExpr>
+fn parse_exist<'a>(alloc: Global, inside: u32, tokens: &'a [Token<'a>]) -> Parsed<'a, TraceExpr>
     requires { inside ≤ most_levels }
-    ensures reads { ReadsAs (λ x. trace x.0) (λ x. lexemes x.1.now) (exist_goal inside) (lexemes tokens.now) result }
+    ensures reads { ReadsAs (λ x. trace x.0) (λ x. lexemes x.1.now) (exist_goal inside)
+        (lexemes tokens.now) result }
     ensures shorter { IfOk result (λ x. length x.1.now < length tokens.now) }
 {
-    let (groups, rest) = groups(alloc, inside, Sign::In, tokens)?;
-    let (body, rest) = boxed_trace(alloc, inside, rest)?;
+    let (groups, rest) = parse_groups(alloc, inside, Sign::In, tokens)?;
+    let (body, rest) = parse_boxed_trace(alloc, inside, rest)?;
     Ok((TraceExpr::Exist(groups, body), rest))
 }
 
 // What follows a `let` that has an `in`.
 #[cycle(parser)]
-fn defined<'a>(alloc: Global, inside: u32, tokens: &'a [Token<'a>]) -> Parsed<'a, TraceExpr>
+fn parse_let<'a>(alloc: Global, inside: u32, tokens: &'a [Token<'a>]) -> Parsed<'a, TraceExpr>
     requires { inside ≤ most_levels }
-    ensures reads { ReadsAs (λ x. trace x.0) (λ x. lexemes x.1.now) (define_goal inside) (lexemes tokens.now) result }
+    ensures reads { ReadsAs (λ x. trace x.0) (λ x. lexemes x.1.now) (define_goal inside)
+        (lexemes tokens.now) result }
     ensures shorter { IfOk result (λ x. length x.1.now < length tokens.now) }
 {
-    let (declared, rest) = macro_decl(alloc, inside, tokens)?;
+    let (declared, rest) = parse_macro(alloc, inside, tokens)?;
     let declared = Box::new(alloc, declared)?;
-    let (body, rest) = in_trace(alloc, inside, rest)?;
+    let (body, rest) = parse_in_trace(alloc, inside, rest)?;
     Ok((TraceExpr::Let(declared, body), rest))
 }
 
 // What follows an `exception` that has an `in`.
 #[cycle(parser)]
-fn exceptions<'a>(alloc: Global, inside: u32, tokens: &'a [Token<'a>]) -> Parsed<'a, TraceExpr>
+fn parse_exceptions<'a>(
+    alloc: Global,
+    inside: u32,
+    tokens: &'a [Token<'a>],
+) -> Parsed<'a, TraceExpr>
     requires { inside ≤ most_levels }
-    ensures reads { ReadsAs (λ x. trace x.0) (λ x. lexemes x.1.now) (exceptions_goal inside) (lexemes tokens.now) result }
+    ensures reads { ReadsAs (λ x. trace x.0) (λ x. lexemes x.1.now) (exceptions_goal inside)
+        (lexemes tokens.now) result }
     ensures shorter { IfOk result (λ x. length x.1.now < length tokens.now) }
 {
-    let (names, rest) = names(alloc, tokens)?;
-    let (body, rest) = in_trace(alloc, inside, rest)?;
+    let (names, rest) = parse_names(alloc, tokens)?;
+    let (body, rest) = parse_in_trace(alloc, inside, rest)?;
     Ok((TraceExpr::Exceptions(names, body), rest))
 }
 
@@ -228,19 +258,20 @@ pub(crate) enum Guard {
 
 // What follows `catch` or `trap`.
 #[cycle(parser)]
-fn guarded<'a>(
+fn parse_guarded<'a>(
     alloc: Global,
     inside: u32,
     guard: Guard,
     tokens: &'a [Token<'a>],
 ) -> Parsed<'a, TraceExpr>
     requires { inside ≤ most_levels }
-    ensures reads { ReadsAs (λ x. trace x.0) (λ x. lexemes x.1.now) (guard_goal inside guard) (lexemes tokens.now) result }
+    ensures reads { ReadsAs (λ x. trace x.0) (λ x. lexemes x.1.now) (guard_goal inside guard)
+        (lexemes tokens.now) result }
     ensures shorter { IfOk result (λ x. length x.1.now < length tokens.now) }
 {
-    let (name, rest) = name(alloc, tokens)?;
-    let (body, rest) = in_trace(alloc, inside, rest)?;
-    let (otherwise, rest) = handler(alloc, inside, rest)?;
+    let (name, rest) = parse_name(alloc, tokens)?;
+    let (body, rest) = parse_in_trace(alloc, inside, rest)?;
+    let (otherwise, rest) = parse_handler(alloc, inside, rest)?;
     match guard {
         Guard::Catch => Ok((TraceExpr::Catch(name, body, otherwise), rest)),
         Guard::Trap => Ok((TraceExpr::Trap(name, body, otherwise), rest)),
@@ -249,31 +280,33 @@ fn guarded<'a>(
 
 // What follows `try`.
 #[cycle(parser)]
-fn tried<'a>(alloc: Global, inside: u32, tokens: &'a [Token<'a>]) -> Parsed<'a, TraceExpr>
+fn parse_try<'a>(alloc: Global, inside: u32, tokens: &'a [Token<'a>]) -> Parsed<'a, TraceExpr>
     requires { inside ≤ most_levels }
-    ensures reads { ReadsAs (λ x. trace x.0) (λ x. lexemes x.1.now) (try_goal inside) (lexemes tokens.now) result }
+    ensures reads { ReadsAs (λ x. trace x.0) (λ x. lexemes x.1.now) (try_goal inside)
+        (lexemes tokens.now) result }
     ensures shorter { IfOk result (λ x. length x.1.now < length tokens.now) }
 {
-    let (body, rest) = boxed_trace(alloc, inside, tokens)?;
-    let (otherwise, rest) = handler(alloc, inside, rest)?;
+    let (body, rest) = parse_boxed_trace(alloc, inside, tokens)?;
+    let (otherwise, rest) = parse_handler(alloc, inside, rest)?;
     Ok((TraceExpr::Try(body, otherwise), rest))
 }
 
 // What follows a `do`, where it is there: the nearest form that may have it takes it.
 #[cycle(parser)]
-fn handler<'a>(
+fn parse_handler<'a>(
     alloc: Global,
     inside: u32,
     tokens: &'a [Token<'a>],
 ) -> Parsed<'a, Option<Box<TraceExpr>>>
     requires { inside ≤ most_levels }
-    ensures reads { ReadsAs (λ x. maybe_trace x.0) (λ x. lexemes x.1.now) (a_handler inside) (lexemes tokens.now) result }
+    ensures reads { ReadsAs (λ x. maybe_trace x.0) (λ x. lexemes x.1.now) (a_handler inside)
+        (lexemes tokens.now) result }
     ensures shorter { IfOk result (λ x. length x.1.now ≤ length tokens.now) }
 {
     match after(tokens, Sign::Do) {
         None => Ok((None, tokens)),
         Some((_, rest)) => {
-            let (body, rest) = boxed_trace(alloc, inside, rest)?;
+            let (body, rest) = parse_boxed_trace(alloc, inside, rest)?;
             Ok((Some(body), rest))
         }
     }
@@ -281,22 +314,23 @@ fn handler<'a>(
 
 // The bounds of a loop, where they are there.
 #[cycle(parser)]
-fn bounds<'a>(alloc: Global, inside: u32, tokens: &'a [Token<'a>]) -> Parsed<'a, Bounds>
+fn parse_bounds<'a>(alloc: Global, inside: u32, tokens: &'a [Token<'a>]) -> Parsed<'a, Bounds>
     requires { inside ≤ most_levels }
-    ensures reads { ReadsAs (λ x. limits x.0) (λ x. lexemes x.1.now) (some_limits inside) (lexemes tokens.now) result }
+    ensures reads { ReadsAs (λ x. limits x.0) (λ x. lexemes x.1.now) (some_limits inside)
+        (lexemes tokens.now) result }
     ensures shorter { IfOk result (λ x. length x.1.now ≤ length tokens.now) }
 {
     if let Some((_, rest)) = after(tokens, Sign::OpenBracket) {
-        let (low, rest) = expr(alloc, inside, 0, rest)?;
+        let (low, rest) = parse_expr(alloc, inside, 0, rest)?;
         let (_, rest) = expect(rest, Sign::Comma)?;
-        let (high, rest) = expr(alloc, inside, 0, rest)?;
+        let (high, rest) = parse_expr(alloc, inside, 0, rest)?;
         let (_, rest) = expect(rest, Sign::CloseBracket)?;
         return Ok((Bounds::Between(low, high), rest));
     }
     if let Some((_, rest)) = after(tokens, Sign::Tilde) {
-        let (average, rest) = bound(alloc, inside, rest)?;
+        let (average, rest) = parse_bound(alloc, inside, rest)?;
         let (_, rest) = expect(rest, Sign::Colon)?;
-        let (deviation, rest) = bound(alloc, inside, rest)?;
+        let (deviation, rest) = parse_bound(alloc, inside, rest)?;
         return Ok((Bounds::Around(average, deviation), rest));
     }
     Ok((Bounds::Forever, tokens))
@@ -304,16 +338,17 @@ fn bounds<'a>(alloc: Global, inside: u32, tokens: &'a [Token<'a>]) -> Parsed<'a,
 
 // A number, a name without arguments, or an expression in parentheses.
 #[cycle(parser)]
-fn bound<'a>(alloc: Global, depth: u32, tokens: &'a [Token<'a>]) -> Parsed<'a, Expr>
+fn parse_bound<'a>(alloc: Global, depth: u32, tokens: &'a [Token<'a>]) -> Parsed<'a, Expr>
     requires { depth ≤ most_levels }
-    ensures reads { ReadsAs (λ x. exp x.0) (λ x. lexemes x.1.now) (a_bound depth) (lexemes tokens.now) result }
+    ensures reads { ReadsAs (λ x. exp x.0) (λ x. lexemes x.1.now) (a_bound depth)
+        (lexemes tokens.now) result }
     ensures shorter { IfOk result (λ x. length x.1.now < length tokens.now) }
 {
     let Some((first, rest)) = tokens.split_first() else {
         return Err(Refusal::Unexpected(0));
     };
     match first.sign {
-        Sign::Open => paren(alloc, deeper(depth, tokens.len())?, first.span, rest),
+        Sign::Open => parse_paren(alloc, deeper(depth, tokens.len())?, first.span, rest),
         Sign::Number => Ok((
             Expr::Number(number_of(alloc, false, first.span, first)?),
             rest,

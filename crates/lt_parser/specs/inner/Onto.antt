@@ -52,7 +52,7 @@ alternatives_after d before k = an_alternative d (λ p. more_alternatives d (λ 
 abbrev pub traces_after : ℕ → Sign → List TraceExpr → (Traces → Span → Goal) → Goal
 traces_after d sign before k = a_trace d (λ x. more_traces d sign (λ more. k (traces_onto before (s.one_trace x more))))
 
--- .. the same where they make what stands in braces ..
+-- .. such alternatives or traces that make what stands in braces ..
 abbrev pub choice_after : ℕ → Bool → List Part → (Braces → Span → Goal) → Goal
 choice_after d lead before k = alternatives_after d before (λ xs q. k (s.choice lead xs) q)
 
@@ -74,6 +74,6 @@ items_after d before k = an_item d (λ x. more_items d (λ more. k (s.sequence (
 abbrev pub declarations_after : List Decl → Goal
 declarations_after before = declarations (λ xs. done (declarations_onto before xs))
 
--- .. and the same with one more that is read already
+-- .. and declarations up to the end, where one more is read already
 abbrev pub declarations_more : List Decl → Declaration → Goal
 declarations_more before x = declarations (λ xs. done (declarations_onto before (x ∷ xs)))

@@ -30,7 +30,7 @@ abbrev pub ReadsTo : {X K : Type 0} → (X → K → Goal) → (X → Lexemes) �
 ReadsTo onto rest_of want ts (Ok x) = Found want (onto x) ts (rest_of x)
 ReadsTo onto rest_of want ts (Err e) = Refused want ts e
 
--- the same where what is found is handed on
+-- Reading does as the function answered, where the value of what was found is handed on.
 abbrev pub ReadsAs : {X V : Type 0} → (X → V) → (X → Lexemes) → ((V → Goal) → Goal) → Lexemes → Result X Refusal → Type 0
 ReadsAs value_of rest_of want ts result = ReadsTo (λ x k. k (value_of x)) rest_of want ts result
 

@@ -17,7 +17,7 @@ IsWithin ls r.Memory = Unit {0}
 abbrev pub last_of : Lexemes → ℕ → Lexemes
 last_of ls left = drop (length ls - left) ls
 
--- the same refusal by its place in the text
+-- A refusal of tokens is this one of the text, with its place there.
 abbrev pub IsPlaced : List ℕ → Lexemes → Refusal → ParseRefusal → Type 0
 IsPlaced text ls (r.Unexpected left) refusal = refusal ≡ Unexpected (start_of text (last_of ls left))
 IsPlaced text ls (r.TooDeep left) refusal = refusal ≡ TooDeep (start_of text (last_of ls left))

@@ -2,7 +2,7 @@ use Rattle.std.proofs.Common.{◌≡◌, length}
 use Rattle.lt_parser.specs.inner.Tokens.{lexemes}
 use Rattle.lt_parser.specs.inner.Onto.{declarations_after}
 use Rattle.lt_parser.specs.inner.Reading.{declarations, done, outcome}
-use Rattle.lt_parser.proofs.declarations.program.Given as goal
+use Rattle.lt_parser.proofs.declarations.parse_program.Given as goal
 use Rattle.lt_parser.specs.Nesting.{most_levels}
 
 -- the declarations so far

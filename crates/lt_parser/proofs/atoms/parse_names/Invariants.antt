@@ -3,7 +3,7 @@ use Rattle.lt_ast.specs.Syntax.{Word}
 use Rattle.lt_parser.specs.inner.Tokens.{lexemes}
 use Rattle.lt_parser.specs.inner.Onto.{words_onto}
 use Rattle.lt_parser.specs.inner.Reading.{Goal, more_names, names, outcome}
-use Rattle.lt_parser.proofs.atoms.names.Given as goal
+use Rattle.lt_parser.proofs.atoms.parse_names.Given as goal
 use Rattle.lt_parser.specs.Nesting.{most_levels}
 
 -- the names so far

@@ -1,7 +1,7 @@
 use Rattle.std.proofs.Common.{[], ◌∷◌, ◌++◌, ◌∙◌, refl, ap, rules, tests}
 use Rattle.lt_parser.specs.inner.Tokens.{lexemes}
 use Rattle.lt_parser.proofs.Programs.{at_end, one_more, refused_after}
-use Rattle.lt_parser.proofs.declarations.program.Goals as goal
+use Rattle.lt_parser.proofs.declarations.parse_program.Goals as goal
 
 pub returns-in_err-first : goal.returns-in_err-first
 returns-in_err-first c =
