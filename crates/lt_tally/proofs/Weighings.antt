@@ -5,7 +5,7 @@ use Rattle.lt_num.specs.declared.value.Value.{Value}
 use Rattle.lt_term.specs.declared.last.Last.{Last}
 use Rattle.lt_term.specs.Offers.{TermLeaf, TermTree, in_seq, in_par, joined, in_assert, in_exist, in_catch, in_try}
 use Rattle.lt_term.specs.Process.{Process}
-use Rattle.lt_term.specs.Size.{Weights, each_one, leaf_weight, tree_weight, branches_weight}
+use Rattle.lt_term.specs.Size.{Weights, each_one, leaf_weight, tree_weight, branches_weight, with_raise}
 use Rattle.lt_term.specs.Tree.{Lasts, Leaf, vanish, nothing, raised, go, Tree, leaf, ordered, weighted, Branches, no_branch, branch, with_leaves, branches_with_leaves, with_local, branches_with_local, flattened, flattened_each, size}
 use Rattle.lt_tally.specs.Tally.{just_vanish, just_go, just_raise, nodes, vanishes, goes, raises, NodesAreSize, SeqRow, ParRow, InstantRow, AssertRow, ExistRow, CatchRow, TryRow}
 
@@ -44,7 +44,7 @@ module _ {C N M : Type 0} (w v : Weights) (f : Leaf C N → Tree C M) (same : v.
 
 module _ {C N : Type 0} (w v one : Weights) (k : ℕ) (o : v.other ≡ w.other + one.other * k) (e : (l : Leaf C N) → leaf_weight v l ≡ leaf_weight w l + leaf_weight one l * k) where
   mutual
-    added : (t : Tree C N) → tree_weight v t ≡ tree_weight w t + tree_weight one t * k
+    pub added : (t : Tree C N) → tree_weight v t ≡ tree_weight w t + tree_weight one t * k
     added (leaf l) = e l
     added (ordered a b) = let h = added a in let g = added b in omega (arith, o, h, g)
     added (weighted ls bs) = let h = added_each bs in omega (arith, o, h)
@@ -54,7 +54,7 @@ module _ {C N : Type 0} (w v one : Weights) (k : ℕ) (o : v.other ≡ w.other +
     added_each (branch x t bs) = let h = added t in let g = added_each bs in omega (arith, h, g)
 
 mutual
-  local_weight : {C N : Type 0} (w : Weights) (x : ℕ × Last) (t : Tree C N) → tree_weight w (with_local x t) ≡ tree_weight w t
+  pub local_weight : {C N : Type 0} (w : Weights) (x : ℕ × Last) (t : Tree C N) → tree_weight w (with_local x t) ≡ tree_weight w t
   local_weight w x (leaf l) = refl
   local_weight w x (ordered a b) = λ i. w.other + (local_weight w x a i + local_weight w x b i)
   local_weight w x (weighted ls bs) = λ i. w.other + local_weight_each w x bs i
@@ -74,7 +74,7 @@ nodes_positive (weighted ls bs) = omega arith
 -- A second part in place of what vanishes.
 
 module _ (b : Process ℕ) (u : TermTree ℕ) where
-  seq_weight : (w : Weights) (t : TermTree ℕ) → tree_weight w (with_leaves (in_seq b u) t) ≡ tree_weight (record w { vanish = tree_weight w u }) t
+  pub seq_weight : (w : Weights) (t : TermTree ℕ) → tree_weight w (with_leaves (in_seq b u) t) ≡ tree_weight (record w { vanish = tree_weight w u }) t
   seq_weight w t = replaced w (record w { vanish = tree_weight w u }) (in_seq b u) refl at t
     where
       at : (l : TermLeaf ℕ) → tree_weight w (in_seq b u l) ≡ leaf_weight (record w { vanish = tree_weight w u }) l
@@ -132,7 +132,7 @@ seq_row b u t =
 
 -- A second side.
 
-joined_weight : (w : Weights) (cs : List ℕ) (ls : Lasts) (n : Process ℕ) (u : TermTree ℕ) → tree_weight w (with_leaves (joined cs ls n) u) ≡ tree_weight (record w { vanish = w.go }) u
+pub joined_weight : (w : Weights) (cs : List ℕ) (ls : Lasts) (n : Process ℕ) (u : TermTree ℕ) → tree_weight w (with_leaves (joined cs ls n) u) ≡ tree_weight (record w { vanish = w.go }) u
 joined_weight w cs ls n u = replaced w (record w { vanish = w.go }) (joined cs ls n) refl at u
   where
     at : (l : TermLeaf ℕ) → tree_weight w (joined cs ls n l) ≡ leaf_weight (record w { vanish = w.go }) l
@@ -142,7 +142,7 @@ joined_weight w cs ls n u = replaced w (record w { vanish = w.go }) (joined cs l
     at (go ds ms m) = refl
 
 module _ (u : TermTree ℕ) where
-  par_weight : (w : Weights) (t : TermTree ℕ) → tree_weight w (with_leaves (in_par u) t) ≡ tree_weight (record w { vanish = tree_weight w u; go = tree_weight (record w { vanish = w.go }) u }) t
+  pub par_weight : (w : Weights) (t : TermTree ℕ) → tree_weight w (with_leaves (in_par u) t) ≡ tree_weight (record w { vanish = tree_weight w u; go = tree_weight (record w { vanish = w.go }) u }) t
   par_weight w t = replaced w (record w { vanish = tree_weight w u; go = tree_weight (record w { vanish = w.go }) u }) (in_par u) refl at t
     where
       at : (l : TermLeaf ℕ) → tree_weight w (in_par u l) ≡ leaf_weight (record w { vanish = tree_weight w u; go = tree_weight (record w { vanish = w.go }) u }) l
@@ -189,12 +189,15 @@ assert_at w c nothing = refl
 assert_at w c (raised z) = refl
 assert_at w c (go cs ls n) = refl
 
+pub assert_weight : (w : Weights) (c : ℕ) (t : TermTree ℕ) → tree_weight w (with_leaves (in_assert c) t) ≡ tree_weight w t
+assert_weight w c t = same_weight w (in_assert c) (assert_at w c) t
+
 pub assert_row : AssertRow
 assert_row c t = record {
-  nodes_are = same_weight each_one (in_assert c) (assert_at each_one c) t;
-  vanishes_are = same_weight just_vanish (in_assert c) (assert_at just_vanish c) t;
-  goes_are = same_weight just_go (in_assert c) (assert_at just_go c) t;
-  raises_are = λ z. same_weight (just_raise z) (in_assert c) (assert_at (just_raise z) c) t;
+  nodes_are = assert_weight each_one c t;
+  vanishes_are = assert_weight just_vanish c t;
+  goes_are = assert_weight just_go c t;
+  raises_are = λ z. assert_weight (just_raise z) c t;
 }
 
 exist_at : (w : Weights) (start : Value) (x : ℕ) (v : Last) (l : TermLeaf ℕ) → tree_weight w (in_exist start x v l) ≡ leaf_weight w l
@@ -203,8 +206,11 @@ exist_at w start x v nothing = refl
 exist_at w start x v (raised z) = refl
 exist_at w start x v (go cs ls n) = refl
 
+pub in_exist_weight : (w : Weights) (start : Value) (x : ℕ) (v : Last) (t : TermTree ℕ) → tree_weight w (with_leaves (in_exist start x v) t) ≡ tree_weight w t
+in_exist_weight w start x v t = same_weight w (in_exist start x v) (exist_at w start x v) t
+
 exist_weight : (w : Weights) (start : Value) (x : ℕ) (v : Last) (t : TermTree ℕ) → tree_weight w (with_leaves (in_exist start x v) (with_local (x, v) t)) ≡ tree_weight w t
-exist_weight w start x v t = same_weight w (in_exist start x v) (exist_at w start x v) (with_local (x, v) t) ∙ local_weight w (x, v) t
+exist_weight w start x v t = in_exist_weight w start x v (with_local (x, v) t) ∙ local_weight w (x, v) t
 
 pub exist_row : ExistRow
 exist_row start x v t = record {
@@ -220,28 +226,27 @@ try_at w h nothing = refl
 try_at w h (raised z) = refl
 try_at w h (go cs ls n) = refl
 
+pub try_weight : (w : Weights) (h : Process ℕ) (t : TermTree ℕ) → tree_weight w (with_leaves (in_try h) t) ≡ tree_weight w t
+try_weight w h t = same_weight w (in_try h) (try_at w h) t
+
 pub try_row : TryRow
 try_row h t = record {
-  nodes_are = same_weight each_one (in_try h) (try_at each_one h) t;
-  vanishes_are = same_weight just_vanish (in_try h) (try_at just_vanish h) t;
-  goes_are = same_weight just_go (in_try h) (try_at just_go h) t;
-  raises_are = λ z. same_weight (just_raise z) (in_try h) (try_at (just_raise z) h) t;
+  nodes_are = try_weight each_one h t;
+  vanishes_are = try_weight just_vanish h t;
+  goes_are = try_weight just_go h t;
+  raises_are = λ z. try_weight (just_raise z) h t;
 }
 
 -- A handler.
-
--- the weights with another one for an exception
-abbrev raising : Weights → ℕ → ℕ → Weights
-raising w z n = record w { raise = λ y. if nat_eq y z then n else w.raise y }
 
 by_test : (w : Weights) (b : Bool) (y : ℕ) (u : TermTree ℕ) → tree_weight w (if b then u else leaf (raised y)) ≡ (if b then tree_weight w u else w.raise y)
 by_test w true y u = refl
 by_test w false y u = refl
 
-catch_weight : (w : Weights) (z : ℕ) (h : Process ℕ) (u t : TermTree ℕ) → tree_weight w (with_leaves (in_catch z h u) t) ≡ tree_weight (raising w z (tree_weight w u)) t
-catch_weight w z h u t = replaced w (raising w z (tree_weight w u)) (in_catch z h u) refl at t
+pub catch_weight : (w : Weights) (z : ℕ) (h : Process ℕ) (u t : TermTree ℕ) → tree_weight w (with_leaves (in_catch z h u) t) ≡ tree_weight (with_raise w z (tree_weight w u)) t
+catch_weight w z h u t = replaced w (with_raise w z (tree_weight w u)) (in_catch z h u) refl at t
   where
-    at : (l : TermLeaf ℕ) → tree_weight w (in_catch z h u l) ≡ leaf_weight (raising w z (tree_weight w u)) l
+    at : (l : TermLeaf ℕ) → tree_weight w (in_catch z h u l) ≡ leaf_weight (with_raise w z (tree_weight w u)) l
     at vanish = refl
     at nothing = refl
     at (raised y) = by_test w (nat_eq y z) y u
@@ -252,10 +257,10 @@ more_by true x base k e = omega (arith, e)
 more_by false x base k e = omega arith
 
 -- more weight for an exception, where all exceptions weigh the same
-more_raise : (w : Weights) (z x base k : ℕ) → w.raise ≡ (λ y. base) → x ≡ base + k → (t : TermTree ℕ) → tree_weight (raising w z x) t ≡ tree_weight w t + raises z t * k
-more_raise w z x base k same e t = added w (raising w z x) (just_raise z) k (omega arith) at t
+more_raise : (w : Weights) (z x base k : ℕ) → w.raise ≡ (λ y. base) → x ≡ base + k → (t : TermTree ℕ) → tree_weight (with_raise w z x) t ≡ tree_weight w t + raises z t * k
+more_raise w z x base k same e t = added w (with_raise w z x) (just_raise z) k (omega arith) at t
   where
-    at : (l : TermLeaf ℕ) → leaf_weight (raising w z x) l ≡ leaf_weight w l + leaf_weight (just_raise z) l * k
+    at : (l : TermLeaf ℕ) → leaf_weight (with_raise w z x) l ≡ leaf_weight w l + leaf_weight (just_raise z) l * k
     at vanish = omega arith
     at nothing = omega arith
     at (raised y) =
@@ -269,10 +274,10 @@ other_by true false k n = omega arith
 other_by false c k n = omega arith
 
 -- what is raised besides the exception that is handled
-others_raised : (y z k : ℕ) → (y ≡ z → ⊥) → (t : TermTree ℕ) → tree_weight (raising (just_raise y) z k) t ≡ raises y t + raises z t * k
-others_raised y z k n t = added (just_raise y) (raising (just_raise y) z k) (just_raise z) k (omega arith) at t
+others_raised : (y z k : ℕ) → (y ≡ z → ⊥) → (t : TermTree ℕ) → tree_weight (with_raise (just_raise y) z k) t ≡ raises y t + raises z t * k
+others_raised y z k n t = added (just_raise y) (with_raise (just_raise y) z k) (just_raise z) k (omega arith) at t
   where
-    at : (l : TermLeaf ℕ) → leaf_weight (raising (just_raise y) z k) l ≡ leaf_weight (just_raise y) l + leaf_weight (just_raise z) l * k
+    at : (l : TermLeaf ℕ) → leaf_weight (with_raise (just_raise y) z k) l ≡ leaf_weight (just_raise y) l + leaf_weight (just_raise z) l * k
     at vanish = omega arith
     at nothing = omega arith
     at (raised x) = other_by (nat_eq x z) (nat_eq x y) k (λ e. ne_eqb x y (λ d. n (sym d ∙ eqb-true x z e)))
@@ -283,17 +288,17 @@ same_by true k = omega arith
 same_by false k = omega arith
 
 -- of the exception that is handled, only what the handler raises is left
-same_raised : (z k : ℕ) (t : TermTree ℕ) → tree_weight (raising (just_raise z) z k) t ≡ raises z t * k
-same_raised z k t = let h = added no_weight (raising (just_raise z) z k) (just_raise z) k (omega arith) at t in let e = weightless t in omega (arith, h, e)
+same_raised : (z k : ℕ) (t : TermTree ℕ) → tree_weight (with_raise (just_raise z) z k) t ≡ raises z t * k
+same_raised z k t = let h = added no_weight (with_raise (just_raise z) z k) (just_raise z) k (omega arith) at t in let e = weightless t in omega (arith, h, e)
   where
-    at : (l : TermLeaf ℕ) → leaf_weight (raising (just_raise z) z k) l ≡ leaf_weight no_weight l + leaf_weight (just_raise z) l * k
+    at : (l : TermLeaf ℕ) → leaf_weight (with_raise (just_raise z) z k) l ≡ leaf_weight no_weight l + leaf_weight (just_raise z) l * k
     at vanish = omega arith
     at nothing = omega arith
     at (raised x) = let e = same_by (nat_eq x z) k in omega (arith, e)
     at (go cs ls n) = omega arith
 
-left_by : (b : Bool) (y z k : ℕ) (t : TermTree ℕ) → nat_eq y z ≡ b → tree_weight (raising (just_raise y) z k) t ≡ (if b then 0 else raises y t) + raises z t * k
-left_by true y z k t e = let d = eqb-true y z e in ap (λ x. tree_weight (raising (just_raise x) z k) t) d ∙ (let h = same_raised z k t in omega (arith, h))
+left_by : (b : Bool) (y z k : ℕ) (t : TermTree ℕ) → nat_eq y z ≡ b → tree_weight (with_raise (just_raise y) z k) t ≡ (if b then 0 else raises y t) + raises z t * k
+left_by true y z k t e = let d = eqb-true y z e in ap (λ x. tree_weight (with_raise (just_raise x) z k) t) d ∙ (let h = same_raised z k t in omega (arith, h))
 left_by false y z k t e = others_raised y z k (eqb-false y z e) t
 
 pub catch_row : CatchRow
