@@ -1,5 +1,5 @@
 -- The tree in which a draw goes, of what a term offers.
-use Rattle.std.specs.Prelude.{◌≡◌, ◌+◌, ℕ, zero, suc, List, [], ◌∷◌, Ok, Err, Some}
+use Rattle.std.specs.Prelude.{◌≡◌, ℕ, List, [], ◌∷◌, Ok, Err, Some}
 use Rattle.std.specs.declared.result.Result.{Result}
 use Rattle.lt_num.specs.declared.fault.Arith.{Arith}
 use Rattle.lt_term.specs.Offers.{TermLeaf, TermTree}
@@ -8,6 +8,7 @@ use Rattle.lt_term.specs.Tree as t
 use Rattle.lt_term.specs.Tree.{Lasts, Weight, Branches}
 use Rattle.lt_lazy.specs.Tree.{Tree, leaf, ordered, weighted, spoilt, no_branch, branch, size, weights_of, leaf_of, below, before, HasPart, Leads}
 use Rattle.lt_lazy.specs.Tree as l
+use Rattle.lt_place.specs.Before.{nodes_before}
 use Rattle.lt_track.specs.Path.{Arrival, at_leaf, at_ordered, at_weighted}
 use Rattle.lt_track.specs.Walk.{State, setting_out, arrival, Follows}
 use Rattle.lt_track.specs.declared.walk.Reached.{Reached}
@@ -52,28 +53,6 @@ abbrev mutual
   numbered_each j ls t.no_branch = no_branch
   numbered_each j ls (t.branch w a bs) =
       branch (worth_or_none (j.weight ls w)) (numbered j a) (numbered_each j ls bs)
-
--- how many nodes stand in so many trees to choose from, from the first one on
-abbrev pub nodes_of_first : Branches ℕ (Process ℕ) → ℕ → ℕ
-nodes_of_first t.no_branch k = 0
-nodes_of_first (t.branch w a bs) zero = 0
-nodes_of_first (t.branch w a bs) (suc k) = t.size a + nodes_of_first bs k
-
--- how many nodes stand in so many parts of the choice at a path
-abbrev mutual
-  pub nodes_before : TermTree ℕ → List ℕ → ℕ → ℕ
-  nodes_before (t.leaf m) ks k = 0
-  nodes_before (t.ordered a b) [] zero = 0
-  nodes_before (t.ordered a b) [] (suc k) = t.size a
-  nodes_before (t.ordered a b) (zero ∷ ks) k = nodes_before a ks k
-  nodes_before (t.ordered a b) (suc i ∷ ks) k = nodes_before b ks k
-  nodes_before (t.weighted ls bs) [] k = nodes_of_first bs k
-  nodes_before (t.weighted ls bs) (i ∷ ks) k = nodes_before_in bs i ks k
-
-  pub nodes_before_in : Branches ℕ (Process ℕ) → ℕ → List ℕ → ℕ → ℕ
-  nodes_before_in t.no_branch i ks k = 0
-  nodes_before_in (t.branch w a bs) zero ks k = nodes_before a ks k
-  nodes_before_in (t.branch w a bs) (suc i) ks k = nodes_before_in bs i ks k
 
 -- this is a choice whose weights are worth that
 abbrev pub IsChoice : Judge → Result (List ℕ) Arith → Tree → Type 0

@@ -1,0 +1,16 @@
+use Rattle.std.proofs.Common.{◌≡◌, List}
+use Rattle.lt_num.specs.declared.kind.Kind.{Kind}
+use Rattle.lt_place.specs.Finding.{IsContext, IsWeight}
+use Rattle.lt_place.proofs.Contexts.{up_to}
+use Rattle.lt_term.specs.Offers.{offers_of}
+use Rattle.lt_term.specs.Size.{Weights, capped, tree_weight}
+use Rattle.lt_track.specs.View.{begun}
+use Rattle.lt_place.proofs.weighing.weigh.Given as goal
+
+-- the exceptions so far weigh what is given for them
+abbrev pub invariant-loop-exception : goal.invariant-loop-exception
+invariant-loop-exception l = record {
+  weight : IsWeight l.all;
+  is : (kinds : List Kind) (w : Weights) → IsContext l.fn.aim.vanish l.fn.aim.go l.weights w →
+      l.all ≡ capped (tree_weight (up_to l.exception w) (offers_of kinds (begun l.is_fresh l.part.value)));
+}
