@@ -2,7 +2,7 @@
 use Rattle.std.specs.Prelude.{◌≡◌, ◌≤◌, ◌^◌, ℕ, zero, suc, List, [], ◌∷◌, All, length, slice_index_or}
 use Rattle.lt_term.specs.Offers.{TermTree}
 use Rattle.lt_term.specs.Size.{Weights, capped}
-use Rattle.lt_place.specs.Spot.{Spot, at_vanish, at_nothing, at_raised, at_go, at_choice, spot}
+use Rattle.lt_place.specs.inner.Spot.{Spot, at_vanish, at_nothing, at_raised, at_go, at_choice, spot}
 use Rattle.lt_place.specs.declared.path.Side.{Side}
 use Rattle.lt_place.specs.declared.path.Side.TheVariants as side
 use Rattle.lt_place.specs.declared.place.Place.{Place}
@@ -12,13 +12,13 @@ use Rattle.lt_place.specs.declared.place.Place.TheVariants as place
 abbrev pub IsWeight : ℕ → Type 0
 IsWeight n = (1 ≤ n) × (n ≤ 65537)
 
--- what leaves weigh that raise exceptions, by the number of the exception
+-- what leaves weigh that raise exceptions, by the number of the exception, which has 32 bits
 pub record AreWeights (zs : List ℕ) : Type 0 where
   pub each : All IsWeight zs
   pub few : length zs ≤ 2 ^ 32
 
--- What leaves weigh in the part of a tree at hand: a leaf that vanishes, one that goes on, and those that raise exceptions weigh as
--- many nodes as stand in their place in the whole tree.
+-- What leaves weigh in the part of a tree at hand, where x, y and zs are known of it: a leaf that vanishes, one that goes on, and
+-- those that raise exceptions weigh as many nodes as stand in their place in the whole tree, and any other leaf weighs 1.
 pub record IsContext (x y : ℕ) (zs : List ℕ) (w : Weights) : Type 0 where
   pub other : w.other ≡ 1
   pub vanish : x ≡ capped w.vanish
