@@ -1,6 +1,6 @@
 //! What follows from the definitions. The function does nothing: its contract says it.
 
-ghost use Rattle.lt_join.specs.Numbered.{LeavesAgree, PlacesAgree, SizesAgree, WalksAgree};
+ghost use Rattle.lt_join.specs.Valued.{LeavesAgree, PlacesAgree, SizesAgree, WalksAgree};
 
 /// The tree in which a draw goes and the tree of what a term offers have as many nodes, also before each part of a choice;
 /// what a walk finds at a path in the one stands there in the other; and where a draw has stopped, a walk along its path

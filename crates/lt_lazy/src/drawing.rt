@@ -1,65 +1,41 @@
 //! Draws.
 
-ghost use Rattle.std.specs.Prelude.{◌≡◌, ◌<◌, ◌≤◌, ◌+◌, ◌++◌, ◌∷◌, [], length, map, reverse, take, vec_capacity, vec_len};
+ghost use Rattle.std.specs.Prelude.{◌≡◌, ◌<◌, ◌≤◌, ◌+◌, ◌++◌, ◌∷◌, [], IsTrue, length, map, reverse, take, vec_capacity, vec_len};
 ghost use Rattle.lt_draw.specs.Word.{word_at};
 ghost use Rattle.lt_lazy.specs.Order.{first_stop, order, Ends};
 ghost use Rattle.lt_lazy.specs.Tree.{HasPart, Leads, before, below, size};
 ghost use Rattle.lt_lazy.specs.inner.Walking.{Arrives, IsLeft, IsWalking, entry_of, entry_parent, entry_position};
 
+use crate::rooms::{Entry, Rooms};
 use crate::source::{Source, Visit};
 use crate::tries::find_tries;
 use lt_draw::StepWords;
 
-/// A part of a choice that is still to be tried.
-#[derive(Clone, Copy)]
-pub struct Entry {
-    /// The position of the choice.
-    pub position: usize,
-
-    /// How many choices lead to it.
-    pub depth: usize,
-
-    /// Which part it is.
-    pub choice: u32,
-}
-
-/// Where a draw is, and what it has still to try. All its room is reserved when it is made.
-#[derive(Drop)]
-pub struct Rooms {
-    /// The path to the node at hand.
-    pub path: Vec<u32>,
-
-    /// The weights of a choice.
-    pub weights: Vec<u64>,
-
-    /// The order in which it tries its parts.
-    pub places: Vec<u32>,
-
-    /// The parts that are still to be tried, the next one on top.
-    pub stack: Vec<Entry>,
-
-    pub ghost path_room: { 65536 ≤ vec_capacity path },
-    pub ghost weights_room: { 64 ≤ vec_capacity weights },
-    pub ghost places_room: { 64 ≤ vec_capacity places },
-    pub ghost stack_room: { 65536 ≤ vec_capacity stack },
-}
-
 /// Goes to the first leaf at which the draw stops, and answers whether there is one. The path then
-/// leads there.
-pub fn draw<S: Source>(source: &mut S, words: &StepWords, rooms: &mut Rooms) -> bool
-    requires few { size (S.tree source.old) ≤ 65536 }
-    ensures ends { Ends (first_stop (S.stops source.old)
-        (order (word_at words.now.seed words.now.step) 0 (S.tree source.old))) (S.tree source.old)
-        rooms.new.path.items result }
-    ensures same_tree { S.tree source.new ≡ S.tree source.old }
+/// leads there, and what was found there stands in the source.
+pub fn draw<M, S: Source<M>>(
+    source: &mut S,
+    moment: &M,
+    words: &StepWords,
+    rooms: &mut Rooms,
+) -> bool
+    requires ready { S.is_ready source.old moment.now }
+    requires few { size (S.tree source.old moment.now) ≤ 65536 }
+    ensures ends { Ends (first_stop (S.stops moment.now)
+        (order (word_at words.now.seed words.now.step) 0 (S.tree source.old moment.now)))
+        (S.tree source.old moment.now) rooms.new.path.items result }
+    ensures found { IsTrue result → S.has_found source.new moment.now rooms.new.path.items }
+    ensures ready { S.is_ready source.new moment.now }
+    ensures same_tree { S.tree source.new moment.now ≡ S.tree source.old moment.now }
+    ensures same { S.kept source.new ≡ S.kept source.old }
 {
     rooms.path.clear();
     rooms.stack.clear();
     let mut position = 0;
-    while !arrive(source, words, rooms, position) {
+    while !arrive(source, moment, words, rooms, position) {
         match rooms.stack.pop() {
             None => return false,
-            Some(entry) => position = go_to(source, &mut rooms.path, entry),
+            Some(entry) => position = go_to(source, moment, &mut rooms.path, entry),
         }
     }
     true
@@ -67,18 +43,28 @@ pub fn draw<S: Source>(source: &mut S, words: &StepWords, rooms: &mut Rooms) -> 
 
 // Arrives at the node at hand: answers whether the draw stops there, and else puts its parts on the
 // stack.
-fn arrive<S: Source>(source: &mut S, words: &StepWords, rooms: &mut Rooms, position: usize) -> bool
-    requires few { size (S.tree source.old) ≤ 65536 }
-    requires walks { IsWalking (word_at words.now.seed words.now.step) (S.stops source.old)
-        (S.tree source.old) rooms.old.path.items position (reverse rooms.old.stack.items) }
-    ensures arrives { Arrives (word_at words.now.seed words.now.step) (S.stops source.old)
-        (S.tree source.old) rooms.new.path.items (reverse rooms.old.stack.items)
+fn arrive<M, S: Source<M>>(
+    source: &mut S,
+    moment: &M,
+    words: &StepWords,
+    rooms: &mut Rooms,
+    position: usize,
+) -> bool
+    requires ready { S.is_ready source.old moment.now }
+    requires few { size (S.tree source.old moment.now) ≤ 65536 }
+    requires walks { IsWalking (word_at words.now.seed words.now.step) (S.stops moment.now)
+        (S.tree source.old moment.now) rooms.old.path.items position
+        (reverse rooms.old.stack.items) }
+    ensures arrives { Arrives (word_at words.now.seed words.now.step) (S.stops moment.now)
+        (S.tree source.old moment.now) rooms.new.path.items (reverse rooms.old.stack.items)
         (reverse rooms.new.stack.items) result }
+    ensures found { IsTrue result → S.has_found source.new moment.now rooms.new.path.items }
+    ensures ready { S.is_ready source.new moment.now }
     ensures same_path { rooms.new.path ≡ rooms.old.path }
-    ensures same_tree { S.tree source.new ≡ S.tree source.old }
-    ensures same_stops { S.stops source.new ≡ S.stops source.old }
+    ensures same_tree { S.tree source.new moment.now ≡ S.tree source.old moment.now }
+    ensures same { S.kept source.new ≡ S.kept source.old }
 {
-    match source.visit(&rooms.path, &mut rooms.weights) {
+    match source.visit(moment, &rooms.path, &mut rooms.weights) {
         Visit::Stops => true,
         Visit::Passes => false,
         Visit::Ordered => {
@@ -132,35 +118,40 @@ fn push_tries(stack: &mut Vec<Entry>, position: usize, depth: usize, places: &mu
 }
 
 // Goes to a part of a choice, and answers its position.
-fn go_to<S: Source>(source: &mut S, path: &mut Vec<u32>, entry: Entry) -> usize
+fn go_to<M, S: Source<M>>(source: &mut S, moment: &M, path: &mut Vec<u32>, entry: Entry) -> usize
+    requires ready { S.is_ready source.old moment.now }
     requires deep { entry.depth ≤ length path.old.items }
-    requires leads { Leads (S.tree source.old) path.old.items }
-    requires has { HasPart (entry_parent (S.tree source.old) path.old.items entry) entry.choice }
+    requires leads { Leads (S.tree source.old moment.now) path.old.items }
+    requires has { HasPart
+        (entry_parent (S.tree source.old moment.now) path.old.items entry) entry.choice }
     requires room { entry.depth < vec_capacity path.old }
-    requires fits { entry_position (S.tree source.old) path.old.items entry ≤ 65536 }
+    requires fits { entry_position (S.tree source.old moment.now) path.old.items entry ≤ 65536 }
     ensures path { path.new.items ≡ take entry.depth path.old.items ++ entry.choice ∷ [] }
-    ensures is { result ≡ entry_position (S.tree source.old) path.old.items entry }
+    ensures is { result ≡ entry_position (S.tree source.old moment.now) path.old.items entry }
     ensures capacity { vec_capacity path.new ≡ vec_capacity path.old }
-    ensures same_tree { S.tree source.new ≡ S.tree source.old }
-    ensures same_stops { S.stops source.new ≡ S.stops source.old }
+    ensures ready { S.is_ready source.new moment.now }
+    ensures same_tree { S.tree source.new moment.now ≡ S.tree source.old moment.now }
+    ensures same { S.kept source.new ≡ S.kept source.old }
 {
     path.truncate(entry.depth);
-    let before = nodes_before(source, path, entry.choice);
+    let before = nodes_before(source, moment, path, entry.choice);
     path.push_reserved(entry.choice);
     entry.position + 1 + before
 }
 
 // How many nodes stand before a part of the choice at a path: of the first part this is known.
 #[tactic(auto, using(crate::proofs::Walks::before_first))]
-fn nodes_before<S: Source>(source: &mut S, path: &[u32], choice: u32) -> usize
-    requires leads { Leads (S.tree source.old) path.now }
-    requires has { HasPart (below (S.tree source.old) path.now) choice }
-    ensures is { result ≡ before (below (S.tree source.old) path.now) choice }
-    ensures same_tree { S.tree source.new ≡ S.tree source.old }
-    ensures same_stops { S.stops source.new ≡ S.stops source.old }
+fn nodes_before<M, S: Source<M>>(source: &mut S, moment: &M, path: &[u32], choice: u32) -> usize
+    requires ready { S.is_ready source.old moment.now }
+    requires leads { Leads (S.tree source.old moment.now) path.now }
+    requires has { HasPart (below (S.tree source.old moment.now) path.now) choice }
+    ensures is { result ≡ before (below (S.tree source.old moment.now) path.now) choice }
+    ensures ready { S.is_ready source.new moment.now }
+    ensures same_tree { S.tree source.new moment.now ≡ S.tree source.old moment.now }
+    ensures same { S.kept source.new ≡ S.kept source.old }
 {
     if choice == 0 {
         return 0;
     }
-    source.before(path, choice)
+    source.before(moment, path, choice)
 }

@@ -4,13 +4,14 @@
 //! leaves in the order in which a draw arrives at them, up to the first at which it stops. It takes no memory, looks at no
 //! node but those on its way, and keeps of the tree one path and the parts that are still to be tried.
 //!
-//! `specs/Order.antt` says in which order a draw arrives at the leaves of a tree. No program uses this crate yet: it is
-//! for an instant that makes no tree.
+//! `specs/Order.antt` says in which order a draw arrives at the leaves of a tree.
 #![tactic(auto)]
 
 mod drawing;
+mod rooms;
 mod source;
 mod tries;
 
-pub use drawing::{Entry, Rooms, draw};
+pub use drawing::draw;
+pub use rooms::{Entry, Rooms};
 pub use source::{Source, Visit};

@@ -6,10 +6,11 @@
 //! the three takes memory. Each node keeps how large what it offers is, so that [`size`] looks at the root alone.
 //!
 //! Contracts see a track as the term that is still to be done, `standing` of `specs/View.antt`. `specs/Walk.antt` says what
-//! it is to follow a path. No program uses this crate yet: it is for an instant that makes no tree.
+//! it is to follow a path.
 #![tactic(auto)]
 
 mod choices;
+mod counting;
 mod extent;
 mod extents;
 mod following;
@@ -23,6 +24,7 @@ mod scopes;
 mod track;
 mod walk;
 
+pub use counting::node_count;
 pub use extent::Extent;
 pub use extents::{count_tally, loop_tally, part_tally, size};
 pub use following::follow;

@@ -1,9 +1,10 @@
 //! Walks along paths.
 
-ghost use Rattle.std.specs.Prelude.{◌≡◌, ◌<◌, ◌≤◌, ◌+◌, ◌++◌, ℕ, List, [], ◌∷◌, length, map, take, vec_capacity};
-ghost use Rattle.lt_track.specs.Walk.{State, closed, held, next_choice, next_side, rooms, setting_out, settled};
+ghost use Rattle.std.specs.Prelude.{◌≡◌, ◌<◌, ◌≤◌, ◌+◌, ◌++◌, ℕ, List, [], ◌∷◌, IfOk, length, map, take, vec_capacity};
+ghost use Rattle.lt_track.specs.Walk.{IsRoomy, State, closed, held, next_choice, next_side, rooms, setting_out, settled};
 
 use lt_term::{Last, Weight};
+use std::alloc::{AllocError, Global};
 
 /// What stands where a walk ends.
 #[derive(Clone, Copy)]
@@ -60,6 +61,21 @@ pub struct Walk {
 }
 
 impl Walk {
+    /// A walk in terms of at most so many nodes.
+    pub fn make(alloc: Global, nodes: usize) -> Result<Walk, AllocError>
+        ensures roomy { IfOk result (IsRoomy nodes) }
+        ensures fired { IfOk result (λ walk. (rooms walk).fired ≡ nodes) }
+        ensures lasts { IfOk result (λ walk. (rooms walk).lasts ≡ nodes) }
+    {
+        Ok(Walk {
+            taken: 0,
+            fired: Vec::with_capacity(alloc, nodes)?,
+            lasts: Vec::with_capacity(alloc, nodes)?,
+            scope: Vec::with_capacity(alloc, nodes)?,
+            weights: Vec::with_capacity(alloc, nodes)?,
+        })
+    }
+
     // Sets out from the root.
     pub(crate) fn set_out(&mut self)
         ensures holds { (path : List ℕ) → held path self.new ≡ setting_out path }

@@ -2,47 +2,47 @@
 use Rattle.std.specs.Prelude.{◌≡◌, ◌≤◌, ◌<◌, ℕ, ◌+◌, Bool, true, false, List, [], ◌∷◌, ◌++◌, length, take, Some}
 use Rattle.lt_lazy.specs.Order.{order, first_stop}
 use Rattle.lt_lazy.specs.Tree.{Tree, size, leaf_of, part_of, below, before, HasPart, Leads}
-use Rattle.lt_lazy.specs.declared.drawing.Entry.{Entry}
+use Rattle.lt_lazy.specs.declared.rooms.Entry.{Entry}
 
 -- an entry of a stack
 abbrev pub entry_of : ℕ → ℕ → ℕ → Entry
 entry_of position depth choice = record { position = position; depth = depth; choice = choice }
 
 -- the choice of which an entry is a part, while this path is the one at hand; the part, and its place
-abbrev pub entry_parent : Tree → List ℕ → Entry → Tree
+abbrev pub entry_parent : {L : Type 0} → Tree L → List ℕ → Entry → Tree L
 entry_parent t path e = below t (take e.depth path)
 
-abbrev pub entry_tree : Tree → List ℕ → Entry → Tree
+abbrev pub entry_tree : {L : Type 0} → Tree L → List ℕ → Entry → Tree L
 entry_tree t path e = part_of (entry_parent t path e) e.choice
 
-abbrev pub entry_position : Tree → List ℕ → Entry → ℕ
+abbrev pub entry_position : {L : Type 0} → Tree L → List ℕ → Entry → ℕ
 entry_position t path e = e.position + 1 + before (entry_parent t path e) e.choice
 
 -- the leaves of the entries of a stack, whose first one here is the next
-abbrev pub order_on : (ℕ → ℕ) → Tree → List ℕ → List Entry → List ℕ
+abbrev pub order_on : {L : Type 0} → (ℕ → ℕ) → Tree L → List ℕ → List Entry → List L
 order_on word t path [] = []
 order_on word t path (e ∷ es) =
     order word (entry_position t path e) (entry_tree t path e) ++ order_on word t path es
 
 -- how many nodes their trees have
-abbrev pub size_on : Tree → List ℕ → List Entry → ℕ
+abbrev pub size_on : {L : Type 0} → Tree L → List ℕ → List Entry → ℕ
 size_on t path [] = 0
 size_on t path (e ∷ es) = size (entry_tree t path e) + size_on t path es
 
 -- an entry's tree lies in the whole one
-pub record Fits (t : Tree) (path : List ℕ) (e : Entry) : Type 0 where
+pub record Fits {L : Type 0} (t : Tree L) (path : List ℕ) (e : Entry) : Type 0 where
   pub within : entry_position t path e + size (entry_tree t path e) ≤ size t
   pub deep : e.depth + 1 + size (entry_tree t path e) ≤ size t
   pub has : HasPart (entry_parent t path e) e.choice
 
 -- each entry is no deeper than the one before it, and the first no deeper than this
-abbrev pub AreNested : Tree → List ℕ → ℕ → List Entry → Type 0
+abbrev pub AreNested : {L : Type 0} → Tree L → List ℕ → ℕ → List Entry → Type 0
 AreNested t path n [] = Unit {0}
 AreNested t path n (e ∷ es) = (e.depth ≤ n) × Fits t path e × AreNested t path e.depth es
 
 -- a walk is at a node, of this path and position, and has these entries still to try
-pub record IsWalking (word : ℕ → ℕ) (stops : ℕ → Bool) (t : Tree) (path : List ℕ) (position : ℕ)
-    (es : List Entry) : Type 0 where
+pub record IsWalking {L : Type 0} (word : ℕ → ℕ) (stops : L → Bool) (t : Tree L)
+    (path : List ℕ) (position : ℕ) (es : List Entry) : Type 0 where
   pub ends : first_stop stops (order word position (below t path) ++ order_on word t path es) ≡
       first_stop stops (order word 0 t)
   pub nested : AreNested t path (length path) es
@@ -52,8 +52,8 @@ pub record IsWalking (word : ℕ → ℕ) (stops : ℕ → Bool) (t : Tree) (pat
   pub leads : Leads t path
 
 -- a walk has passed a node, and has these entries still to try, with fewer nodes than so many
-pub record IsLeft (word : ℕ → ℕ) (stops : ℕ → Bool) (t : Tree) (path : List ℕ) (most : ℕ)
-    (es : List Entry) : Type 0 where
+pub record IsLeft {L : Type 0} (word : ℕ → ℕ) (stops : L → Bool) (t : Tree L) (path : List ℕ)
+    (most : ℕ) (es : List Entry) : Type 0 where
   pub ends : first_stop stops (order_on word t path es) ≡ first_stop stops (order word 0 t)
   pub nested : AreNested t path (length path) es
   pub few : size_on t path es < most
@@ -61,8 +61,9 @@ pub record IsLeft (word : ℕ → ℕ) (stops : ℕ → Bool) (t : Tree) (path :
   pub leads : Leads t path
 
 -- what the arrival at a node comes to: the draw stops there, or goes on
-abbrev pub Arrives : (ℕ → ℕ) → (ℕ → Bool) → Tree → List ℕ → List Entry → List Entry → Bool → Type 0
-Arrives word stops t path es fs true = (l : ℕ) × (leaf_of (below t path) ≡ Some l) ×
+abbrev pub Arrives : {L : Type 0} → (ℕ → ℕ) → (L → Bool) → Tree L → List ℕ → List Entry → List Entry →
+    Bool → Type 0
+Arrives {L = L} word stops t path es fs true = (l : L) × (leaf_of (below t path) ≡ Some l) ×
     (first_stop stops (order word 0 t) ≡ Some l)
-Arrives word stops t path es fs false =
+Arrives {L = L} word stops t path es fs false =
     IsLeft word stops t path (size (below t path) + size_on t path es) fs
