@@ -1,17 +1,20 @@
 -- The first leaf at which a draw stops is the one that an instant takes.
-use Rattle.std.proofs.Common.{◌≡◌, ℕ, Bool, true, false, ◌||◌, nat_lt, if◌then◌else◌, List, [], ◌∷◌, Some, None, is_some, ℤ, refl, ap, sym, ◌∙◌}
+use Rattle.std.proofs.Common.{◌≡◌, ℕ, Bool, true, false, ◌||◌, nat_lt, if◌then◌else◌, List, [], ◌∷◌, map, option_map, Some, None, is_some, ℤ, refl, ap, sym, ◌∙◌}
 use Rattle.std.specs.declared.option.Option.{Option}
 use Rattle.lt_formula.specs.Solution.{or_else}
 use Rattle.lt_space.specs.Formula.{Formula}
-use Rattle.lt_term.specs.Evaluated.{Outlook, vanish, nothing, raised, faulty, go}
+use Rattle.lt_lazy.specs.Order.{first_stop}
+use Rattle.lt_term.specs.Evaluated.{Outlook, vanish, nothing, raised, faulty, go, evaluated}
 use Rattle.lt_term.specs.Process.{Process}
+use Rattle.lt_term.specs.Tree.{Tree}
 use Rattle.lt_formula.specs.Expression.{Expression}
-use Rattle.lt_instant.specs.Drawn.{Met, Draw, behind, first_that, taken_of}
-use Rattle.lt_instant.specs.Instant.{Leaf, is_live, is_over, taken_in}
+use Rattle.lt_instant.specs.Drawn.{Met, Draw, behind, draw_of, first_that, taken_of}
+use Rattle.lt_instant.specs.Instant.{Leaf, is_live, is_over}
 use Rattle.lt_instant.specs.Solved.{need_of, solution_of}
 use Rattle.lt_instant.specs.declared.moment.Moment.{Moment}
 use Rattle.lt_instant.specs.inner.Found.{over, solved_by, is_stop}
-use Rattle.lt_instant.specs.inner.MomentView.{configuration_of, scene_of, stop_of, stops_of, tree_of, word_of, worth_of}
+use Rattle.lt_instant.specs.inner.MomentView.{scene_of, stops_of, word_of, worth_of}
+use Rattle.lt_instant.specs.inner.Takes.{due_leaf}
 use Rattle.lt_instant.specs.inner.Walk.{draw_along, order}
 use Rattle.lt_instant.proofs.Orders.{draw_is_along}
 
@@ -47,9 +50,35 @@ stops_agree m (raised z) = refl
 stops_agree m (faulty f) = refl
 stops_agree m (go f ls n) = go_stops (need_of (scene_of m) ls f) (nat_lt m.budget (need_of (scene_of m) ls f)) (solution_of (scene_of m) (word_of m) ls f)
 
-pub stop_is_taken : (m : Moment) → stop_of m ≡ taken_in (scene_of m) m.words.now.seed m.budget (configuration_of m) m.inputs.now
-stop_is_taken m =
-    let ms : List (Met Formula (Process Expression)) = order (worth_of m) (word_of m) 0 (tree_of m) in
-    ap (λ (d : Draw Formula (Process Expression)). d.drawn) (draw_is_along (stops_of m) (word_of m) (worth_of m) 0 (tree_of m))
-    ∙ sym (taken_along (is_live (scene_of m) (word_of m)) (is_over (scene_of m) m.budget) (stops_of m) (stops_agree m) ms)
-    ∙ ap (taken_of (is_over (scene_of m) m.budget)) (sym (draw_is_along (is_live (scene_of m) (word_of m)) (word_of m) (worth_of m) 0 (tree_of m)))
+-- The leaf that is drawn.
+
+module _ {F N : Type 0} (stops : Outlook F N → Bool) where
+  first_by : (m : Met F N) (rest : Draw F N) (o : Option (Outlook F N)) (b : Bool) → option_map (λ (x : Met F N). x.outlook) rest.drawn ≡ o
+      → option_map (λ (x : Met F N). x.outlook) (behind (m ∷ []) (if b then Some m else None) rest).drawn ≡ (if b then Some m.outlook else o)
+  first_by m rest o true h = refl
+  first_by m rest o false h = h
+
+  -- the first of some leaves at which a draw stops
+  pub first_drawn : (ms : List (Met F N)) → option_map (λ (x : Met F N). x.outlook) (draw_along stops ms).drawn ≡ first_stop stops (map (λ (x : Met F N). x.outlook) ms)
+  first_drawn [] = refl
+  first_drawn (m ∷ ms) = first_by m (draw_along stops ms) (first_stop stops (map (λ (x : Met F N). x.outlook) ms)) (stops m.outlook) (first_drawn ms)
+
+module _ {A B : Type 0} (f : A → B) (stops : B → Bool) where
+  mapped_by : (a : A) (o : Option B) (p : Option A) (b : Bool) → o ≡ option_map f p → (if b then Some (f a) else o) ≡ option_map f (if b then Some a else p)
+  mapped_by a o p true h = refl
+  mapped_by a o p false h = h
+
+  -- it is the first of those that it comes from
+  pub first_mapped : (xs : List A) → first_stop stops (map f xs) ≡ option_map f (first_stop (λ a. stops (f a)) xs)
+  first_mapped [] = refl
+  first_mapped (a ∷ xs) = mapped_by a (first_stop stops (map f xs)) (first_stop (λ x. stops (f x)) xs) (stops (f a)) (first_mapped xs)
+
+-- what an instant takes of a tree by the rules is the first leaf at which a draw stops
+pub taken_first : (m : Moment) (t : Tree Expression (Process Expression))
+    → due_leaf (taken_of (is_over (scene_of m) m.budget) (draw_of (word_of m) (is_live (scene_of m) (word_of m)) (evaluated (worth_of m) t)))
+    ≡ first_stop (stops_of m) (map (λ (x : Met Formula (Process Expression)). x.outlook) (order (worth_of m) (word_of m) 0 t))
+taken_first m t =
+    let ms : List (Met Formula (Process Expression)) = order (worth_of m) (word_of m) 0 t in
+    ap (λ d. due_leaf (taken_of (is_over (scene_of m) m.budget) d)) (draw_is_along (is_live (scene_of m) (word_of m)) (word_of m) (worth_of m) 0 t)
+    ∙ ap due_leaf (taken_along (is_live (scene_of m) (word_of m)) (is_over (scene_of m) m.budget) (stops_of m) (stops_agree m) ms)
+    ∙ first_drawn (stops_of m) ms

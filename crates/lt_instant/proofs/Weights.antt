@@ -1,8 +1,7 @@
 -- Weights, one after another.
-use Rattle.std.proofs.Common.{◌≡◌, ◌<◌, ◌≤◌, ◌+◌, ℕ, IsTrue, List, [], ◌∷◌, ◌++◌, Ok, Err, IfOk, length, drop, get_or, refl, ap, sym, subst, ◌∙◌, append_assoc, append-nil, map}
+use Rattle.std.proofs.Common.{◌≡◌, ◌<◌, ◌≤◌, ◌+◌, ℕ, IsTrue, List, [], ◌∷◌, ◌++◌, Ok, Err, length, drop, get_or, refl, ap, sym, subst, ◌∙◌, append_assoc, append-nil, map}
 use Rattle.std.proofs.lemmas.List.{drop_all, drop_more}
 use Rattle.std.specs.List.{list_all}
-use Rattle.std.specs.declared.alloc.AllocError.{AllocError}
 use Rattle.std.specs.declared.option.Option.{Option}
 use Rattle.std.specs.declared.result.Result.{Result}
 use Rattle.lt_num.specs.declared.fault.Arith.{Arith}
@@ -17,10 +16,9 @@ use Rattle.lt_term.specs.Within.{Tests}
 use Rattle.lt_term.specs.declared.scenario.Scenario.{Scenario}
 use Rattle.lt_term.specs.declared.tree.Weight as code
 use Rattle.lt_instant.specs.declared.moment.Moment.{Moment}
-use Rattle.lt_instant.specs.declared.weighing.Weighed.{Weighed}
-use Rattle.lt_instant.specs.inner.MomentView.{configuration_of, meaning_of, scene_of, valuation_with, worth_of}
-use Rattle.lt_instant.specs.inner.Walk.{with_weight, worths}
-use Rattle.lt_instant.specs.inner.Worths.{known_worth, known_worths, weighed}
+use Rattle.lt_instant.specs.inner.MomentView.{configuration_of, meaning_of, scene_of, valuation_with, weigher_of, worth_of}
+use Rattle.lt_instant.specs.inner.Worths.{known_worth, known_worths}
+use Rattle.lt_join.specs.Valued.{with_worth, worths}
 
 -- values before others, where none of these is a fault
 abbrev pub behind_values : List ℕ → Result (List ℕ) Arith → Result (List ℕ) Arith
@@ -28,7 +26,7 @@ behind_values values (Ok ws) = Ok (values ++ ws)
 behind_values values (Err fault) = Err fault
 
 -- one more of them
-behind_more : (us vs : List ℕ) (n : ℕ) (r : Result (List ℕ) Arith) → vs ≡ us ++ n ∷ [] → behind_values us (with_weight (Ok n) r) ≡ behind_values vs r
+behind_more : (us vs : List ℕ) (n : ℕ) (r : Result (List ℕ) Arith) → vs ≡ us ++ n ∷ [] → behind_values us (with_worth (Ok n) r) ≡ behind_values vs r
 behind_more us vs n (Ok ws) e = ap (λ (zs : List ℕ). Ok zs) (sym (append_assoc us (n ∷ []) ws) ∙ ap (λ zs. zs ++ ws) (sym e))
 behind_more us vs n (Err fault) e = refl
 
@@ -40,7 +38,7 @@ module _ (s : Scenario) (v : Valuation) (ws : List code.Weight) (i : ℕ) (us : 
   weights_more d vs n l h e p =
       h
       ∙ ap (λ xs. behind_values us (known_worths s v (map weight xs))) (drop_more ws i d l)
-      ∙ ap (λ x. behind_values us (with_weight x (known_worths s v (map weight (drop (i + 1) ws))))) (sym e)
+      ∙ ap (λ x. behind_values us (with_worth x (known_worths s v (map weight (drop (i + 1) ws))))) (sym e)
       ∙ behind_more us vs n (known_worths s v (map weight (drop (i + 1) ws))) p
 
   -- the next one has a fault
@@ -48,7 +46,7 @@ module _ (s : Scenario) (v : Valuation) (ws : List code.Weight) (i : ℕ) (us : 
   weights_fault d fault l h e =
       sym (h
       ∙ ap (λ xs. behind_values us (known_worths s v (map weight xs))) (drop_more ws i d l)
-      ∙ ap (λ x. behind_values us (with_weight x (known_worths s v (map weight (drop (i + 1) ws))))) (sym e))
+      ∙ ap (λ x. behind_values us (with_worth x (known_worths s v (map weight (drop (i + 1) ws))))) (sym e))
 
   -- there is no other
   pub weights_none : length ws ≤ i → all ≡ behind_values us (known_worths s v (map weight (drop i ws))) → Ok us ≡ all
@@ -79,13 +77,11 @@ module _ (m : Moment) (ls : Lasts) where
   known_one (more i done) = refl
   known_one (stop i done) = refl
 
-  pub known_all : (ws : List (Weight ℕ)) → known_worths m.scenario.now known_here ws ≡ worths (worth_of m) ls (map (weight_mapped (meaning_of m.scenario.now.table)) ws)
+  pub known_all : (ws : List (Weight ℕ)) → known_worths m.scenario.now known_here ws ≡ worths (weigher_of m) ls ws
   known_all [] = refl
-  known_all (w ∷ ws) = λ i. with_weight (known_one w i) (known_all ws i)
+  known_all (w ∷ ws) = λ i. with_worth (known_one w i) (known_all ws i)
 
   -- what weights are worth, by what is known
-  pub weighed_all : (r : Result Weighed AllocError) (v : Valuation) (locals : List (Option Value)) (us : List (Weight ℕ)) → v ≡ valuation_with m locals → locals ≡ earlier_locals_from ls 0 (scene_of m).locals
-      → IfOk r (λ w. weighed w ≡ known_worths m.scenario.now v us) → IfOk r (λ w. weighed w ≡ worths (worth_of m) ls (map (weight_mapped (meaning_of m.scenario.now.table)) us))
-  weighed_all (Err a) v locals us k l h = tt
-  weighed_all (Ok w) v locals us k l h =
-      h ∙ ap (λ x. known_worths m.scenario.now x us) k ∙ ap (λ pls. known_worths m.scenario.now (valuation_with m pls) us) l ∙ known_all us
+  pub weighed_all : (v : Valuation) (locals : List (Option Value)) (us : List (Weight ℕ)) → v ≡ valuation_with m locals → locals ≡ earlier_locals_from ls 0 (scene_of m).locals → known_worths m.scenario.now v us ≡ worths (weigher_of m) ls us
+  weighed_all v locals us k l =
+      ap (λ x. known_worths m.scenario.now x us) k ∙ ap (λ pls. known_worths m.scenario.now (valuation_with m pls) us) l ∙ known_all us

@@ -8,9 +8,11 @@ pub mod Instant
 pub mod Legal
 -- where a run of the code stands
 pub mod StandingView
--- what the code takes of a tree
+-- what the code takes of what a term offers
 pub mod TakenView
 -- the solver of a scenario
 pub mod SolverView
+-- what an instant works with
+pub mod Equipment
 -- words of the private functions alone
 pub mod inner

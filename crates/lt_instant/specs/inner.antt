@@ -1,10 +1,12 @@
 -- Words of the private functions alone.
--- how the code walks through a tree
+-- the order in which a draw arrives at leaves
 pub mod Walk
 -- what is known in an instant
 pub mod MomentView
 -- what is found at leaves
 pub mod Found
+-- what a draw goes through
+pub mod Exploring
 -- what weights are worth
 pub mod Worths
 -- ranges that have numbers

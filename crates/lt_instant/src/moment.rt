@@ -1,15 +1,15 @@
 //! What is known in an instant.
 
-ghost use Rattle.std.specs.Prelude.{◌≡◌, ◌≤◌, option_map};
+ghost use Rattle.std.specs.Prelude.{◌≡◌, ◌≤◌};
 ghost use Rattle.lt_num.specs.Bounds.{most_decimals};
 ghost use Rattle.lt_term.specs.Configuration.{earlier_inputs, earlier_outputs};
 ghost use Rattle.lt_term.specs.SceneView.{scene};
 ghost use Rattle.lt_instant.specs.Instant.{words_of};
 ghost use Rattle.lt_instant.specs.Solved.{targets_of};
-ghost use Rattle.lt_instant.specs.StandingView.{configuration, reaction};
+ghost use Rattle.lt_instant.specs.StandingView.{configuration_behind, previous_of};
 
 use crate::earlier::Earlier;
-use crate::standing::Standing;
+use crate::past::Past;
 use lt_draw::StepWords;
 use lt_formula::Known;
 use lt_num::Value;
@@ -21,8 +21,8 @@ pub struct Moment<'a> {
     /// The scenario.
     pub scenario: &'a Scenario,
 
-    /// Where the run stands.
-    pub standing: &'a Standing,
+    /// What the run has behind it.
+    pub past: &'a Past,
 
     /// The values of the inputs.
     pub inputs: &'a [Value],
@@ -40,13 +40,13 @@ pub struct Moment<'a> {
     pub budget: u64,
 
     ghost earlier_inputs_are: { earlier.now.inputs.items ≡
-        earlier_inputs (scene scenario.now) (option_map reaction standing.now.previous) },
+        earlier_inputs (scene scenario.now) (previous_of past.now) },
     ghost earlier_outputs_are: { earlier.now.outputs.items ≡
-        earlier_outputs (scene scenario.now) (option_map reaction standing.now.previous) },
-    ghost step_is: { words.now.step ≡ standing.now.step },
+        earlier_outputs (scene scenario.now) (previous_of past.now) },
+    ghost step_is: { words.now.step ≡ past.now.step },
     ghost targets_are: { targets.now ≡
         targets_of (scene scenario.now)
-        (words_of words.now.seed (configuration scenario.now.table standing.now)) },
+        (words_of words.now.seed (configuration_behind past.now)) },
 }
 
 impl Moment<'_> {

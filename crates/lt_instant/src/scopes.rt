@@ -1,40 +1,46 @@
 //! The scopes of instants, and the values of locals.
 
-ghost use Rattle.std.specs.Prelude.{◌≡◌, ◌++◌, IfOk, OnOk, false, if◌then◌else◌, map, slice_index_or};
+ghost use Rattle.std.specs.Prelude.{◌≡◌, ◌≤◌, ◌+◌, ◌++◌, [], false, true, if◌then◌else◌, length, map, replicate, slice_index_or, vec_capacity};
 ghost use Rattle.lt_num.specs.declared.value.Value.TheVariants as value;
 ghost use Rattle.lt_term.specs.SceneView.{scene, variable};
 ghost use Rattle.lt_instant.specs.Solved.{is_in_scope, marks_from, scope_of, scoped, values_of};
 
 use lt_num::Value;
 use lt_term::{Last, Scenario, Var};
-use std::alloc::{AllocError, Global};
 
-/// Whether outputs and locals are in scope: all outputs are, and then these locals.
-pub fn scope_of(
-    alloc: Global,
-    scenario: &Scenario,
-    lasts: &[(u32, Last)],
-) -> Result<Vec<bool>, AllocError>
-    ensures { IfOk result (λ marks. marks.items ≡ scope_of (scene scenario.now) lasts.now) }
+/// Finds whether outputs and locals are in scope: all outputs are, and then these locals.
+pub fn find_scope(marks: &mut Vec<bool>, scenario: &Scenario, lasts: &[(u32, Last)])
+    requires { length scenario.now.outputs.items + length scenario.now.locals.items ≤
+        vec_capacity marks.old }
+    ensures items { marks.new.items ≡ scope_of (scene scenario.now) lasts.now }
+    ensures room { vec_capacity marks.new ≡ vec_capacity marks.old }
 {
-    let mut marks = vec![in alloc; true; scenario.outputs.len()]?;
-    push_marks(&mut marks, &scenario.locals, lasts)?;
-    Ok(marks)
+    put_true(marks, scenario.outputs.len());
+    push_marks(marks, &scenario.locals, lasts);
+}
+
+// Puts so many true marks into a list.
+fn put_true(marks: &mut Vec<bool>, count: usize)
+    requires { count ≤ vec_capacity marks.old }
+    ensures items { marks.new.items ≡ replicate count true }
+    ensures room { vec_capacity marks.new ≡ vec_capacity marks.old }
+{
+    marks.clear();
+    for _made in 0..count {
+        marks.push_reserved(true);
+    }
 }
 
 // Adds whether locals are in scope.
-fn push_marks(
-    marks: &mut Vec<bool>,
-    locals: &[Var],
-    lasts: &[(u32, Last)],
-) -> Result<(), AllocError>
-    ensures { OnOk result (marks.new.items ≡ marks.old.items ++
-        marks_from lasts.now 0 (map variable locals.now)) }
+fn push_marks(marks: &mut Vec<bool>, locals: &[Var], lasts: &[(u32, Last)])
+    requires { length marks.old.items + length locals.now ≤ vec_capacity marks.old }
+    ensures items { marks.new.items ≡ marks.old.items ++
+        marks_from lasts.now 0 (map variable locals.now) }
+    ensures room { vec_capacity marks.new ≡ vec_capacity marks.old }
 {
     for (number, _local) in locals.iter().enumerate() {
-        marks.push(is_in_scope(lasts, number))?;
+        marks.push_reserved(is_in_scope(lasts, number));
     }
-    Ok(())
 }
 
 // Whether a local is in scope.
@@ -49,19 +55,16 @@ fn is_in_scope(lasts: &[(u32, Last)], number: usize) -> bool
     false
 }
 
-/// The values of locals: one out of its scope has none.
-pub fn scoped(
-    alloc: Global,
-    lasts: &[(u32, Last)],
-    values: &[Value],
-) -> Result<Vec<Option<Value>>, AllocError>
-    ensures { IfOk result (λ shown. shown.items ≡ scoped lasts.now 0 values.now) }
+/// Puts the values of locals into a list: one out of its scope has none.
+pub fn put_scoped(shown: &mut Vec<Option<Value>>, lasts: &[(u32, Last)], values: &[Value])
+    requires { length values.now ≤ vec_capacity shown.old }
+    ensures items { shown.new.items ≡ scoped lasts.now 0 values.now }
+    ensures room { vec_capacity shown.new ≡ vec_capacity shown.old }
 {
-    let mut shown = Vec::new(alloc);
+    shown.clear();
     for (number, value) in values.iter().enumerate() {
-        shown.push(shown_value(lasts, number, *value))?;
+        shown.push_reserved(shown_value(lasts, number, *value));
     }
-    Ok(shown)
 }
 
 // The value of a local, if it is in scope.
@@ -75,19 +78,16 @@ fn shown_value(lasts: &[(u32, Last)], number: usize, value: Value) -> Option<Val
     }
 }
 
-/// The locals in scope with their values.
-pub fn values_of(
-    alloc: Global,
-    lasts: &[(u32, Last)],
-    locals: &[Value],
-) -> Result<Vec<(u32, Value)>, AllocError>
-    ensures { IfOk result (λ values. values.items ≡ values_of lasts.now locals.now) }
+/// Puts the locals in scope with their values into a list.
+pub fn put_values(values: &mut Vec<(u32, Value)>, lasts: &[(u32, Last)], locals: &[Value])
+    requires { length lasts.now ≤ vec_capacity values.old }
+    ensures items { values.new.items ≡ values_of lasts.now locals.now }
+    ensures room { vec_capacity values.new ≡ vec_capacity values.old }
 {
-    let mut values = Vec::new(alloc);
+    values.clear();
     for (local, _) in lasts {
-        values.push((*local, value_at(locals, *local)))?;
+        values.push_reserved((*local, value_at(locals, *local)));
     }
-    Ok(values)
 }
 
 // The value of a local by its number, and false where there is none.

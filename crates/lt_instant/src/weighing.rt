@@ -1,72 +1,72 @@
 //! What the weights of a choice are worth in an instant.
 
-ghost use Rattle.std.specs.Prelude.{◌≡◌, ◌≤◌, IsTrue, IfOk, map};
+ghost use Rattle.std.specs.Prelude.{◌≡◌, ◌≤◌, IsTrue, length, map, vec_capacity};
 ghost use Rattle.std.specs.List.{list_all};
 ghost use Rattle.lt_num.specs.Bounds.{most_decimals};
 ghost use Rattle.lt_formula.specs.View.{valuation_of_known};
 ghost use Rattle.lt_term.specs.Configuration.{earlier_local, earlier_locals_from, turns_of, weight_of_answer};
-ghost use Rattle.lt_term.specs.Mapped.{weight_mapped, weight_passes};
+ghost use Rattle.lt_term.specs.Mapped.{weight_passes};
 ghost use Rattle.lt_term.specs.SceneView.{numbers_of, scene, variable};
 ghost use Rattle.lt_term.specs.TreeView.{weight};
-ghost use Rattle.lt_instant.specs.inner.MomentView.{meaning_of, worth_of};
-ghost use Rattle.lt_instant.specs.inner.Walk.{worths};
+ghost use Rattle.lt_join.specs.Valued.{worths};
+ghost use Rattle.lt_instant.specs.inner.MomentView.{scene_of, weigher_of};
 ghost use Rattle.lt_instant.specs.inner.Worths.{known_worth, known_worths, weighed};
 
 use crate::moment::Moment;
 use lt_formula::{Known, known_value};
 use lt_num::{Arith, Value};
 use lt_term::{Last, Scenario, Var, Weight};
-use std::alloc::{AllocError, Global};
 
-/// What the weights of a choice are worth.
-#[derive(Drop)]
-pub enum Weighed {
-    /// These numbers.
-    Values(Vec<u64>),
-
-    /// One of them has this fault, and none before it has any.
-    Fault(Arith),
-}
-
-/// What the weights of a choice are worth, in which these locals are in scope.
+/// Finds what the weights of a choice are worth, in which these locals are in scope; all locals were this in the instant
+/// before.
+///
+/// # Errors
+///
+/// The first fault of a weight.
 pub fn weigh(
-    alloc: Global,
     moment: &Moment<'_>,
     weights: &[Weight],
-    lasts: &[(u32, Last)],
-) -> Result<Weighed, AllocError>
-    requires { IsTrue (list_all (weight_passes (numbers_of moment.now.scenario.now))
+    scope: &[(u32, Last)],
+    locals: &[Option<Value>],
+    found: &mut Vec<u64>,
+) -> Result<(), Arith>
+    requires passes { IsTrue (list_all (weight_passes (numbers_of moment.now.scenario.now))
         (map weight weights.now)) }
-    ensures { IfOk result (λ w. weighed w ≡
-        worths (worth_of moment.now) lasts.now
-        (map (weight_mapped (meaning_of moment.now.scenario.now.table)) (map weight weights.now))) }
+    requires known { locals.now ≡ earlier_locals_from scope.now 0 (scene_of moment.now).locals }
+    requires room { length weights.now ≤ vec_capacity found.old }
+    ensures weighs { weighed result found.new.items ≡
+        worths (weigher_of moment.now) scope.now (map weight weights.now) }
+    ensures few { length found.new.items ≤ length weights.now }
+    ensures room { vec_capacity found.new ≡ vec_capacity found.old }
 {
-    let locals = earlier_locals(alloc, &moment.scenario.locals, lasts)?;
-    let known = moment.known(&locals);
-    weigh_under(alloc, moment.scenario, &known, weights)
+    let known = moment.known(locals);
+    weigh_under(moment.scenario, &known, weights, found)
 }
 
 // The same, by what is known.
 fn weigh_under(
-    alloc: Global,
     scenario: &Scenario,
     known: &Known<'_>,
     weights: &[Weight],
-) -> Result<Weighed, AllocError>
+    found: &mut Vec<u64>,
+) -> Result<(), Arith>
     requires passes { IsTrue (list_all (weight_passes (numbers_of scenario.now))
         (map weight weights.now)) }
     requires decimals { known.now.decimals ≤ most_decimals }
-    ensures { IfOk result (λ w. weighed w ≡
-        known_worths scenario.now (valuation_of_known known.now) (map weight weights.now)) }
+    requires room { length weights.now ≤ vec_capacity found.old }
+    ensures weighs { weighed result found.new.items ≡
+        known_worths scenario.now (valuation_of_known known.now) (map weight weights.now) }
+    ensures few { length found.new.items ≤ length weights.now }
+    ensures room { vec_capacity found.new ≡ vec_capacity found.old }
 {
-    let mut values = Vec::with_capacity(alloc, weights.len())?;
+    found.clear();
     for weight in weights {
         match weight_value(scenario, known, *weight) {
-            Ok(value) => values.push(value)?,
-            Err(fault) => return Ok(Weighed::Fault(fault)),
+            Ok(value) => found.push_reserved(value),
+            Err(fault) => return Err(fault),
         }
     }
-    Ok(Weighed::Values(values))
+    Ok(())
 }
 
 // What a weight is worth: an expression by its value, and a counted loop by the turns that are left or are enough.
@@ -110,20 +110,17 @@ fn turns_of(scenario: &Scenario, counter: u32) -> (u64, u64)
     }
 }
 
-/// What the locals were in the instant before, where these are in scope.
-pub fn earlier_locals(
-    alloc: Global,
-    locals: &[Var],
-    lasts: &[(u32, Last)],
-) -> Result<Vec<Option<Value>>, AllocError>
-    ensures { IfOk result (λ values. values.items ≡
-        earlier_locals_from lasts.now 0 (map variable locals.now)) }
+/// Puts what the locals were in the instant before into a list, where these are in scope.
+pub fn put_earlier_locals(values: &mut Vec<Option<Value>>, locals: &[Var], lasts: &[(u32, Last)])
+    requires { length locals.now ≤ vec_capacity values.old }
+    ensures items { values.new.items ≡
+        earlier_locals_from lasts.now 0 (map variable locals.now) }
+    ensures room { vec_capacity values.new ≡ vec_capacity values.old }
 {
-    let mut values = Vec::new(alloc);
+    values.clear();
     for (number, local) in locals.iter().enumerate() {
-        values.push(earlier_local(lasts, number, local.first))?;
+        values.push_reserved(earlier_local(lasts, number, local.first));
     }
-    Ok(values)
 }
 
 // What a local was.

@@ -1,5 +1,5 @@
 -- What a step of a machine is to a core.
-use Rattle.std.proofs.Common.{◌≡◌, ◌≢◌, ◌+◌, ◌<◌, ◌≤◌, ℕ, zero, suc, Bool, true, false, ◌&&◌, nat_lt, List, [], ◌∷◌, length, map, Some, None, if◌then◌else◌, ℤ, refl, ap, sym, ◌∙◌, subst, arith}
+use Rattle.std.proofs.Common.{◌≡◌, ◌+◌, ◌<◌, ◌≤◌, ℕ, zero, suc, Bool, true, false, ◌&&◌, nat_lt, List, [], ◌∷◌, length, map, Some, None, if◌then◌else◌, ℤ, refl, ap, sym, ◌∙◌, subst, arith}
 use Rattle.std.proofs.lemmas.List.{length-map}
 use Rattle.std.specs.declared.option.Option.{Option}
 use Rattle.lt_num.specs.declared.value.Value.{Value}
@@ -9,12 +9,11 @@ use Rattle.lt_instant.specs.Drawn.{Met}
 use Rattle.lt_instant.specs.Instant as i
 use Rattle.lt_instant.specs.Instant.{Instant, Leaf, values, normal, raise, deadlock, fault, too_large, go_instant, instant_of, is_too_large, leaf_instant, taken_in, taken_instant, words_of}
 use Rattle.lt_instant.specs.Solved.{need_of, solution_of, values_from}
-use Rattle.lt_loop.specs.Machine as loop
 use Rattle.lt_loop.specs.Machine.{MayStep, StepTells}
 use Rattle.lt_loop.specs.Scene as known
 use Rattle.lt_loop.specs.Scene.{fit, input_slots, may_hold, slot_of}
 use Rattle.lt_loop.specs.declared.machine.Outcome.TheVariants as outcome
-use Rattle.lt_step.specs.Machine.{IfRunning, IsRunning, Phase, State, Step, answered, finished, most_steps, outputs_in, outputs_of, running, started, step_in, step_of}
+use Rattle.lt_step.specs.Machine.{IfRunning, Phase, State, Step, answered, finished, most_steps, outputs_in, outputs_of, running, started, step_in, step_of}
 use Rattle.lt_step.specs.declared.machine.Outcome.{Outcome}
 use Rattle.lt_step.specs.declared.machine.Outcome.TheVariants as steps
 use Rattle.lt_term.specs.Configuration.{Configuration}
@@ -116,61 +115,45 @@ step_leaves : (m : State) (p : Phase) (inputs : List Value) → Leaves m p (step
 step_leaves m (running c locals) inputs = answered_leaves m c locals (instant_of m.scene m.seed m.budget c inputs) (instant_leads m.scene m.seed m.budget c inputs)
 step_leaves m finished inputs = (refl, tt, λ e. absurd (cc e))
 
--- what a step of the code tells, where memory doesn't run out
+-- what a step of the code tells
 abbrev Steps : State → List Value → Outcome → State → Type 0
-Steps old inputs r new = r ≢ steps.Memory → record { outcome = r; state = new } ≡ step_of old inputs
-
--- and where it does
-abbrev Starves : State → Outcome → State → Type 0
-Starves old r new = r ≡ steps.Memory → IsRunning old.phase × (new ≡ record old { phase = finished })
-
--- whatever an instant is, memory may run out in it
-any_starves : (x : loop.Instant State) (new : State) → StepTells x outcome.Memory new
-any_starves (loop.values m) new = tt
-any_starves (loop.over e) new = tt
+Steps old inputs r new = record { outcome = r; state = new } ≡ step_of old inputs
 
 module _ (old new : State) (inputs : List Value) where
   abbrev Tells : Outcome → Step → Type 0
   Tells r s = StepTells (instant_by s) (told r) new
 
+  own_tells : (r : Outcome) → Tells r (record { outcome = r; state = new })
+  own_tells steps.Values = refl
+  own_tells steps.Normal = refl
+  own_tells (steps.Raise z) = refl
+  own_tells steps.Deadlock = refl
+  own_tells (steps.Fault f) = refl
+  own_tells steps.TooLarge = refl
+  own_tells (steps.Budget n) = refl
+  own_tells steps.Ended = refl
+
   -- what a core is told is the instant of the rules
   pub step_tells : (r : Outcome) → Steps old inputs r new → StepTells (instant_by (step_of old inputs)) (told r) new
-  step_tells steps.Values h = let P : Step → Type 0 = Tells steps.Values in subst P (h (λ e. absurd (cc e))) refl
-  step_tells steps.Normal h = let P : Step → Type 0 = Tells steps.Normal in subst P (h (λ e. absurd (cc e))) refl
-  step_tells (steps.Raise z) h = let P : Step → Type 0 = Tells (steps.Raise z) in subst P (h (λ e. absurd (cc e))) refl
-  step_tells steps.Deadlock h = let P : Step → Type 0 = Tells steps.Deadlock in subst P (h (λ e. absurd (cc e))) refl
-  step_tells (steps.Fault f) h = let P : Step → Type 0 = Tells (steps.Fault f) in subst P (h (λ e. absurd (cc e))) refl
-  step_tells steps.TooLarge h = let P : Step → Type 0 = Tells steps.TooLarge in subst P (h (λ e. absurd (cc e))) refl
-  step_tells (steps.Budget n) h = let P : Step → Type 0 = Tells (steps.Budget n) in subst P (h (λ e. absurd (cc e))) refl
-  step_tells steps.Ended h = let P : Step → Type 0 = Tells steps.Ended in subst P (h (λ e. absurd (cc e))) refl
-  step_tells steps.Memory h = any_starves (instant_by (step_of old inputs)) new
+  step_tells r h = let P : Step → Type 0 = Tells r in subst P h (own_tells r)
 
   -- what holds of a machine after each step holds after a step of the code
-  by_step : (P : State → Type 0) (r : Outcome) → Steps old inputs r new → Starves old r new → P (step_of old inputs).state → P (record old { phase = finished }) → P new
-  by_step P steps.Values h w s f = let Q : Step → Type 0 = λ x. P x.state in subst Q (sym (h (λ e. absurd (cc e)))) s
-  by_step P steps.Normal h w s f = let Q : Step → Type 0 = λ x. P x.state in subst Q (sym (h (λ e. absurd (cc e)))) s
-  by_step P (steps.Raise z) h w s f = let Q : Step → Type 0 = λ x. P x.state in subst Q (sym (h (λ e. absurd (cc e)))) s
-  by_step P steps.Deadlock h w s f = let Q : Step → Type 0 = λ x. P x.state in subst Q (sym (h (λ e. absurd (cc e)))) s
-  by_step P (steps.Fault a) h w s f = let Q : Step → Type 0 = λ x. P x.state in subst Q (sym (h (λ e. absurd (cc e)))) s
-  by_step P steps.TooLarge h w s f = let Q : Step → Type 0 = λ x. P x.state in subst Q (sym (h (λ e. absurd (cc e)))) s
-  by_step P (steps.Budget n) h w s f = let Q : Step → Type 0 = λ x. P x.state in subst Q (sym (h (λ e. absurd (cc e)))) s
-  by_step P steps.Ended h w s f = let Q : Step → Type 0 = λ x. P x.state in subst Q (sym (h (λ e. absurd (cc e)))) s
-  by_step P steps.Memory h w s f = subst P (sym ((w refl).1)) f
+  by_step : (P : State → Type 0) (r : Outcome) → Steps old inputs r new → P (step_of old inputs).state → P new
+  by_step P r h s = let Q : Step → Type 0 = λ x. P x.state in subst Q (sym h) s
 
   -- the scenario stays
-  pub scene_stays : (r : Outcome) → Steps old inputs r new → Starves old r new → new.scene ≡ old.scene
-  scene_stays r h w = let P : State → Type 0 = λ m. m.scene ≡ old.scene in by_step P r h w (step_leaves old old.phase inputs).0 refl
+  pub scene_stays : (r : Outcome) → Steps old inputs r new → new.scene ≡ old.scene
+  scene_stays r h = let P : State → Type 0 = λ m. m.scene ≡ old.scene in by_step P r h (step_leaves old old.phase inputs).0
 
   -- the outputs are shown
-  pub step_shows : (r : Outcome) → Steps old inputs r new → Starves old r new → IsShown new
-  step_shows r h w = let P : State → Type 0 = IsShown in by_step P r h w (step_leaves old old.phase inputs).1 tt
+  pub step_shows : (r : Outcome) → Steps old inputs r new → IsShown new
+  step_shows r h = let P : State → Type 0 = IsShown in by_step P r h (step_leaves old old.phase inputs).1
 
   -- one instant was made more
   pub one_more : (r : Outcome) → Steps old inputs r new → (n : ℕ) → told r ≡ outcome.Values → made_in old.phase ≡ Some n → made_in new.phase ≡ Some (n + 1)
   one_more steps.Values h n v e =
-      let s : record { outcome = steps.Values; state = new } ≡ step_of old inputs = h (λ x. absurd (cc x)) in
       let P : Step → Type 0 = λ x. x.outcome ≡ steps.Values → (k : ℕ) → made_in old.phase ≡ Some k → made_in x.state.phase ≡ Some (k + 1) in
-      subst P (sym s) (step_leaves old old.phase inputs).2 refl n e
+      subst P (sym h) (step_leaves old old.phase inputs).2 refl n e
   one_more steps.Normal h n v e = absurd (cc)
   one_more (steps.Raise z) h n v e = absurd (cc)
   one_more steps.Deadlock h n v e = absurd (cc)
@@ -178,7 +161,6 @@ module _ (old new : State) (inputs : List Value) where
   one_more steps.TooLarge h n v e = absurd (cc)
   one_more (steps.Budget k) h n v e = absurd (cc)
   one_more steps.Ended h n v e = absurd (cc)
-  one_more steps.Memory h n v e = absurd (cc)
 
 -- a machine that hasn't stepped made none
 pub starts_shown : (m : State) (s : Scene) (seed budget : ℕ) → m ≡ started s seed budget → IsShown m

@@ -36,7 +36,6 @@ told steps.Deadlock = outcome.Over end.Deadlock
 told (steps.Fault f) = outcome.Over (end.Fault f)
 told steps.TooLarge = outcome.Over end.TooLarge
 told (steps.Budget n) = outcome.Over (end.Budget n)
-told steps.Memory = outcome.Memory
 
 -- The instant that a step makes. No step of the rules wants memory.
 abbrev pub instant_with : Outcome → State → Instant State

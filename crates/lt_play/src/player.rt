@@ -76,8 +76,8 @@ impl lt_loop::Machine for Player {
 
     ghost state = { player_state };
 
-    fn step(&mut self, alloc: Global, inputs: &[Value]) -> Outcome {
-        told(self.machine.step(alloc, inputs))
+    fn step(&mut self, _alloc: Global, inputs: &[Value]) -> Outcome {
+        told(self.machine.step(inputs))
     }
 
     fn outputs(&self) -> &[Value] {
@@ -121,6 +121,5 @@ fn told(outcome: lt_step::Outcome) -> Outcome
         lt_step::Outcome::Fault(fault) => Outcome::Over(ScenarioEnd::Fault(fault)),
         lt_step::Outcome::TooLarge => Outcome::Over(ScenarioEnd::TooLarge),
         lt_step::Outcome::Budget(need) => Outcome::Over(ScenarioEnd::Budget { need }),
-        lt_step::Outcome::Memory => Outcome::Memory,
     }
 }

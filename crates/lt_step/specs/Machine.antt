@@ -80,8 +80,3 @@ outputs_in finished = []
 abbrev pub locals_in : Phase → List (Option Value)
 locals_in (running c locals) = locals
 locals_in finished = []
-
--- the machine is running
-abbrev pub IsRunning : Phase → Type 0
-IsRunning (running c locals) = Unit {0}
-IsRunning finished = ⊥

@@ -23,5 +23,5 @@ machine_state m = record {
   scene = scene m.scenario;
   seed = m.words.seed;
   budget = m.budget;
-  phase = phase_of m.is_finished (standing_of m) m.locals.items;
+  phase = phase_of m.is_finished (standing_of m) m.standing.past.locals.items;
 }

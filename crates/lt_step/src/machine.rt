@@ -1,15 +1,14 @@
 //! The machine.
 
-ghost use Rattle.std.specs.Prelude.{◌≡◌, ◌≢◌, ◌≤◌, IsTrue, IfOk, length, map, string_bytes};
+ghost use Rattle.std.specs.Prelude.{◌≡◌, ◌≤◌, IsTrue, IfOk, length, map, string_bytes};
 ghost use Rattle.lt_num.specs.Bounds.{most_decimals};
-ghost use Rattle.lt_term.specs.SceneView.{numbers_of};
-ghost use Rattle.lt_term.specs.View.{process};
-ghost use Rattle.lt_term.specs.Within.{passes};
-ghost use Rattle.lt_instant.specs.SolverView.{IsSolverOf};
+ghost use Rattle.lt_instant.proofs.Public.{explores-prop};
+ghost use Rattle.lt_instant.specs.Equipment.{IsExplorerOf, IsPastOf, IsRoomOf};
+ghost use Rattle.lt_instant.specs.StandingView.{process_of};
 ghost use Rattle.lt_step.specs.inner.Done.{is_done_to};
 
 use lt_draw::StepWords;
-use lt_instant::{Solver, Standing, Taken, take_instant};
+use lt_instant::{Explorer, Past, Room, Standing, Taken, take_instant};
 use lt_num::{Arith, Value};
 use lt_term::{Memory, Scenario, Var, body_is_valid, turns_grow_by_one};
 use std::alloc::Global;
@@ -40,31 +39,28 @@ pub enum Outcome {
 
     /// An earlier step ended the run.
     Ended,
-
-    /// Memory ran out.
-    Memory,
 }
 
-/// Makes the instants of a scenario, one after another.
+/// Makes the instants of a scenario, one after another. All its room is reserved when it is made.
 #[derive(Drop)]
 pub struct Machine {
     scenario: Scenario,
     words: StepWords,
     budget: u64,
-    solver: Solver,
     standing: Standing,
-    locals: Vec<Option<Value>>,
+    room: Room,
     is_finished: bool,
-    ghost within: { IsTrue (passes (numbers_of scenario) (process standing.term)) },
-    ghost counted: { IsTrue (is_done_to standing.step (process standing.term)) },
-    ghost solves: { IsSolverOf scenario solver },
-    ghost in_step: { words.step ≡ standing.step },
+    ghost explores: { IsExplorerOf scenario standing.explorer } by { explores-prop scenario standing.explorer },
+    ghost behind: { IsPastOf scenario standing.past },
+    ghost roomy: { IsRoomOf scenario room },
+    ghost counted: { IsTrue (is_done_to standing.past.step (process_of standing.explorer)) },
+    ghost in_step: { words.step ≡ standing.past.step },
 }
 
 impl Machine {
     ghost use Rattle.lt_term.specs.Scene.{Scene};
     ghost use Rattle.lt_term.specs.SceneView.{scene, variable};
-    ghost use Rattle.lt_step.specs.Machine.{finished, most_steps, started, step_of, locals_in, outputs_in, IfRunning, IsRunning};
+    ghost use Rattle.lt_step.specs.Machine.{finished, most_steps, started, step_of, locals_in, outputs_in, IfRunning};
     ghost use Rattle.lt_step.specs.View.{machine_state};
 
     /// A machine that has not stepped, of any scenario. The seed names the words by which it draws, and no search
@@ -84,73 +80,53 @@ impl Machine {
         body_is_valid(&scenario);
         // A law that the proof needs: a bound of turns may be taken for a greater one.
         turns_grow_by_one();
-        let term = scenario.body.clone()?;
-        let solver = Solver::make(alloc, &scenario)?;
+        let explorer = Explorer::make(alloc, &scenario)?;
+        let past = Past::make(alloc, &scenario)?;
+        let room = Room::make(alloc, &scenario)?;
         Ok(Machine {
             scenario,
             words: StepWords::new(seed, 1),
             budget,
-            solver,
-            standing: Standing {
-                term,
-                step: 1,
-                previous: None,
-            },
-            locals: Vec::new(alloc),
+            standing: Standing { explorer, past },
+            room,
             is_finished: false,
         })
     }
 
     /// Makes the next instant. The inputs are what the controller answered in the instant before: one
     /// value for each input of the scenario, in their order. A machine makes at most 1,000,000 steps.
-    /// After an end every step answers `Ended` and changes nothing. Memory may run out at any instant,
-    /// which ends the run too.
-    pub fn step(&mut self, alloc: Global, inputs: &[Value]) -> Outcome
+    /// After an end every step answers `Ended` and changes nothing.
+    pub fn step(&mut self, inputs: &[Value]) -> Outcome
         requires inputs { length inputs.now ≡ length (machine_state self.old).scene.inputs }
         requires few { IfRunning (machine_state self.old).phase (λ c. c.step ≤ most_steps) }
-        ensures steps { result ≢ Outcome.Memory →
-            record { outcome = result; state = machine_state self.new } ≡
+        ensures { record { outcome = result; state = machine_state self.new } ≡
             step_of (machine_state self.old) inputs.now }
-        ensures memory { result ≡ Outcome.Memory → IsRunning (machine_state self.old).phase ×
-            (machine_state self.new ≡ record (machine_state self.old) { phase = finished }) }
     {
         if self.is_finished {
             return Outcome::Ended;
         }
         // A law that the proof needs: so few turns are done that one more can be told.
         turns_grow_by_one();
-        match take_instant(
-            alloc,
+        let taken = take_instant(
             &self.scenario,
-            &self.standing,
+            &mut self.standing,
             inputs,
             &self.words,
             self.budget,
-            &mut self.solver,
-        ) {
-            Ok(
-                Taken::Go {
-                    reaction,
-                    locals,
-                    next,
-                },
-            ) => {
+            &mut self.room,
+        );
+        match taken {
+            Taken::Go => {
                 self.words.next_step();
-                self.standing = Standing {
-                    term: next,
-                    step: self.standing.step + 1,
-                    previous: Some(reaction),
-                };
-                self.locals = locals;
+                self.standing.past.step += 1;
                 Outcome::Values
             }
-            Ok(Taken::Vanish) => self.end(Outcome::Normal),
-            Ok(Taken::Raise(exception)) => self.end(Outcome::Raise(exception)),
-            Ok(Taken::Fault(fault)) => self.end(Outcome::Fault(fault)),
-            Ok(Taken::Nothing) => self.end(Outcome::Deadlock),
-            Ok(Taken::TooLarge) => self.end(Outcome::TooLarge),
-            Ok(Taken::Budget(need)) => self.end(Outcome::Budget(need)),
-            Err(Memory) => self.end(Outcome::Memory),
+            Taken::Vanish => self.end(Outcome::Normal),
+            Taken::Raise(exception) => self.end(Outcome::Raise(exception)),
+            Taken::Fault(fault) => self.end(Outcome::Fault(fault)),
+            Taken::Nothing => self.end(Outcome::Deadlock),
+            Taken::TooLarge => self.end(Outcome::TooLarge),
+            Taken::Budget(need) => self.end(Outcome::Budget(need)),
         }
     }
 
@@ -169,10 +145,10 @@ impl Machine {
     pub fn outputs(&self) -> &[Value]
         ensures { result.now ≡ outputs_in (machine_state self.now).phase }
     {
-        match &self.standing.previous {
-            Some(reaction) if !self.is_finished => &reaction.outputs,
-            _ => &[],
+        if self.is_finished || !self.standing.past.has_reacted {
+            return &[];
         }
+        &self.standing.past.reaction.outputs
     }
 
     /// The locals of the last instant, in their order, where one out of its scope has no value: none before the
@@ -180,7 +156,10 @@ impl Machine {
     pub fn locals(&self) -> &[Option<Value>]
         ensures { result.now ≡ locals_in (machine_state self.now).phase }
     {
-        if self.is_finished { &[] } else { &self.locals }
+        if self.is_finished {
+            return &[];
+        }
+        &self.standing.past.locals
     }
 
     /// The inputs of the scenario.

@@ -1,41 +1,49 @@
 -- What is taken at a leaf.
-use Rattle.std.specs.Prelude.{◌≡◌, ℕ, IsTrue, List, ℤ, Some, slice_get}
+use Rattle.std.specs.Prelude.{◌≡◌, ℕ, suc, Bool, true, false, List, None, Some, option_map}
+use Rattle.std.specs.declared.option.Option.{Option}
+use Rattle.lt_formula.specs.Expression.{Expression}
+use Rattle.lt_formula.specs.declared.table.Table.{Table}
+use Rattle.lt_num.specs.declared.value.Value.{Value}
+use Rattle.lt_space.specs.Formula.{Formula}
+use Rattle.lt_term.specs.Advanced.{advanced}
+use Rattle.lt_term.specs.Configuration.{Configuration}
 use Rattle.lt_term.specs.Counted.{IsDoneTo}
-use Rattle.lt_term.specs.Process.{Process}
-use Rattle.lt_term.specs.Tree.{Lasts}
-use Rattle.lt_term.specs.View.{process, process_over}
-use Rattle.lt_term.specs.Within.{Tests, passes}
-use Rattle.lt_term.specs.declared.term.Term.{Term}
-use Rattle.lt_term.specs.declared.tree.TreeNode.{TreeNode}
-use Rattle.lt_term.specs.declared.tree.TreeNode.TheVariants as nodes
-use Rattle.lt_instant.specs.Instant.{Leaf, go_instant, leaf_instant}
-use Rattle.lt_instant.specs.TakenView.{instant_by, NextOf}
-use Rattle.lt_instant.specs.declared.moment.Moment.{Moment}
-use Rattle.lt_instant.specs.declared.taking.Taken.{Taken}
-use Rattle.lt_instant.specs.declared.walk.Drawn.{Drawn}
-use Rattle.lt_instant.specs.inner.Found.{finding}
-use Rattle.lt_instant.specs.inner.MomentView.{configuration_of, found_of, node_over, scene_of, worth_of}
-use Rattle.lt_instant.specs.inner.Walk.{seen, seen_leaf}
+use Rattle.lt_term.specs.Evaluated.{go}
+use Rattle.lt_term.specs.Process.{Process, with_constraints}
+use Rattle.lt_term.specs.SceneView.{scene}
+use Rattle.lt_term.specs.declared.scenario.Scenario.{Scenario}
+use Rattle.lt_track.specs.View as track
+use Rattle.lt_instant.specs.Drawn.{Met}
+use Rattle.lt_instant.specs.Instant.{Leaf, taken_in, words_of}
+use Rattle.lt_instant.specs.SolverView.{solver_values}
+use Rattle.lt_instant.specs.StandingView.{process_of}
+use Rattle.lt_instant.specs.declared.explorer.Explorer.{Explorer}
+use Rattle.lt_instant.specs.inner.Found.{finding, found_at}
+use Rattle.lt_instant.specs.inner.MomentView.{meaning_of}
 
--- a fact of what comes after a node, if anything does
-abbrev pub AfterNode : (Process ℕ → Type 0) → TreeNode → Type 0
-AfterNode P (nodes.Go cs ls next) = P (process next.value)
-AfterNode P other = Unit {0}
+-- An explorer is behind a leaf: where that is an instant, it has its locals and what comes next, in which at most one more
+-- turn is done.
+abbrev pub IsBehind : Table → Explorer → Leaf → Type 0
+IsBehind table e (go f ls n) =
+    (e.walk.lasts.items ≡ ls) × (with_constraints (meaning_of table) (track.next e.track) ≡ n) ×
+    ((k : ℕ) (values : List (ℕ × Value)) → IsDoneTo k (process_of e) →
+    IsDoneTo (suc k) (advanced values (track.next e.track)))
+IsBehind table e other = Unit {0}
 
--- This is taken at a node where this was found: its instant is the leaf's, and what is left to be done has the numbers of what
--- comes after the leaf, and its turns.
-pub record IsTakenOf (m : Moment) (raws : List ℤ) (n : TreeNode) (x : Drawn) (k : Taken) : Type 0 where
-  pub takes : (o : Leaf) → seen (worth_of m) (node_over m.scenario.now.table n) ≡ seen_leaf o → finding raws x.finding ≡ found_of m o
-      → instant_by m.scenario.now.table (configuration_of m) k ≡ leaf_instant (scene_of m) m.words.now.seed m.budget (configuration_of m) m.inputs.now o
-  pub within : (tests : Tests ℕ) → AfterNode (λ p. IsTrue (passes tests p)) n → NextOf (λ p. IsTrue (passes tests p)) k
-  pub done : (j : ℕ) → AfterNode (IsDoneTo j) n → NextOf (IsDoneTo j) k
+-- the leaf that an instant takes by the rules, if any
+abbrev pub due_leaf : Option (Met Formula (Process Expression)) → Option Leaf
+due_leaf x = option_map (λ m. m.outlook) x
 
--- the same, for the node at a position
-abbrev pub IsTakenAt : Moment → List ℤ → List TreeNode → Drawn → Taken → Type 0
-IsTakenAt m raws ns x k = (n : TreeNode) → slice_get ns x.position ≡ Some n → IsTakenOf m raws n x k
+-- an explorer has found the leaf that an instant takes by the rules
+pub record IsDue (s : Scenario) (seed most : ℕ) (c : Configuration) (inputs : List Value)
+    (e : Explorer) : Type 0 where
+  pub leaf : Leaf
+  pub due : due_leaf (taken_in (scene s) seed most c inputs) ≡ Some leaf
+  pub finds : finding (solver_values e.solver) e.found ≡
+      found_at (scene s) (words_of seed c) most leaf
+  pub behind : IsBehind s.table e leaf
 
--- This is taken at an instant in which all that is drawn has these raw numbers.
-pub record IsGoing (m : Moment) (ls : Lasts) (next : Term) (raws : List ℤ) (k : Taken) : Type 0 where
-  pub takes : instant_by m.scenario.now.table (configuration_of m) k ≡ go_instant (scene_of m) (configuration_of m) m.inputs.now ls (process_over m.scenario.now.table next) (Some raws)
-  pub within : (tests : Tests ℕ) → IsTrue (passes tests (process next)) → NextOf (λ p. IsTrue (passes tests p)) k
-  pub done : (j : ℕ) → IsDoneTo j (process next) → NextOf (IsDoneTo j) k
+-- it has found it, or there is none
+abbrev pub Draws : Scenario → ℕ → ℕ → Configuration → List Value → Explorer → Bool → Type 0
+Draws s seed most c inputs e true = IsDue s seed most c inputs e
+Draws s seed most c inputs e false = due_leaf (taken_in (scene s) seed most c inputs) ≡ None

@@ -1,4 +1,4 @@
-use Rattle.std.proofs.Common.{map, arith}
+use Rattle.std.proofs.Common.{◌+◌, ◌∙◌, ap, length, length-append, map, arith}
 use Rattle.lt_formula.specs.View.{valuation_of_known}
 use Rattle.lt_term.specs.SceneView.{numbers_of}
 use Rattle.lt_term.specs.TreeView.{weight}
@@ -16,18 +16,20 @@ loop-weight-preserved c =
     let v = valuation_of_known c.args.known.now in
     let ws = c.args.weights.now in
     record {
-      rest = weights_more s v ws c.loop-weight.weight-index c.loop-weight.values.items (known_worths s v (map weight ws)) _ c.push.new.self.items c.in-Ok.value c.loop-weight-test.true c.loop-weight.invariant.rest c.in-Ok.ensures c.in_ok-push-in-Ok.ensures.items;
+      rest = weights_more s v ws c.loop-weight.weight-index c.loop-weight.found.items (known_worths s v (map weight ws)) _ c.push_reserved.new.self.items c.in-Ok.value c.loop-weight-test.true c.loop-weight.invariant.rest c.in-Ok.ensures c.push_reserved.ensures.items;
+      len = ap length c.push_reserved.ensures.items ∙ length-append c.loop-weight.found.items _ ∙ ap (λ n. n + 1) c.loop-weight.invariant.len;
+      room = c.push_reserved.ensures.capacity ∙ c.loop-weight.invariant.room;
       passes = passes_next (numbers_of s) ws c.loop-weight.weight-index (weights.Exp 0) c.loop-weight-test.true c.loop-weight.invariant.passes;
     }
 
-pub returns-in-Err : goal.returns-in-Err
-returns-in-Err c =
+pub returns-in-Err-clause-weighs : goal.returns-in-Err-clause-weighs
+returns-in-Err-clause-weighs c =
     let s = c.args.scenario.now in
     let v = valuation_of_known c.args.known.now in
-    weights_fault s v c.args.weights.now c.loop-weight.weight-index c.loop-weight.values.items (known_worths s v (map weight c.args.weights.now)) _ c.in-Err.fault c.loop-weight-test.true c.loop-weight.invariant.rest c.in-Err.ensures
+    weights_fault s v c.args.weights.now c.loop-weight.weight-index c.loop-weight.found.items (known_worths s v (map weight c.args.weights.now)) _ c.in-Err.fault c.loop-weight-test.true c.loop-weight.invariant.rest c.in-Err.ensures
 
-pub returns : goal.returns
-returns c =
+pub returns-clause-weighs : goal.returns-clause-weighs
+returns-clause-weighs c =
     let s = c.args.scenario.now in
     let v = valuation_of_known c.args.known.now in
-    weights_none s v c.args.weights.now c.loop-weight.weight-index c.loop-weight.values.items (known_worths s v (map weight c.args.weights.now)) (omega (arith, c.loop-weight-test.false)) c.loop-weight.invariant.rest
+    weights_none s v c.args.weights.now c.loop-weight.weight-index c.loop-weight.found.items (known_worths s v (map weight c.args.weights.now)) (omega (arith, c.loop-weight-test.false)) c.loop-weight.invariant.rest

@@ -1,8 +1,0 @@
-use Rattle.std.proofs.Common.{◌≡◌, ◌++◌, map, drop}
-use Rattle.lt_term.specs.Configuration.{earlier_locals_from}
-use Rattle.lt_term.specs.SceneView.{variable}
-use Rattle.lt_instant.proofs.weighing.earlier_locals.Given as goal
-
--- the values so far, and those that are left to add, are all of them
-abbrev pub invariant-loop-number : goal.invariant-loop-number
-invariant-loop-number l = l.values.items ++ earlier_locals_from l.lasts l.number (map variable (drop l.number l.locals)) ≡ earlier_locals_from l.lasts 0 (map variable l.locals)

@@ -1,0 +1,74 @@
+//! What a draw goes through.
+
+ghost use Rattle.std.specs.Prelude.{◌≡◌, ◌≤◌, IfOk, length};
+ghost use Rattle.lt_instant.specs.Equipment.{IsExplorerOf};
+ghost use Rattle.lt_instant.specs.StandingView.{process_of};
+ghost use Rattle.lt_term.specs.View.{process};
+
+use crate::finding::Finding;
+use crate::solver::Solver;
+use lt_num::Value;
+use lt_place::room_for;
+use lt_term::{Memory, Scenario, body_is_valid};
+use lt_track::{Track, Walk, body_is_at_start, node_count, track_of};
+use std::alloc::Global;
+
+/// Goes through what a body offers where a run stands, and keeps what it has found there. All its room is reserved when
+/// it is made.
+#[derive(Drop)]
+pub struct Explorer {
+    /// The body, and where the run stands in it.
+    pub track: Track,
+
+    /// What was met on the way to the node that was visited last.
+    pub walk: Walk,
+
+    /// Room for the way to the parts of a choice.
+    pub place: lt_place::Room,
+
+    /// The solver of the scenario.
+    pub solver: Solver,
+
+    /// What the locals were in the instant before, as they are in scope at the node that was visited last.
+    pub locals: Vec<Option<Value>>,
+
+    /// Room for the locals in scope with their values.
+    pub values: Vec<(u32, Value)>,
+
+    /// What was found at the leaf that was visited last.
+    pub found: Finding,
+}
+
+impl Explorer {
+    /// Goes through the body of a scenario, from its beginning.
+    ///
+    /// # Errors
+    ///
+    /// Want of memory; also where the scenario has more expressions or nodes than a solver has room for.
+    pub fn make(alloc: Global, scenario: &Scenario) -> Result<Explorer, Memory>
+        ensures explores { IfOk result (IsExplorerOf scenario.now) }
+        ensures begins { IfOk result (λ e. process_of e ≡ process scenario.now.body) }
+    {
+        // Laws that the proof needs: what holds of the body of a scenario.
+        body_is_at_start(scenario);
+        body_is_valid(scenario);
+        let track = track_of(alloc, &scenario.body)?;
+        let Some(nodes) = node_count(&track) else {
+            return Err(Memory);
+        };
+        let walk = Walk::make(alloc, nodes)?;
+        let place = room_for(alloc, &track)?;
+        let solver = Solver::make(alloc, scenario, nodes)?;
+        let locals = Vec::with_capacity(alloc, scenario.locals.len())?;
+        let values = Vec::with_capacity(alloc, nodes)?;
+        Ok(Explorer {
+            track,
+            walk,
+            place,
+            solver,
+            locals,
+            values,
+            found: Finding::Passed,
+        })
+    }
+}
