@@ -5,4 +5,5 @@ pub mod Gives
 pub mod Runs
 pub mod Stresses
 pub mod Texts
+pub mod Wants
 pub mod Wholes

@@ -3,7 +3,7 @@ use Rattle.std.proofs.Common.{◌≡◌, ℕ, ◌≤◌, Bool, true, false, List
 use Rattle.std.specs.Borrow.{Bor}
 use Rattle.std.specs.Option.{is_some}
 use Rattle.std.specs.declared.option.Option.{Option}
-use Rattle.lt_drive.specs.Drive.{Continuation, continuation_of, IsDriven, ended, failed, starved, untraced}
+use Rattle.lt_drive.specs.Drive.{Continuation, continuation_of, IsDriven, ended, failed, untraced}
 use Rattle.lt_drive.specs.declared.drive_end.DriveEnd.{DriveEnd}
 use Rattle.lt_drive.specs.declared.drive_end.DriveEnd.TheVariants as drive_end
 use Rattle.lt_io.specs.Causes.{Rose}
@@ -50,7 +50,6 @@ use Rattle.lt_args.specs.declared.words.Request.{Request as CodeRequest}
 -- a run has no status of words
 pub never_usage : (how : SessionEnd) (n : ℕ) (kind : UsageKind) → status_of how n ≡ status.Usage kind → ⊥
 never_usage (session_end.Driven (drive_end.Ended e)) n kind h = cc h
-never_usage (session_end.Driven drive_end.OutOfMemory) n kind h = cc h
 never_usage (session_end.Driven (drive_end.TraceWriteFailed step)) n kind h = cc h
 never_usage (session_end.StartFailed w) n kind h = cc h
 never_usage session_end.Memory n kind h = cc h
@@ -58,7 +57,6 @@ never_usage session_end.Memory n kind h = cc h
 -- a run blames no file
 pub never_file : (how : SessionEnd) (n : ℕ) → blames (status_of how n) device.File ≡ false
 never_file (session_end.Driven (drive_end.Ended e)) n = refl
-never_file (session_end.Driven drive_end.OutOfMemory) n = refl
 never_file (session_end.Driven (drive_end.TraceWriteFailed step)) n = refl
 never_file (session_end.StartFailed w) n = refl
 never_file session_end.Memory n = refl
@@ -69,7 +67,6 @@ driven_trace : {State : Type 0} (k : Continuation) (old new : Outside Links) (af
     IsCounted device.Trace (blames (status_of (session_end.Driven how) n) device.Trace) old.trace.faults new.trace.faults
 driven_trace k old new after how n (ended received ps e whole interaction put over) = interaction.blames destination.Trace
 driven_trace k old new after how n (failed received given w gives interaction put over) = interaction.blames destination.Trace
-driven_trace k old new after how n (starved received ps begins interaction put over) = interaction.blames destination.Trace
 driven_trace k old new after how n (untraced received fault given kind prefix rest gives to some interaction put) = interaction.blames destination.Trace
 
 -- its count of faults
@@ -135,7 +132,6 @@ blamed_end (end.Budget n) w h = absurd (cc)
 
 blamed_status : (how : SessionEnd) (n : ℕ) (w : Who) → blames (status_of how n) (device.Program w) ≡ true → Blames how
 blamed_status (session_end.Driven (drive_end.Ended e)) n w h = blamed_end e w h
-blamed_status (session_end.Driven drive_end.OutOfMemory) n w h = absurd (cc)
 blamed_status (session_end.Driven (drive_end.TraceWriteFailed step)) n w h = absurd (cc)
 blamed_status (session_end.StartFailed v) n w h = unstarted v
 blamed_status session_end.Memory n w h = absurd (cc)

@@ -93,7 +93,6 @@ played_whole : UndisturbedSessionsAreWhole State → (r : Request) (trace : List
     IsPlayed k (with_contents r.inputs trace) (oracle_of r.oracle) (without_files old) (without_files new) core how → IsUncut (status_of how core.written) → SidesTell r (record { scenario = []; replay = trace }) old.inputs.programs c o →
     IsWhole r trace c o (plays scene) scene.exceptions old new (status_of how core.written)
 played_whole law r trace c o scene k core (session_end.Driven (drive_end.Ended e)) old new course is u tell = ended_whole law r trace c o scene k core e old new course is u tell
-played_whole law r trace c o scene k core (session_end.Driven drive_end.OutOfMemory) old new course is u tell = absurd u
 played_whole law r trace c o scene k core (session_end.Driven (drive_end.TraceWriteFailed step)) old new course is u tell = absurd u
 played_whole law r trace c o scene k core (session_end.StartFailed w) old new course is u tell = absurd u
 played_whole law r trace c o scene k core session_end.Memory old new course is u tell = absurd u

@@ -36,7 +36,6 @@ pub record PutsNothing (old new : Outside Programs) : Type 0 where
 -- the status of a run that was played so, and put out so many steps
 abbrev pub status_of : SessionEnd → ℕ → Status
 status_of (session_end.Driven (drive_end.Ended e)) steps = status.Ran (record { end = e; at = end_number e steps })
-status_of (session_end.Driven drive_end.OutOfMemory) steps = status.Memory
 status_of (session_end.Driven (drive_end.TraceWriteFailed step)) steps = status.Device device.Trace step
 status_of (session_end.StartFailed w) steps = status.Device (device.Program w) 0
 status_of session_end.Memory steps = status.Memory

@@ -1,7 +1,7 @@
 -- What follows for whole calls.
 use Rattle.std.specs.Prelude.{◌≡◌, ◌≢◌, ℕ, ◌⊎◌, Bool, true, false, List, [], ◌++◌, Some}
 use Rattle.lt_rif.specs.Trace.{end_number}
-use Rattle.std.specs.Io.KnownBytes.{Appends}
+use Rattle.std.specs.Io.KnownBytes.{Appends, Keeps}
 use Rattle.std.specs.declared.option.Option.{Option}
 use Rattle.lt_drive.specs.Interaction.{text_to}
 use Rattle.lt_io.specs.Programs.{Programs, Same}
@@ -138,3 +138,9 @@ abbrev pub UndisturbedCallsAreUncut : Type 0
 UndisturbedCallsAreUncut =
     (s : Status) (old new : Outside Sources) → ((what : Device) → IsCounted what (blames s what) (faults_of what old) (faults_of what new)) →
     ((what : Device) → Rose (faults_of what old) (faults_of what new) → ⊥) → s ≢ status.Memory → IsUncut s
+
+-- Where memory ran out, nothing was written: it doesn't run out once a run has begun.
+abbrev pub WantOfMemoryWritesNothing : Type 0
+WantOfMemoryWritesNothing =
+    (request : Request) (told : List ℕ → Option (List ℕ)) (names asked : List (List ℕ)) (old new : Outside Sources) →
+    GivesDue request told asked old new names status.Memory → Keeps old.trace.written new.trace.written

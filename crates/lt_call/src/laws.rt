@@ -1,6 +1,6 @@
 //! Laws of whole calls. The functions do nothing: their contracts say it.
 
-ghost use Rattle.lt_call.specs.Laws.{ContentsHaveOneDueAnswer, RefusalsAreExact, SameCallSameBytes, UncutCallsAreWhole, UndisturbedCallsAreUncut};
+ghost use Rattle.lt_call.specs.Laws.{ContentsHaveOneDueAnswer, RefusalsAreExact, SameCallSameBytes, UncutCallsAreWhole, UndisturbedCallsAreUncut, WantOfMemoryWritesNothing};
 
 use lt_frontend::{texts_have_one_printed_answer, texts_have_one_scenario_answer};
 use lt_play::Player;
@@ -41,4 +41,9 @@ pub fn refusals_are_exact()
 /// Where no device failed and memory lasted, nothing is cut short.
 pub fn undisturbed_calls_are_uncut()
     ensures { UndisturbedCallsAreUncut }
+{}
+
+/// Where memory ran out, nothing was written.
+pub fn want_of_memory_writes_nothing()
+    ensures { WantOfMemoryWritesNothing }
 {}

@@ -205,7 +205,6 @@ fn status_of(played: SessionEnd, steps: u64) -> Status
             end,
             at: end.number(steps),
         }),
-        SessionEnd::Driven(DriveEnd::OutOfMemory) | SessionEnd::Memory => Status::Memory,
         SessionEnd::Driven(DriveEnd::TraceWriteFailed { step }) => Status::Device {
             device: Device::Trace,
             text: step,
@@ -214,5 +213,6 @@ fn status_of(played: SessionEnd, steps: u64) -> Status
             device: Device::Program(who),
             text: 0,
         },
+        SessionEnd::Memory => Status::Memory,
     }
 }

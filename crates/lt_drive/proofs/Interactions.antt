@@ -5,7 +5,6 @@ use Rattle.std.specs.Io.KnownBytes.{Appends}
 use Rattle.std.specs.declared.option.Option.{Option}
 use Rattle.lt_io.specs.Causes.{Rose}
 use Rattle.lt_rif.specs.declared.end.Who.{Who}
-use Rattle.lt_rif.specs.declared.end.Who.TheVariants as who
 use Rattle.lt_loop.specs.Play.{Piece, destination_of, step_count}
 use Rattle.lt_loop.specs.Side.{Rest, bytes_then, silent, unless_closed}
 use Rattle.lt_loop.specs.declared.event.Destination.{Destination}

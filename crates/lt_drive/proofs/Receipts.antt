@@ -65,7 +65,7 @@ module _ {State : Type 0} where
       pieces = ps ++ goes.pieces;
       interaction = happens_both old mid new r goes.received ps goes.pieces None false first goes.interaction;
       counts = counts_both k rest r ps leads goes.pieces core goes.counts;
-      way = λ c o. let more = goes.way c o in (more.0, way_both k rest r ps leads goes.received c o ∙ ap (pieces_then ps) more.1 ∙ behind_both ps goes.pieces more.0, more.2, more.3);
+      way = λ c o. way_both k rest r ps leads goes.received c o ∙ ap (pieces_then ps) (goes.way c o) ∙ behind_both ps goes.pieces (resume core c o);
     }
 
     pub proceeds_both : (old mid new : Outside Links) (core : CoreState State) (p : Progress) → Interaction old mid r ps None false → Proceeds rest mid new core p → Proceeds k old new core p

@@ -1,13 +1,13 @@
 -- What is told to a core, and what comes of it.
-use Rattle.std.proofs.Common.{◌≡◌, ◌≢◌, ℕ, ◌+◌, ◌⊎◌, inl, inr, Bool, true, false, List, [], ◌∷◌, ◌++◌, None, Some, refl, ap, sym, subst, ◌∙◌, arith}
+use Rattle.std.proofs.Common.{◌≡◌, ℕ, ◌+◌, Bool, true, false, List, [], ◌∷◌, ◌++◌, None, Some, refl, ap, sym, subst, ◌∙◌, arith}
 use Rattle.std.specs.declared.option.Option.{Option}
 use Rattle.lt_rif.specs.declared.end.End.{End}
 use Rattle.lt_rif.specs.declared.end.End.TheVariants as end
 use Rattle.lt_rif.specs.declared.end.Who.{Who}
 use Rattle.lt_rif.specs.declared.end.Who.TheVariants as who
-use Rattle.lt_loop.specs.Event.{Told, listens, play_due, steps_in, taken_of, MayStarve, WantsTell, failed as failed_side}
+use Rattle.lt_loop.specs.Event.{Told, listens, play_due, steps_in, taken_of, WantsTell, failed as failed_side}
 use Rattle.lt_loop.specs.Plan.{Plan, closing_text}
-use Rattle.lt_loop.specs.Play.{Piece, Play, destination_of, steps_of}
+use Rattle.lt_loop.specs.Play.{Piece, destination_of, steps_of}
 use Rattle.lt_loop.specs.Run.{Answer, Answers, FaultsAreCuts, pieces_then, piece_of}
 use Rattle.lt_loop.specs.Side.{Rest, silent}
 use Rattle.lt_loop.specs.CoreState.{PutsOut, CoreState, resume}
@@ -15,41 +15,15 @@ use Rattle.lt_loop.specs.declared.event.Destination.{Destination}
 use Rattle.lt_loop.specs.declared.event.Destination.TheVariants as destination
 use Rattle.lt_loop.specs.declared.event.PieceKind.{PieceKind}
 use Rattle.lt_loop.specs.declared.event.PieceKind.TheVariants as piece_kind
-use Rattle.lt_loop.specs.declared.event.Wants.{Wants}
-use Rattle.lt_loop.specs.declared.event.Wants.TheVariants as wants
-use Rattle.lt_loop.specs.declared.phase.Phase.{Phase}
 use Rattle.lt_loop.specs.declared.phase.Phase.TheVariants as phase
 use Rattle.lt_drive.specs.Drive.{Begins, Continuation, GivesOut, HasPutOut, IsDriven, IsUnended, calm, continuation_of, failed, fault_line, play_on, failed_step, unheard, unsent, untraced}
-use Rattle.lt_drive.specs.Interaction.{Interaction, Received, piece, received_then, side, silence}
+use Rattle.lt_drive.specs.Interaction.{Interaction, Received, piece, side, silence}
 use Rattle.lt_io.specs.Outside.{Links, Outside}
 use Rattle.lt_io.specs.Sink.{Sink}
 use Rattle.lt_drive.specs.inner.Steps.{Fails, GivesPart, Goes, StandsAs, continuation_due, fault_text, is_trace, side_at}
 use Rattle.lt_drive.specs.declared.drive_end.DriveEnd.{DriveEnd}
 use Rattle.lt_drive.specs.declared.drive_end.DriveEnd.TheVariants as drive_end
-use Rattle.lt_drive.proofs.Unended.{due_unended}
 use Rattle.lt_drive.proofs.Interactions.{line_unwritten, line_written, nothing_happens, step_count-append}
-
--- whether memory ran out in a phase
-pub is_starved : (p : Phase) → (p ≡ phase.OutOfMemory) ⊎ (p ≢ phase.OutOfMemory)
-is_starved phase.Fresh = inr (λ e. absurd (cc e))
-is_starved phase.Ready = inr (λ e. absurd (cc e))
-is_starved phase.Made = inr (λ e. absurd (cc e))
-is_starved phase.Controller = inr (λ e. absurd (cc e))
-is_starved phase.Answered = inr (λ e. absurd (cc e))
-is_starved phase.Oracle = inr (λ e. absurd (cc e))
-is_starved (phase.Over e) = inr (λ e. absurd (cc e))
-is_starved phase.OutOfMemory = inl refl
-
--- no piece is put out where memory runs out
-no_piece : (p : Phase) (left : ℕ) (kind : PieceKind) → MayStarve p left (Some kind) → ⊥
-no_piece phase.Fresh left kind may = may
-no_piece phase.Ready left kind may = may
-no_piece phase.Made left kind may = may
-no_piece phase.Controller left kind may = may
-no_piece phase.Answered left kind may = may
-no_piece phase.Oracle left kind may = may
-no_piece (phase.Over e) left kind may = may
-no_piece phase.OutOfMemory left kind may = may
 
 -- no step goes to a side
 no_steps : (kind : PieceKind) (w : Who) → destination_of kind ≡ side w → steps_of kind ≡ 0
@@ -81,7 +55,6 @@ module _ {State : Type 0} (k : Continuation) (old mid : Outside Links) (trace : 
       subst (λ (x : ℕ). IsDriven k old (record mid { trace = trace }) core (drive_end.TraceWriteFailed x)) (sym (fails.0 ∙ ap (λ (x : ℕ). x + 1) counts.1))
       (untraced r (Some w) given piece_kind.EndLine part.0 part.1 (subst (λ (t : List ℕ). GivesOut k r (given ++ piece piece_kind.EndLine t ∷ []) (Some w)) part.2 gives) refl part.3
       (line_unwritten old mid trace r given (Some w) part.0 interaction part.4 fails.3) (counts_line part.0 counts fails.1))
-  fault_driven drive_end.OutOfMemory gives interaction counts fails = absurd fails
 
 -- a piece that is this one has its text
 line_put : (p : Option PieceKind) (text line : List ℕ) → piece_of p text ≡ piece piece_kind.EndLine line ∷ [] → (steps_in p ≡ 0) × (text ≡ line)
@@ -91,38 +64,21 @@ line_put (Some kind) text line is =
     (ap (λ (p : Piece). steps_of p.kind) one, ap (λ (p : Piece). p.bytes) one)
 
 module _ {State : Type 0} where
-  wants_memory : (s : CoreState State) (w : Wants) → WantsTell s w → s.phase ≡ phase.OutOfMemory → w ≡ wants.Memory
-  wants_memory s wants.Turn told starved = absurd (told (rw starved tt))
-  wants_memory s wants.Controller told starved = absurd (cc (told.0, starved))
-  wants_memory s wants.Oracle told starved = absurd (cc (told.0, starved))
-  wants_memory s (wants.Nothing e) told starved = absurd (cc (told, starved))
-  wants_memory s wants.Memory told starved = refl
-
-  -- memory didn't run out where a piece was put out
-  pub fed_where_put : (s new : CoreState State) (w : Wants) (kind : PieceKind) → WantsTell new w → (w ≡ wants.Memory → MayStarve s.phase s.left (Some kind)) → new.phase ≢ phase.OutOfMemory
-  fed_where_put s new w kind told starves starved = no_piece s.phase s.left kind (starves (wants_memory new w told starved))
-
   module _ (s new : CoreState State) (e : Told) (n : ℕ) (text : List ℕ) (taken : n ≡ taken_of s e) where
-    way_without : PutsOut (play_due e n s) None text new → (new.phase ≡ phase.OutOfMemory → MayStarve s.phase s.left None) → (c o : Rest) → (new.phase ≡ phase.OutOfMemory) ⊎ (new.phase ≢ phase.OutOfMemory) →
-        (rest : Play) × (play_on (continuation_due s e) silence c o ≡ pieces_then [] rest) × (new.phase ≢ phase.OutOfMemory → rest ≡ resume new c o) × (new.phase ≡ phase.OutOfMemory → IsUnended rest)
-    way_without out may c o (inl starved) = (play_on (continuation_due s e) silence c o, refl, λ fed. absurd (fed starved), λ _. due_unended e (taken_of s e) s (may starved) (received_then silence.controller c) (received_then silence.oracle o))
-    way_without out may c o (inr fed) = (resume new c o, ap (λ (m : ℕ). play_due e m s c o) (sym taken) ∙ out fed c o, λ _. refl, λ starved. absurd (fed starved))
-
     -- nothing was put out
-    pub goes_without : (old : Outside Links) (w : Wants) → PutsOut (play_due e n s) None text new → WantsTell new w → (w ≡ wants.Memory → MayStarve s.phase s.left None) → new.plan ≡ s.plan → new.written ≡ s.written + 0 →
-        Goes (continuation_due s e) old old new
-    goes_without old w out told starves plan written = record {
+    pub goes_without : (old : Outside Links) → PutsOut (play_due e n s) None text new → new.plan ≡ s.plan → new.written ≡ s.written + 0 → Goes (continuation_due s e) old old new
+    goes_without old out plan written = record {
       received = silence;
       pieces = [];
       interaction = nothing_happens old;
       counts = (plan, written);
-      way = λ c o. way_without out (λ starved. starves (wants_memory new w told starved)) c o (is_starved new.phase);
+      way = λ c o. ap (λ (m : ℕ). play_due e m s c o) (sym taken) ∙ out c o;
     }
 
-    module _ (kind : PieceKind) (fed : new.phase ≢ phase.OutOfMemory) (out : PutsOut (play_due e n s) (Some kind) text new)
+    module _ (kind : PieceKind) (out : PutsOut (play_due e n s) (Some kind) text new)
         (plan : new.plan ≡ s.plan) (written : new.written ≡ s.written + steps_of kind) where
       way_with : (c o : Rest) → play_on (continuation_due s e) silence c o ≡ pieces_then (piece kind text ∷ []) (resume new c o)
-      way_with c o = ap (λ (m : ℕ). play_due e m s c o) (sym taken) ∙ out fed c o
+      way_with c o = ap (λ (m : ℕ). play_due e m s c o) (sym taken) ∙ out c o
 
       -- the piece that was put out was given to where it goes
       pub goes_with : (old mid : Outside Links) → Interaction old mid silence (piece kind text ∷ []) None false → Goes (continuation_due s e) old mid new
@@ -131,7 +87,7 @@ module _ {State : Type 0} where
         pieces = piece kind text ∷ [];
         interaction = interaction;
         counts = (plan, omega (arith, written));
-        way = λ c o. (resume new c o, way_with c o, λ _. refl, λ starved. absurd (fed starved));
+        way = way_with;
       }
 
       -- the play begins with that piece

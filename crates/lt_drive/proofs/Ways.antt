@@ -9,7 +9,7 @@ use Rattle.lt_loop.specs.Run.{pieces_then}
 use Rattle.lt_loop.specs.Side.{Rest}
 use Rattle.lt_loop.specs.CoreState.{CoreState}
 use Rattle.lt_loop.specs.declared.event.PieceKind.TheVariants as piece_kind
-use Rattle.lt_drive.specs.Drive.{Begins, BeginsUnended, Continuation, GivesOut, HasPutOut, IsDriven, calm, ended, failed, fault_line, play_on, starved, failed_step, unheard, unsent, untraced}
+use Rattle.lt_drive.specs.Drive.{Begins, BeginsUnended, Continuation, GivesOut, HasPutOut, IsDriven, calm, ended, failed, fault_line, play_on, failed_step, unheard, unsent, untraced}
 use Rattle.lt_drive.specs.Interaction.{Interaction, Received, piece, received_then}
 use Rattle.lt_io.specs.Outside.{Links, Outside}
 use Rattle.lt_drive.specs.declared.drive_end.DriveEnd.{DriveEnd}
@@ -70,8 +70,6 @@ module _ (k rest : Continuation) (r : Received) (ps : List Piece) (leads : Leads
         ended (both_received r q) (ps ++ qs) e (λ c o. way_both q c o ∙ ap (pieces_then ps) (whole c o)) (happens_both old mid new r q ps qs None false first interaction) (counts_both qs core counts) over
     driven_both old mid new core _ first (failed q given w gives interaction counts over) =
         failed (both_received r q) (ps ++ given) w (gives_both q given (Some w) gives) (happens_both old mid new r q ps given (Some w) false first interaction) (counts_both given core counts) over
-    driven_both old mid new core _ first (starved q qs begins interaction counts fault) =
-        starved (both_received r q) (ps ++ qs) (begins_unended_both q qs begins) (happens_both old mid new r q ps qs None false first interaction) (counts_both qs core counts) fault
     driven_both old mid new core _ first (untraced q fault given kind prefix back gives goes some interaction counts) =
         subst (λ (n : ℕ). IsDriven k old new core (drive_end.TraceWriteFailed (failed_step kind n))) (sym (steps_both given))
         (untraced (both_received r q) fault (ps ++ given) kind prefix back

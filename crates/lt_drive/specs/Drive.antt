@@ -90,9 +90,6 @@ pub data IsDriven {State : Type 0} (k : Continuation) (old new : Outside Links) 
   -- a side failed, and the run ended by its fault
   failed : (received : Received) (given : List Piece) (w : Who) → GivesOut k received given (Some w) →
       Interaction old new received given (Some w) false → HasPutOut k given core → core.phase ≡ phase.Over (end.Device w) → IsDriven k old new core (drive_end.Ended (end.Device w))
-  -- memory ran out in an instant: the first pieces of the play were given out, which are not all of a run that ended
-  starved : (received : Received) (ps : List Piece) → BeginsUnended k received ps →
-      Interaction old new received ps None false → HasPutOut k ps core → core.phase ≡ phase.OutOfMemory → IsDriven k old new core drive_end.OutOfMemory
   -- a piece could not be written to the trace, but for a prefix that is not all of it; that may be the end line of a side's fault
   untraced : (received : Received) (fault : Option Who) (given : List Piece) (kind : PieceKind) (prefix rest : List ℕ) →
       GivesOut k received (given ++ piece kind (prefix ++ rest) ∷ []) fault → destination_of kind ≡ destination.Trace → 0 < length rest →

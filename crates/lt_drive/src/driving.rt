@@ -7,7 +7,7 @@ ghost use Rattle.lt_loop.specs.Event.{WantsTell};
 ghost use Rattle.lt_loop.specs.Stands.{has_controller};
 ghost use Rattle.lt_drive.specs.Drive.{IsDriven, continuation_of, is_told};
 ghost use Rattle.lt_io.specs.Outside.{linked};
-ghost use Rattle.lt_drive.specs.inner.Steps.{Falls, Steps};
+ghost use Rattle.lt_drive.specs.inner.Steps.{Falls, Proceeds};
 
 use crate::drive_end::DriveEnd;
 use crate::hearing::{hear_controller, hear_oracle, tell};
@@ -56,7 +56,7 @@ fn step<M: Machine, C: Link, O: Link, S: Sink>(
     trace: &mut S,
 ) -> Progress
     requires { WantsTell (core_state core.old) wants }
-    ensures steps { Steps (core_state core.old)
+    ensures proceeds { Proceeds (continuation_of (core_state core.old))
         (linked (C.state controller.old) (O.state oracle.old) (S.state trace.old))
         (linked (C.state controller.new) (O.state oracle.new) (S.state trace.new))
         (core_state core.new) result }
@@ -72,6 +72,5 @@ fn step<M: Machine, C: Link, O: Link, S: Sink>(
         Wants::Controller => hear_controller(core, controller, oracle, trace),
         Wants::Oracle => hear_oracle(core, controller, oracle, trace),
         Wants::Nothing(end) => Progress::Over(DriveEnd::Ended(end)),
-        Wants::Memory => Progress::Over(DriveEnd::OutOfMemory),
     }
 }

@@ -46,14 +46,14 @@ module _ {State : Type 0} where
   pub asks_oracle : (s : CoreState State) (text : List ℕ) → s.plan.has_oracle ≡ true → IsBetween s.oracle → s.oracle.reading.begun.decimals ≡ s.plan.scene.decimals → s.oracle.reading.slots ≡ verdict_slots
       → text ≡ step_line s.plan (s.rules.outputs s.machine) s.inputs
       → PutsOut (play_once_answered s s.inputs) (Some piece_kind.Question) text (record s { phase = phase.Oracle })
-  asks_oracle s text has at decimals slots written = λ fed c o. rw (written, has, asked_reply s.oracle o s.plan.scene.decimals verdict_slots at decimals slots) refl
+  asks_oracle s text has at decimals slots written = λ c o. rw (written, has, asked_reply s.oracle o s.plan.scene.decimals verdict_slots at decimals slots) refl
 
   -- the controller is told the outputs
   pub asks_controller : (s : CoreState State) (text : List ℕ) → s.plan.controller ≡ talk.Live → IsBetween s.controller → s.controller.reading.begun.decimals ≡ s.plan.scene.decimals → s.controller.reading.slots ≡ reply_slots s.plan.controller s.plan.scene
       → text ≡ outputs_line s.plan (s.rules.outputs s.machine)
       → PutsOut (play_once_made s) (Some piece_kind.Outputs) text (record s { phase = phase.Controller })
   asks_controller s text live at decimals slots written =
-      λ fed c o. rw (written, asked_reply s.controller c s.plan.scene.decimals (reply_slots s.plan.controller s.plan.scene) at decimals slots, live) refl
+      λ c o. rw (written, asked_reply s.controller c s.plan.scene.decimals (reply_slots s.plan.controller s.plan.scene) at decimals slots, live) refl
 
   -- the controller's replies are those of an earlier run
   pub replays : (s : CoreState State) (c o : Rest) → s.plan.controller ≡ talk.Replay → IsBetween s.controller → s.controller.reading.begun.decimals ≡ s.plan.scene.decimals → s.controller.reading.slots ≡ reply_slots s.plan.controller s.plan.scene
@@ -103,17 +103,17 @@ module _ {State : Type 0} where
   pub puts_step : (s : CoreState State) (verdict : Bool) (text : List ℕ) → verdict ≡ true → s.phase ≡ phase.Ready
       → text ≡ traced_step s.plan s.written (s.rules.outputs s.machine) s.inputs (s.rules.locals s.machine)
       → PutsOut (play_once_judged s verdict) (Some piece_kind.Step) text s
-  puts_step s verdict text true_now ready written = λ fed c o. rw (written, true_now, ready) refl
+  puts_step s verdict text true_now ready written = λ c o. rw (written, true_now, ready) refl
 
   -- and the end after it
   pub puts_last_step : (s : CoreState State) (verdict : Bool) (text : List ℕ) → verdict ≡ false
       → text ≡ traced_step s.plan s.written (s.rules.outputs s.machine) s.inputs (s.rules.locals s.machine) ++ closing_text s.plan end.Oracle s.written
       → PutsOut (play_once_judged s verdict) (Some piece_kind.Step) text (record s { phase = phase.Over end.Oracle })
-  puts_last_step s verdict text false_now written = λ fed c o. rw (written, false_now) refl
+  puts_last_step s verdict text false_now written = λ c o. rw (written, false_now) refl
 
   -- the header is put out
   pub opens : (s : CoreState State) (text : List ℕ) → s.phase ≡ phase.Fresh → text ≡ opening_text s.plan → PutsOut (resume s) (Some piece_kind.Header) text (record s { phase = phase.Ready })
-  opens s text fresh written = λ fed c o. rw (written, fresh) refl
+  opens s text fresh written = λ c o. rw (written, fresh) refl
 
   -- a core of which nothing was put out
   pub makes : (s : CoreState State) → s.phase ≡ phase.Fresh → s.written ≡ 0 → s.inputs ≡ first_inputs s.plan.scene

@@ -1,5 +1,5 @@
 -- Whole runs.
-use Rattle.std.proofs.Common.{◌≡◌, ◌≢◌, ◌+◌, take, drop, ◌⊎◌, inl, inr, subst, ℕ, List, [], ◌∷◌, ◌++◌, None, Some, Option, ap, ◌∙◌, sym, refl, true, false, arith}
+use Rattle.std.proofs.Common.{◌≡◌, ◌≢◌, ◌+◌, take, drop, ℕ, List, [], ◌∷◌, ◌++◌, None, Some, Option, ap, ◌∙◌, sym, refl, true, false, arith}
 use Rattle.std.proofs.lemmas.List.{append-nil}
 use Rattle.lt_rif.specs.Reply.{needs}
 use Rattle.lt_rif.specs.Reading.{answer}
@@ -7,10 +7,10 @@ use Rattle.lt_rif.specs.declared.end.End.{End}
 use Rattle.lt_rif.specs.declared.end.End.TheVariants as end
 use Rattle.lt_rif.specs.declared.end.Who.{Who}
 use Rattle.lt_rif.specs.declared.end.Who.TheVariants as who
-use Rattle.lt_loop.specs.Event.{Told, turn, bytes, cuts, ended_side, failed, fed, play_due, steps_in, taken_of, MayStarve, WantsTell}
+use Rattle.lt_loop.specs.Event.{Told, turn, bytes, cuts, ended_side, failed, fed, play_due, steps_in, taken_of, WantsTell}
 use Rattle.lt_loop.specs.Plan.{closing_text}
 use Rattle.lt_loop.specs.Play.{Play, Piece, Stop, piece_then, ended, stopped, needs_byte, ends, step_count}
-use Rattle.lt_loop.specs.Run.{Answer, Answers, Runs, taken_bytes, piece_of, pieces_of, pieces_then, StopsWith, EndsAreFinal, EventsAreThePlay, FaultsAreCuts, RunsEnd, StepsAreCounted, TurnsGoOn, WantsAreTheStop}
+use Rattle.lt_loop.specs.Run.{Answer, Answers, taken_bytes, piece_of, pieces_of, pieces_then, StopsWith, EndsAreFinal, EventsAreThePlay, FaultsAreCuts, RunsEnd, StepsAreCounted, TurnsGoOn, WantsAreTheStop}
 use Rattle.lt_loop.specs.Side.{Rest, silent, unless_closed, side_answer, IsEmpty}
 use Rattle.lt_loop.specs.CoreState.{CoreState, resume, any_piece_then}
 use Rattle.lt_loop.specs.Work.{work_left}
@@ -18,7 +18,6 @@ use Rattle.lt_loop.specs.declared.event.PieceKind.{PieceKind}
 use Rattle.lt_loop.specs.declared.event.PieceKind.TheVariants as piece_kind
 use Rattle.lt_loop.specs.declared.event.Wants.{Wants}
 use Rattle.lt_loop.specs.declared.event.Wants.TheVariants as wants
-use Rattle.lt_loop.specs.declared.phase.Phase.{Phase}
 use Rattle.lt_loop.specs.declared.phase.Phase.TheVariants as phase
 use Rattle.lt_loop.proofs.GoingOnLemmas.{only_over}
 
@@ -37,10 +36,6 @@ module _ {State : Type 0} where
 put_is : (kind : Option PieceKind) (text : List ℕ) (ps : List Piece) (play : Play) → any_piece_then kind text (pieces_then ps play) ≡ pieces_then (piece_of kind text ++ ps) play
 put_is None text ps play = refl
 put_is (Some kind) text ps play = refl
-
--- no pieces
-no_pieces : (ps : List Piece) (play : Play) → ps ≡ [] → play ≡ pieces_then ps play
-no_pieces ps play none = rw none refl
 
 -- nothing after some pieces
 all_of : (play rest : Play) (ps : List Piece) (s : Stop) → play ≡ pieces_then ps rest → rest ≡ stopped s → play ≡ record { pieces = ps; stop = s }
@@ -65,85 +60,23 @@ count_piece : (piece : Option PieceKind) (text : List ℕ) (ps : List Piece) →
 count_piece None text ps = omega arith
 count_piece (Some kind) text ps = refl
 
--- whether memory ran out in a phase
-is_starved : (p : Phase) → (p ≡ phase.OutOfMemory) ⊎ (p ≢ phase.OutOfMemory)
-is_starved phase.Fresh = inr (λ e. absurd (cc e))
-is_starved phase.Ready = inr (λ e. absurd (cc e))
-is_starved phase.Made = inr (λ e. absurd (cc e))
-is_starved phase.Controller = inr (λ e. absurd (cc e))
-is_starved phase.Answered = inr (λ e. absurd (cc e))
-is_starved phase.Oracle = inr (λ e. absurd (cc e))
-is_starved (phase.Over e) = inr (λ e. absurd (cc e))
-is_starved phase.OutOfMemory = inl refl
-
--- nothing is put out where memory runs out
-nothing_put : (p : Phase) (left : ℕ) (piece : Option PieceKind) → MayStarve p left piece → piece ≡ None
-nothing_put phase.Ready left None may = refl
-nothing_put phase.OutOfMemory left None may = refl
-nothing_put phase.Ready left (Some kind) may = absurd may
-nothing_put phase.OutOfMemory left (Some kind) may = absurd may
-nothing_put phase.Fresh left piece may = absurd may
-nothing_put phase.Made left piece may = absurd may
-nothing_put phase.Controller left piece may = absurd may
-nothing_put phase.Answered left piece may = absurd may
-nothing_put phase.Oracle left piece may = absurd may
-nothing_put (phase.Over e) left piece may = absurd may
-
 module _ {State : Type 0} where
-  -- what is wanted then
-  wants_memory : (s : CoreState State) (w : Wants) → WantsTell s w → s.phase ≡ phase.OutOfMemory → w ≡ wants.Memory
-  wants_memory s wants.Turn told starved = absurd (told (rw starved tt))
-  wants_memory s wants.Controller told starved = absurd (cc (told.0, starved))
-  wants_memory s wants.Oracle told starved = absurd (cc (told.0, starved))
-  wants_memory s (wants.Nothing e) told starved = absurd (cc (told, starved))
-  wants_memory s wants.Memory told starved = refl
-
-  -- nothing is put out after that
-  quiet : (s new : CoreState State) (es : List Told) (answers : List Answer) → s.phase ≡ phase.OutOfMemory → Runs s es answers new → (pieces_of answers ≡ []) × (new.phase ≡ phase.OutOfMemory)
-  quiet s new [] [] starved r = (refl, ap (λ (t : CoreState State). t.phase) r ∙ starved)
-  quiet s new [] (a ∷ answers) starved r = absurd r
-  quiet s new (e ∷ es) [] starved r = absurd r
-  quiet s new (e ∷ es) (a ∷ answers) starved r =
-      let memory = r.1.stays starved in
-      let none = nothing_put s.phase s.left a.piece (r.1.starved memory) in
-      let still : r.0.phase ≡ phase.OutOfMemory = subst (WantsTell r.0) memory r.1.wanted in
-      let later = quiet r.0 new es answers still r.2 in
-      (rw (none, later.0) refl, later.1)
-
-  -- the same from an event on in which memory runs out
-  quiet_on : (s mid new : CoreState State) (e : Told) (a : Answer) (es : List Told) (answers : List Answer) → Answers s e a mid → mid.phase ≡ phase.OutOfMemory → Runs mid es answers new
-      → (piece_of a.piece a.text ++ pieces_of answers ≡ []) × (new.phase ≡ phase.OutOfMemory)
-  quiet_on s mid new e a es answers told starved r =
-      let none = nothing_put s.phase s.left a.piece (told.starved (wants_memory mid a.wanted told.wanted starved)) in
-      let later = quiet mid new es answers starved r in
-      (rw (none, later.0) refl, later.1)
-
-  -- what is put out for some events, and the rest
-  abbrev PutsAllOut : CoreState State → CoreState State → List Told → List Answer → Rest → Rest → Type 0
-  PutsAllOut s new es answers c o =
-      (rest : Play) × (resume s (taken_bytes who.Controller es answers c) (taken_bytes who.Oracle es answers o) ≡ pieces_then (pieces_of answers) rest)
-      × (new.phase ≢ phase.OutOfMemory → rest ≡ resume new c o)
-
-  one_more : (s mid new : CoreState State) (e : Told) (a : Answer) (es : List Told) (answers : List Answer) (c o : Rest) → cuts s e ≡ false → Answers s e a mid → Runs mid es answers new
-      → PutsAllOut mid new es answers c o → (mid.phase ≡ phase.OutOfMemory) ⊎ (mid.phase ≢ phase.OutOfMemory) → PutsAllOut s new (e ∷ es) (a ∷ answers) c o
-  one_more s mid new e a es answers c o calm told r later (inl starved) =
-      let none = quiet_on s mid new e a es answers told starved r in
-      (_, no_pieces (pieces_of (a ∷ answers)) _ none.0, λ fed. absurd (fed none.1))
-  one_more s mid new e a es answers c o calm told r later (inr fed) = (
-    later.0,
-    sym (fed_is e a.taken s (taken_bytes who.Controller es answers c) (taken_bytes who.Oracle es answers o) calm)
-        ∙ told.out fed (taken_bytes who.Controller es answers c) (taken_bytes who.Oracle es answers o)
-        ∙ ap (any_piece_then a.piece a.text) later.1
-        ∙ put_is a.piece a.text (pieces_of answers) later.0,
-    later.2,
-  )
+  -- what is put out for one more event
+  one_more : (s mid new : CoreState State) (e : Told) (a : Answer) (es : List Told) (answers : List Answer) (c o : Rest) → cuts s e ≡ false → Answers s e a mid
+      → resume mid (taken_bytes who.Controller es answers c) (taken_bytes who.Oracle es answers o) ≡ pieces_then (pieces_of answers) (resume new c o)
+      → resume s (taken_bytes who.Controller (e ∷ es) (a ∷ answers) c) (taken_bytes who.Oracle (e ∷ es) (a ∷ answers) o) ≡ pieces_then (pieces_of (a ∷ answers)) (resume new c o)
+  one_more s mid new e a es answers c o calm told later =
+      sym (fed_is e a.taken s (taken_bytes who.Controller es answers c) (taken_bytes who.Oracle es answers o) calm)
+      ∙ told.out (taken_bytes who.Controller es answers c) (taken_bytes who.Oracle es answers o)
+      ∙ ap (any_piece_then a.piece a.text) later
+      ∙ put_is a.piece a.text (pieces_of answers) (resume new c o)
 
   pub events_are_the_play : EventsAreThePlay State
-  events_are_the_play s new [] [] e calm c o = (resume s c o, refl, λ fed. ap (λ (t : CoreState State). resume t c o) (sym e))
+  events_are_the_play s new [] [] e calm c o = ap (λ (t : CoreState State). resume t c o) (sym e)
   events_are_the_play s new [] (a ∷ answers) e calm c o = absurd e
   events_are_the_play s new (e ∷ es) [] r calm c o = absurd r
   events_are_the_play s new (e ∷ es) (a ∷ answers) r calm c o =
-      one_more s r.0 new e a es answers c o calm.0 r.1 r.2 (events_are_the_play r.0 new es answers r.2 calm.1 c o) (is_starved r.0.phase)
+      one_more s r.0 new e a es answers c o calm.0 r.1 (events_are_the_play r.0 new es answers r.2 calm.1 c o)
 
   -- a core that needs a byte of the controller puts out nothing until one comes
   controller_stops : (s : CoreState State) (o : Rest) → s.phase ≡ phase.Controller → IsEmpty s.controller → resume s silent o ≡ stopped (needs_byte who.Controller)
@@ -160,46 +93,43 @@ module _ {State : Type 0} where
       rw (at, none) refl
 
   -- where a core doesn't want a turn, it puts out nothing more
-  stops_with : (s : CoreState State) (w : Wants) (play rest : Play) (ps : List Piece) → WantsTell s w → play ≡ pieces_then ps rest → (s.phase ≢ phase.OutOfMemory → rest ≡ resume s silent silent) → StopsWith w play ps
+  stops_with : (s : CoreState State) (w : Wants) (play rest : Play) (ps : List Piece) → WantsTell s w → play ≡ pieces_then ps rest → rest ≡ resume s silent silent → StopsWith w play ps
   stops_with s wants.Turn play rest ps told e same = tt
   stops_with s wants.Controller play rest ps told e same =
-      all_of play rest ps (needs_byte who.Controller) e (same (λ starved. absurd (cc (told.0, starved))) ∙ controller_stops s silent told.0 told.1)
+      all_of play rest ps (needs_byte who.Controller) e (same ∙ controller_stops s silent told.0 told.1)
   stops_with s wants.Oracle play rest ps told e same =
-      all_of play rest ps (needs_byte who.Oracle) e (same (λ starved. absurd (cc (told.0, starved))) ∙ oracle_stops s silent told.0 told.1)
+      all_of play rest ps (needs_byte who.Oracle) e (same ∙ oracle_stops s silent told.0 told.1)
   stops_with s (wants.Nothing f) play rest ps told e same =
-      all_of play rest ps (ends f) e (same (λ starved. absurd (cc (told, starved))) ∙ rw told refl)
-  stops_with s wants.Memory play rest ps told e same = (rest, e)
+      all_of play rest ps (ends f) e (same ∙ rw told refl)
 
   pub wants_are_the_stop : WantsAreTheStop State
   wants_are_the_stop s new es answers w r calm told =
       let all = events_are_the_play s new es answers r calm silent silent in
-      stops_with new w _ all.0 (pieces_of answers) told all.1 all.2
+      stops_with new w _ (resume new silent silent) (pieces_of answers) told all refl
 
   -- a fault that cuts puts out its end line
   cut_is : (s new : CoreState State) (w : Who) (a : Answer) (c o : Rest) → cuts s (failed w) ≡ true → Answers s (failed w) a new
       → ended s.plan (end.Device w) (s.written + 1) ≡ any_piece_then a.piece a.text (resume new c o)
   cut_is s new w a c o has told =
-      let fed : new.phase ≢ phase.OutOfMemory = λ starved. told.at_once has (wants_memory new a.wanted told.wanted starved) in
       let due : play_due (failed w) a.taken s c o ≡ ended s.plan (end.Device w) (s.written + 1) = rw has refl in
-      sym due ∙ told.out fed c o
+      sym due ∙ told.out c o
 
   -- a core that puts nothing out, and wants no turn, has no piece at hand
-  no_piece_at_hand : (new : CoreState State) (wanted : Wants) (p : Piece) (ps : List Piece) (s : Stop) → WantsTell new wanted → wanted ≢ wants.Turn → wanted ≢ wants.Memory
+  no_piece_at_hand : (new : CoreState State) (wanted : Wants) (p : Piece) (ps : List Piece) (s : Stop) → WantsTell new wanted → wanted ≢ wants.Turn
       → ((c o : Rest) → record { pieces = p ∷ ps; stop = s } ≡ resume new c o) → ⊥
-  no_piece_at_hand new wants.Turn p ps s told no_turn memory is = absurd (no_turn refl)
-  no_piece_at_hand new wants.Memory p ps s told no_turn memory is = absurd (memory refl)
-  no_piece_at_hand new wants.Controller p ps s told no_turn memory is =
+  no_piece_at_hand new wants.Turn p ps s told no_turn is = absurd (no_turn refl)
+  no_piece_at_hand new wants.Controller p ps s told no_turn is =
       let none : p ∷ ps ≡ [] = ap (λ (q : Play). q.pieces) (is silent silent ∙ controller_stops new silent told.0 told.1) in absurd (cc none)
-  no_piece_at_hand new wants.Oracle p ps s told no_turn memory is =
+  no_piece_at_hand new wants.Oracle p ps s told no_turn is =
       let none : p ∷ ps ≡ [] = ap (λ (q : Play). q.pieces) (is silent silent ∙ oracle_stops new silent told.0 told.1) in absurd (cc none)
-  no_piece_at_hand new (wants.Nothing e) p ps s told no_turn memory is =
+  no_piece_at_hand new (wants.Nothing e) p ps s told no_turn is =
       let final : resume new silent silent ≡ stopped (ends e) = rw told refl in
       let none : p ∷ ps ≡ [] = ap (λ (q : Play). q.pieces) (is silent silent ∙ final) in absurd (cc none)
 
   -- so such a fault puts something out
   something_put : (s new : CoreState State) (w : Who) (a : Answer) → cuts s (failed w) ≡ true → Answers s (failed w) a new → a.piece ≡ None → ⊥
   something_put s new w a has told none =
-      no_piece_at_hand new a.wanted _ [] _ told.wanted (told.goes none) (told.at_once has) (λ c o. cut_is s new w a c o has told ∙ rw none refl)
+      no_piece_at_hand new a.wanted _ [] _ told.wanted (told.goes none) (λ c o. cut_is s new w a c o has told ∙ rw none refl)
 
   -- ---- counting
 
@@ -230,7 +160,6 @@ module _ {State : Type 0} where
   wants_end s wants.Controller e told final = absurd (cc (told.0, final))
   wants_end s wants.Oracle e told final = absurd (cc (told.0, final))
   wants_end s (wants.Nothing f) e told final = cc (told, final)
-  wants_end s wants.Memory e told final = absurd (cc (told, final))
 
   pub faults_are_cuts : FaultsAreCuts State
   faults_are_cuts s mid new es answers w a r calm has told =
@@ -238,13 +167,12 @@ module _ {State : Type 0} where
       let line_is : closing_text mid.plan (end.Device w) (mid.written + 1) ≡ closing_text s.plan (end.Device w) (s.written + step_count (pieces_of answers) + 1) =
       λ i. closing_text (counted.1 i) (end.Device w) (counted.0 i + 1) in
       let piece = λ (c o : Rest). cut_piece a.piece a.text (closing_text mid.plan (end.Device w) (mid.written + 1)) (end.Device w) (resume new c o) (cut_is mid new w a c o has told) (something_put mid new w a has told) in
-      let fed : new.phase ≢ phase.OutOfMemory = λ starved. told.at_once has (wants_memory new a.wanted told.wanted starved) in
-      let final : new.phase ≡ phase.Over (end.Device w) = only_over new.phase new silent silent (end.Device w) fed (piece silent silent).1 in (
+      let final : new.phase ≡ phase.Over (end.Device w) = only_over new.phase new silent silent (end.Device w) (piece silent silent).1 in (
         (λ c o.
             let all = events_are_the_play s mid es answers r calm c o in
             record {
-              rest = all.0;
-              prefix = all.1;
+              rest = resume mid c o;
+              prefix = all;
               cut = ap (λ (ps : List Piece). pieces_of answers ++ ps) ((piece c o).0 ∙ (λ i. record { kind = piece_kind.EndLine; bytes = line_is i } ∷ []));
             }),
         (λ c o. (piece c o).1),
@@ -273,18 +201,13 @@ module _ {State : Type 0} where
   ends_are_final s new [] (a ∷ answers) e final r = absurd r
   ends_are_final s new (f ∷ es) [] e final r = absurd r
   ends_are_final s new (f ∷ es) (a ∷ answers) e final r =
-      let fed : r.0.phase ≢ phase.OutOfMemory = λ starved. subst (λ (p : Phase). MayStarve p s.left a.piece) final (r.1.starved (wants_memory r.0 a.wanted r.1.wanted starved)) in
-      let none = no_piece a.piece a.text e (resume r.0 silent silent) (sym (ended_due f a.taken s e silent silent final) ∙ r.1.out fed silent silent) in
-      let still = only_over r.0.phase r.0 silent silent e fed none.1 in
+      let none = no_piece a.piece a.text e (resume r.0 silent silent) (sym (ended_due f a.taken s e silent silent final) ∙ r.1.out silent silent) in
+      let still = only_over r.0.phase r.0 silent silent e none.1 in
       let later = ends_are_final r.0 new es answers e still r.2 in
       ((r.1.taken ∙ ended_takes f s e final, none.0, wants_end r.0 a.wanted e r.1.wanted still, later.0), later.1)
 
   -- ---- turns
 
-  turn_stops : (s new : CoreState State) (a : Answer) → Answers s turn a new → a.piece ≡ None → (new.phase ≡ phase.OutOfMemory) ⊎ (new.phase ≢ phase.OutOfMemory) → StopsWith a.wanted (resume s silent silent) []
-  turn_stops s new a told none (inl starved) = rw (wants_memory new a.wanted told.wanted starved) (resume s silent silent, refl)
-  turn_stops s new a told none (inr fed) =
-      stops_with new a.wanted (resume s silent silent) (resume new silent silent) [] told.wanted (told.out fed silent silent ∙ rw none refl) (λ fed. refl)
-
   pub turns_go_on : TurnsGoOn State
-  turns_go_on s new a told none = (told.goes none, turn_stops s new a told none (is_starved new.phase))
+  turns_go_on s new a told none =
+      (told.goes none, stops_with new a.wanted (resume s silent silent) (resume new silent silent) [] told.wanted (told.out silent silent ∙ rw none refl) refl)

@@ -1,11 +1,11 @@
 -- Where a core stands, and what it will put out.
-use Rattle.std.specs.Prelude.{◌≡◌, ◌≢◌, ℕ, ◌+◌, Bool, List, None, Some}
+use Rattle.std.specs.Prelude.{◌≡◌, ℕ, ◌+◌, Bool, List, None, Some}
 use Rattle.std.specs.declared.option.Option.{Option}
 use Rattle.lt_num.specs.declared.value.Value.{Value}
 use Rattle.lt_rif.specs.Reply.{Stream}
 use Rattle.lt_loop.specs.Machine.{Rules}
 use Rattle.lt_loop.specs.Plan.{Plan, opening_text}
-use Rattle.lt_loop.specs.Play.{Play, Made, stopped, ends, starves, piece_then, made_by, stepped, oracle_read, oracle_asked, controller_read, controller_asked, play_from}
+use Rattle.lt_loop.specs.Play.{Play, Made, stopped, ends, piece_then, made_by, stepped, oracle_read, oracle_asked, controller_read, controller_asked, play_from}
 use Rattle.lt_loop.specs.Side.{Rest, SideState, side_answer, side_stream}
 use Rattle.lt_loop.specs.declared.event.PieceKind.{PieceKind}
 use Rattle.lt_loop.specs.declared.event.PieceKind.TheVariants as piece_kind
@@ -56,7 +56,6 @@ resume_in phase.Controller s c o = controller_read s.plan (at_hand s) (after_ste
 resume_in phase.Answered s c o = play_once_answered s s.inputs c o
 resume_in phase.Oracle s c o = oracle_read s.plan (at_hand s) s.inputs (after_step s s.inputs (side_stream s.controller c)) (side_answer s.oracle o)
 resume_in (phase.Over e) s c o = stopped (ends e)
-resume_in phase.OutOfMemory s c o = stopped starves
 
 abbrev pub resume : {State : Type 0} → CoreState State → Rest → Rest → Play
 resume s c o = resume_in s.phase s c o
@@ -71,6 +70,6 @@ any_piece_then None text rest = rest
 any_piece_then (Some kind) text rest = piece_then kind text rest
 
 -- A core puts out what it should: whatever is still to come, this is put out and then what the core puts out from the
--- new state on; unless memory ran out.
+-- new state on.
 abbrev pub PutsOut : {State : Type 0} → (Rest → Rest → Play) → Option PieceKind → List ℕ → CoreState State → Type 0
-PutsOut should kind text new = new.phase ≢ phase.OutOfMemory → (c o : Rest) → should c o ≡ any_piece_then kind text (resume new c o)
+PutsOut should kind text new = (c o : Rest) → should c o ≡ any_piece_then kind text (resume new c o)

@@ -44,9 +44,8 @@ end_of (scenario_end.Fault fault) = end.Fault fault
 end_of scenario_end.TooLarge = end.TooLarge
 end_of (scenario_end.Budget need) = end.Budget need
 
--- What an outcome tells of an instant, and of the state after it. Memory may run out in any instant.
+-- What an outcome tells of an instant, and of the state after it.
 abbrev pub StepTells : {State : Type 0} → Instant State → Outcome → State → Type 0
 StepTells (values next) outcome.Values new = new ≡ next
 StepTells (over e) (outcome.Over f) new = e ≡ f
-StepTells i outcome.Memory new = Unit {0}
 StepTells _ _ new = ⊥

@@ -6,7 +6,7 @@ use Rattle.lt_rif.specs.declared.end.End.{End}
 use Rattle.lt_rif.specs.declared.end.End.TheVariants as end
 use Rattle.lt_rif.specs.declared.end.Who.{Who}
 use Rattle.lt_rif.specs.declared.end.Who.TheVariants as who
-use Rattle.lt_loop.specs.Event.{Told, turn, cuts, failed, fed, play_due, steps_in, taken_of, IsWanted, MayStarve, WantsTell}
+use Rattle.lt_loop.specs.Event.{Told, turn, cuts, failed, fed, play_due, steps_in, taken_of, IsWanted, WantsTell}
 use Rattle.lt_loop.specs.Kept.{HoldsController, HoldsOracle}
 use Rattle.lt_loop.specs.Plan.{closing_text}
 use Rattle.lt_loop.specs.Play.{Piece, Play, needs_byte, ends, step_count, stopped}
@@ -38,9 +38,6 @@ pub record Answers {State : Type 0} (s : CoreState State) (e : Told) (a : Answer
   pub oracle : HoldsOracle e a.taken s a.piece new
   pub falls : IsWanted s e → work_left new < work_left s
   pub rises_not : work_left new ≤ work_left s
-  pub starved : a.wanted ≡ wants.Memory → MayStarve s.phase s.left a.piece
-  pub at_once : cuts s e ≡ true → a.wanted ≢ wants.Memory
-  pub stays : s.phase ≡ phase.OutOfMemory → a.wanted ≡ wants.Memory
 
 -- From a state, a core may answer these events so, one after another, and then stand there.
 abbrev pub Runs : {State : Type 0} → CoreState State → List Told → List Answer → CoreState State → Type 0
@@ -84,16 +81,14 @@ StopsWith wants.Turn play ps = Unit {0}
 StopsWith wants.Controller play ps = play ≡ record { pieces = ps; stop = needs_byte who.Controller }
 StopsWith wants.Oracle play ps = play ≡ record { pieces = ps; stop = needs_byte who.Oracle }
 StopsWith (wants.Nothing e) play ps = play ≡ record { pieces = ps; stop = ends e }
-StopsWith wants.Memory play ps = (rest : Play) × (play ≡ pieces_then ps rest)
 
 -- Whatever comes in which pieces and in which order, a core puts out the pieces with which the play begins on the bytes
--- taken of each side, closed where its end has come, whatever is still to come; unless a fault ends the run. Unless memory ran
--- out, what it puts out after them is the rest of that play.
+-- taken of each side, closed where its end has come, whatever is still to come; unless a fault ends the run. What it puts out
+-- after them is the rest of that play.
 abbrev pub EventsAreThePlay : Type 0 → Type 0
 EventsAreThePlay State =
     (s new : CoreState State) (es : List Told) (answers : List Answer) (r : Runs s es answers new) → IsUncut s es answers new r →
-    (c o : Rest) → (rest : Play) × (resume s (taken_bytes who.Controller es answers c) (taken_bytes who.Oracle es answers o) ≡ pieces_then (pieces_of answers) rest)
-    × (new.phase ≢ phase.OutOfMemory → rest ≡ resume new c o)
+    (c o : Rest) → resume s (taken_bytes who.Controller es answers c) (taken_bytes who.Oracle es answers o) ≡ pieces_then (pieces_of answers) (resume new c o)
 
 -- Where a core doesn't want a turn, they are all of the play on what was taken, and what it wants is where that stops.
 abbrev pub WantsAreTheStop : Type 0 → Type 0

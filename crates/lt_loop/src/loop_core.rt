@@ -26,7 +26,6 @@ use std::alloc::{AllocError, Global};
 /// The core of a run: it is told events, and puts out pieces.
 pub struct Core<M: Machine> {
     machine: M,
-    alloc: Global,
     setup: Setup,
     left: u64,
     written: u64,
@@ -59,7 +58,6 @@ impl<M: Machine> Drop for Core<M> {
     fn drop(self) {
         let Self {
             machine: _,
-            alloc: _,
             setup: _,
             left: _,
             written: _,
@@ -74,7 +72,7 @@ impl<M: Machine> Drop for Core<M> {
 
 impl<M: Machine> Core<M> {
     ghost use Rattle.lt_loop.specs.CoreView.{last_text, plan_of, core_state, stream_of};
-    ghost use Rattle.lt_loop.specs.Event.{bytes, cuts, failed, fed, goes_on, told, listens, play_due, steps_in, taken_of, IsWanted, MayStarve, Waits, WantsTell};
+    ghost use Rattle.lt_loop.specs.Event.{bytes, cuts, failed, fed, goes_on, told, listens, play_due, steps_in, taken_of, IsWanted, Waits, WantsTell};
     ghost use Rattle.lt_loop.specs.Kept.{adding_none, controller_reads, nothing, one, oracle_reads, reads_reply, Holds, HoldsController, HoldsOracle};
     ghost use Rattle.lt_loop.specs.Side.{IsEmpty};
     ghost use Rattle.lt_loop.specs.Work.{most_work, work_in, work_left};
@@ -111,7 +109,6 @@ impl<M: Machine> Core<M> {
         let writer = Writer::make(alloc, &machine, setup.seed, setup.locals)?;
         Ok(Core {
             machine,
-            alloc,
             setup,
             left: setup.limit,
             written: 0,
@@ -145,7 +142,7 @@ impl<M: Machine> Core<M> {
     }
 
     /// Takes an event, and goes on until one piece is put out, or a byte is needed that is not there, or the run
-    /// has ended, or memory ran out in an instant.
+    /// has ended.
     pub fn event(&mut self, event: Event<'_>) -> Emits
         ensures taken { result.taken ≡ taken_of (core_state self.old) (told event.entry) }
         ensures out { PutsOut (play_due (told event.entry) result.taken (core_state self.old))
@@ -162,12 +159,6 @@ impl<M: Machine> Core<M> {
         ensures falls { IsWanted (core_state self.old) (told event.entry) →
             work_left (core_state self.new) < work_left (core_state self.old) }
         ensures rises_not { work_left (core_state self.new) ≤ work_left (core_state self.old) }
-        ensures starves { result.wants ≡ Wants.Memory →
-            MayStarve (core_state self.old).phase (core_state self.old).left result.piece }
-        ensures stays { (core_state self.old).phase ≡ Phase.OutOfMemory →
-            result.wants ≡ Wants.Memory }
-        ensures at_once { cuts (core_state self.old) (told event.entry) ≡ true →
-            result.wants ≢ Wants.Memory }
     {
         let (taken, piece) = self.go(event);
         Emits {
@@ -192,11 +183,6 @@ impl<M: Machine> Core<M> {
         ensures falls { IsWanted (core_state self.old) (told event.entry) →
             work_left (core_state self.new) < work_left (core_state self.old) }
         ensures rises_not { work_left (core_state self.new) ≤ work_left (core_state self.old) }
-        ensures starves { self.new.phase ≡ Phase.OutOfMemory →
-            MayStarve self.old.phase self.old.left result.1 }
-        ensures at_once { cuts (core_state self.old) (told event.entry) ≡ true →
-            self.new.phase ≢ Phase.OutOfMemory }
-        ensures stays { self.old.phase ≡ Phase.OutOfMemory → self.new.phase ≡ Phase.OutOfMemory }
     {
         match event {
             Event::Turn => (0, self.advance()),
@@ -261,11 +247,6 @@ impl<M: Machine> Core<M> {
         ensures falls { listens (core_state self.old) side ≡ true →
             work_left (core_state self.new) < work_left (core_state self.old) }
         ensures rises_not { work_left (core_state self.new) ≤ work_left (core_state self.old) }
-        ensures at_once { listens (core_state self.old) side ≡ true →
-            self.new.phase ≢ Phase.OutOfMemory }
-        ensures starves { self.new.phase ≡ Phase.OutOfMemory →
-            MayStarve self.old.phase self.old.left result }
-        ensures stays { self.old.phase ≡ Phase.OutOfMemory → self.new.phase ≡ Phase.OutOfMemory }
     {
         if !self.listens(side) {
             return self.advance();
@@ -277,7 +258,7 @@ impl<M: Machine> Core<M> {
     fn listens(&self, side: Who) -> bool
         ensures { result ≡ listens (core_state self.now) side }
     {
-        let goes_on = !matches!(self.phase, Phase::Over(_) | Phase::OutOfMemory);
+        let goes_on = !matches!(self.phase, Phase::Over(_));
         let has_side = match side {
             Who::Controller => !matches!(self.setup.controller, Talk::Nobody),
             Who::Oracle => self.setup.oracle,
@@ -288,7 +269,6 @@ impl<M: Machine> Core<M> {
     // What is waited for. At `Made` and `Answered` a core could go on.
     fn wants(&self) -> Wants
         ensures tells { WantsTell (core_state self.now) result }
-        ensures starved { self.now.phase ≡ Phase.OutOfMemory → result ≡ Wants.Memory }
     {
         match self.phase {
             Phase::Fresh | Phase::Ready | Phase::Made | Phase::Answered => Wants::Turn,
@@ -307,12 +287,10 @@ impl<M: Machine> Core<M> {
                 }
             }
             Phase::Over(end) => Wants::Nothing(end),
-            Phase::OutOfMemory => Wants::Memory,
         }
     }
 
-    // Goes on until one piece is put out, or a byte is needed that is not there, or the run has ended, or memory
-    // ran out.
+    // Goes on until one piece is put out, or a byte is needed that is not there, or the run has ended.
     fn advance(&mut self) -> Option<PieceKind>
         ensures out { PutsOut (resume (core_state self.old)) result self.new.writer.text.items
             (core_state self.new) }
@@ -328,9 +306,6 @@ impl<M: Machine> Core<M> {
         ensures falls { (Waits self.old.phase (core_state self.old) → ⊥) →
             work_left (core_state self.new) < work_left (core_state self.old) }
         ensures rises_not { work_left (core_state self.new) ≤ work_left (core_state self.old) }
-        ensures starves { self.new.phase ≡ Phase.OutOfMemory →
-            MayStarve self.old.phase self.old.left result }
-        ensures stays { self.old.phase ≡ Phase.OutOfMemory → self.new.phase ≡ Phase.OutOfMemory }
     {
         match self.phase {
             Phase::Fresh => {
@@ -343,7 +318,7 @@ impl<M: Machine> Core<M> {
             Phase::Controller => self.read_controller(),
             Phase::Answered => self.ask_oracle(),
             Phase::Oracle => self.read_oracle(),
-            Phase::Over(_) | Phase::OutOfMemory => None,
+            Phase::Over(_) => None,
         }
     }
 
@@ -362,13 +337,11 @@ impl<M: Machine> Core<M> {
         ensures falls { work_left (core_state self.new) <
             work_in Phase.Ready self.old.left (side_state self.old.controller).reading
             (side_state self.old.oracle).reading }
-        ensures starves { self.new.phase ≡ Phase.OutOfMemory →
-            MayStarve Phase.Ready self.old.left result }
     {
         if self.left == 0 {
             return self.end(End::Limit);
         }
-        match self.machine.step(self.alloc, &self.inputs) {
+        match self.machine.step(&self.inputs) {
             Outcome::Values => {
                 self.left -= 1;
                 self.phase = Phase::Made;
@@ -380,10 +353,6 @@ impl<M: Machine> Core<M> {
                 self.phase = Phase::Over(cause);
                 self.end(cause)
             }
-            Outcome::Memory => {
-                self.phase = Phase::OutOfMemory;
-                None
-            }
         }
     }
 
@@ -393,7 +362,6 @@ impl<M: Machine> Core<M> {
         ensures out { PutsOut (play_once_made (core_state self.old)) result
             self.new.writer.text.items (core_state self.new) }
         ensures waits { result ≡ None → Waits self.new.phase (core_state self.new) }
-        ensures unstarved { self.new.phase ≢ Phase.OutOfMemory }
         ensures counts { self.new.written ≡ self.old.written + steps_in result }
         ensures plan { (core_state self.new).plan ≡ (core_state self.old).plan }
         ensures controller { goes_on self.new.phase ≡ true →
@@ -428,7 +396,6 @@ impl<M: Machine> Core<M> {
         ensures out { PutsOut (resume_in Phase.Controller (core_state self.old)) result
             self.new.writer.text.items (core_state self.new) }
         ensures waits { result ≡ None → Waits self.new.phase (core_state self.new) }
-        ensures unstarved { self.new.phase ≢ Phase.OutOfMemory }
         ensures counts { self.new.written ≡ self.old.written + steps_in result }
         ensures plan { (core_state self.new).plan ≡ (core_state self.old).plan }
         ensures controller { goes_on self.new.phase ≡ true →
@@ -471,7 +438,6 @@ impl<M: Machine> Core<M> {
         ensures out { PutsOut (play_once_answered (core_state self.old) self.old.inputs.items)
             result self.new.writer.text.items (core_state self.new) }
         ensures waits { result ≡ None → Waits self.new.phase (core_state self.new) }
-        ensures unstarved { self.new.phase ≢ Phase.OutOfMemory }
         ensures puts { reads_reply result ≡ one }
         ensures counts { self.new.written ≡ self.old.written + steps_in result }
         ensures plan { (core_state self.new).plan ≡ (core_state self.old).plan }
@@ -498,7 +464,6 @@ impl<M: Machine> Core<M> {
         ensures out { PutsOut (resume_in Phase.Oracle (core_state self.old)) result
             self.new.writer.text.items (core_state self.new) }
         ensures waits { result ≡ None → Waits self.new.phase (core_state self.new) }
-        ensures unstarved { self.new.phase ≢ Phase.OutOfMemory }
         ensures counts { self.new.written ≡ self.old.written + steps_in result }
         ensures plan { (core_state self.new).plan ≡ (core_state self.old).plan }
         ensures controller { side_state self.new.controller ≡ side_state self.old.controller }
@@ -539,7 +504,6 @@ impl<M: Machine> Core<M> {
         ensures out { PutsOut (play_once_judged (core_state self.old) verdict) result
             self.new.writer.text.items (core_state self.new) }
         ensures waits { result ≡ None → Waits self.new.phase (core_state self.new) }
-        ensures unstarved { self.new.phase ≢ Phase.OutOfMemory }
         ensures puts { result ≡ Some PieceKind.Step }
         ensures counts { self.new.written ≡ self.old.written }
         ensures plan { (core_state self.new).plan ≡ (core_state self.old).plan }
@@ -576,7 +540,6 @@ impl<M: Machine> Core<M> {
             ended (core_state self.old).plan end (end_number end self.old.written)) result
             self.new.writer.text.items (core_state self.new) }
         ensures waits { result ≡ None → Waits self.new.phase (core_state self.new) }
-        ensures unstarved { self.new.phase ≢ Phase.OutOfMemory }
         ensures puts { result ≡ Some PieceKind.EndLine }
         ensures counts { self.new.written ≡ self.old.written }
         ensures plan { (core_state self.new).plan ≡ (core_state self.old).plan }

@@ -10,7 +10,6 @@ ghost use Rattle.lt_loop.specs.declared.machine.Outcome.{Outcome};
 use crate::var::Var;
 use lt_num::{Arith, Value};
 use lt_rif::End;
-use std::alloc::Global;
 
 /// How a scenario ends.
 #[derive(Clone, Copy)]
@@ -58,9 +57,6 @@ pub enum Outcome {
 
     /// The scenario has ended.
     Over(ScenarioEnd),
-
-    /// Memory ran out.
-    Memory,
 }
 
 /// What makes the instants of a scenario, one after another.
@@ -81,9 +77,8 @@ pub trait Machine: Drop {
     ghost state: { Self → State };
 
     /// Makes the next instant. `inputs` are those of the instant before: a value for each input of the scenario,
-    /// of its kind and within its range. A machine makes at most 1,000,000 instants, and none once it has ended
-    /// or memory ran out.
-    fn step(&mut self, alloc: Global, inputs: &[Value]) -> Outcome
+    /// of its kind and within its range. A machine makes at most 1,000,000 instants, and none once it has ended.
+    fn step(&mut self, inputs: &[Value]) -> Outcome
         requires inputs { fit (input_slots (scene self.old)) inputs.now ≡ true }
         requires may { MayStep (rules.made (state self.old)) }
         ensures tells { StepTells (rules.instant (state self.old) inputs.now) result

@@ -106,9 +106,8 @@ fn drive_echo(alloc: Global, script: Script<'_>, header: &str) -> Result<String,
     drive_over(alloc, &mut core, script, header)
 }
 
-// Drives a run that has no sides, of at most four steps, over links that fail at each call. There is memory for so many
-// steps.
-fn drive_alone(alloc: Global, room: u64) -> Result<String, Fail> {
+// Drives a run that has no sides, of at most four steps, over links that fail at each call.
+fn drive_alone(alloc: Global) -> Result<String, Fail> {
     let setup = Setup {
         seed: 0,
         limit: 4,
@@ -117,7 +116,7 @@ fn drive_alone(alloc: Global, room: u64) -> Result<String, Fail> {
         oracle: false,
     };
     let dead = Said::apart("7 ", EACH.as_slice());
-    let mut core = Core::make(alloc, Alone::make(alloc, room)?, setup)?;
+    let mut core = Core::make(alloc, Alone::make(alloc)?, setup)?;
     drive_over(alloc, &mut core, three_steps(dead, dead), LONE_HEADER)
 }
 
@@ -173,8 +172,8 @@ fn check(rt: &impl Abort, alloc: Global, script: Script<'_>, due: &str) -> Resul
 }
 
 // This comes of a run that has no sides.
-fn check_alone(rt: &impl Abort, alloc: Global, room: u64, due: &str) -> Result<(), Fail> {
-    let found = drive_alone(alloc, room)?;
+fn check_alone(rt: &impl Abort, alloc: Global, due: &str) -> Result<(), Fail> {
+    let found = drive_alone(alloc)?;
     assert_eq!(rt; found.as_str(), due);
     Ok(())
 }
@@ -334,7 +333,7 @@ fn sides_that_a_run_has_not_are_left_alone(rt: HostRuntime) -> Result<(), Fail> 
     let mut script = three_steps(Said::whole(REPLIES), dead);
     script.has_oracle = false;
     check(&rt, rt.alloc(), script, UNJUDGED)?;
-    check_alone(&rt, rt.alloc(), 9, LONE)
+    check_alone(&rt, rt.alloc(), LONE)
 }
 
 #[test]
@@ -352,20 +351,6 @@ fn an_earlier_trace_is_sent_nothing(rt: HostRuntime) -> Result<(), Fail> {
 sent "", shown "5 4\n4 6\n"
 Ended(Limit) after 2, faults 0 0 0"#;
     check(&rt, rt.alloc(), script, due)
-}
-
-#[test]
-fn a_run_starves_where_memory_runs_out(rt: HostRuntime) -> Result<(), Fail> {
-    let at_once = r#"sent "", shown ""
-OutOfMemory after 0, faults 0 0 0"#;
-    check_alone(&rt, rt.alloc(), 0, at_once)?;
-    let later = r#"#step 1
-5 #outs
-#step 2
-5 #outs
-sent "", shown ""
-OutOfMemory after 2, faults 0 0 0"#;
-    check_alone(&rt, rt.alloc(), 2, later)
 }
 
 #[test]

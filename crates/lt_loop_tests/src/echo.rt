@@ -49,7 +49,7 @@ impl Machine for Echo {
 
     ghost state = { λ s. record { most = s.most; made = s.made; given = s.given } };
 
-    fn step(&mut self, _alloc: Global, inputs: &[Value]) -> Outcome {
+    fn step(&mut self, inputs: &[Value]) -> Outcome {
         if self.made == self.most {
             return Outcome::Over(ScenarioEnd::Normal);
         }

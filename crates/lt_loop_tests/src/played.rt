@@ -148,7 +148,7 @@ fn a_run_without_a_controller_starts_nothing(rt: HostRuntime) -> Result<(), Fail
         controller: Talk::Nobody,
         oracle: false,
     };
-    let mut core = Core::make(rt.alloc(), Alone::make(rt.alloc(), 9)?, setup)?;
+    let mut core = Core::make(rt.alloc(), Alone::make(rt.alloc())?, setup)?;
     let sides = Sides {
         inputs: InputSource::Nobody,
         replay: &[],

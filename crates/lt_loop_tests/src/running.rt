@@ -50,7 +50,7 @@ pub fn run(alloc: Global, script: Script<'_>, length: usize) -> Result<Written, 
     let mut is_closed = false;
     for _ in 0..1000 {
         let event = match wants {
-            Wants::Nothing(_) | Wants::Memory => break,
+            Wants::Nothing(_) => break,
             _ if replies.is_empty() && !is_closed => {
                 is_closed = true;
                 Event::ControllerEnd

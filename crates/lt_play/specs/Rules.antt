@@ -37,11 +37,10 @@ told (steps.Fault f) = outcome.Over (end.Fault f)
 told steps.TooLarge = outcome.Over end.TooLarge
 told (steps.Budget n) = outcome.Over (end.Budget n)
 
--- The instant that a step makes. No step of the rules wants memory.
+-- the instant that a step makes
 abbrev pub instant_with : Outcome → State → Instant State
 instant_with outcome.Values m = values m
 instant_with (outcome.Over e) m = over e
-instant_with outcome.Memory m = over end.Normal
 
 abbrev pub instant_by : Step → Instant State
 instant_by s = instant_with (told s.outcome) s.state

@@ -76,7 +76,7 @@ impl lt_loop::Machine for Player {
 
     ghost state = { player_state };
 
-    fn step(&mut self, _alloc: Global, inputs: &[Value]) -> Outcome {
+    fn step(&mut self, inputs: &[Value]) -> Outcome {
         told(self.machine.step(inputs))
     }
 

@@ -13,7 +13,7 @@ use Rattle.lt_rif.specs.declared.end.Who.TheVariants as who
 use Rattle.lt_loop.specs.Fits.{RepliesFit}
 use Rattle.lt_loop.specs.Machine.{Instant, Rules, values, over, end_of}
 use Rattle.lt_loop.specs.Plan.{Plan, closing_text, opening_text, outputs_line, reply_slots, step_line, traced_step}
-use Rattle.lt_loop.specs.Play.{Made, Piece, Play, Stop, controller_asked, controller_read, controller_reply, destination_of, ended, ends, holds, instant_made, made_by, needs_byte, oracle_asked, oracle_read, piece_then, play_from, starves, step_count, steps_of, stepped, stopped}
+use Rattle.lt_loop.specs.Play.{Made, Piece, Play, Stop, controller_asked, controller_read, controller_reply, destination_of, ended, ends, holds, instant_made, made_by, needs_byte, oracle_asked, oracle_read, piece_then, play_from, untold, step_count, steps_of, stepped, stopped}
 use Rattle.lt_loop.specs.Run.{pieces_then}
 use Rattle.lt_loop.specs.Scene.{first_inputs, fit, input_slots, verdict_slots}
 use Rattle.lt_loop.specs.Stands.{is_served}
@@ -85,7 +85,7 @@ ended_after : (plan : Plan) (e : End) (k : ℕ) (ps : List Piece) (rest : Play) 
 ended_after plan e k ps rest is unended =
     prefix_is piece_kind.EndLine (closing_text plan e k) (stopped (ends e)) ps rest is (λ (qs : List Piece). IsSilent qs) (refl, refl) (λ after at. absurd (over_after e after rest at unended))
 
-true_before : (ps : List Piece) → verdict_before ps starves ≡ true
+true_before : (ps : List Piece) → verdict_before ps untold ≡ true
 true_before [] = refl
 true_before (p ∷ ps) = refl
 
@@ -94,13 +94,13 @@ true_before (p ∷ ps) = refl
 -- prefixes of what follows a step
 abbrev PrefixesFollow : Plan → (Stream → Play) → (Stream → Stream → Play) → Type 0
 PrefixesFollow plan go go' =
-    (o s t : Stream) (ps : List Piece) (rest : Play) → go o ≡ pieces_then ps rest → IsUnended rest → IsFed plan (shown_replies plan ps) (shown_verdicts ps starves) s t → Begins (go' s t) ps
+    (o s t : Stream) (ps : List Piece) (rest : Play) → go o ≡ pieces_then ps rest → IsUnended rest → IsFed plan (shown_replies plan ps) (shown_verdicts ps untold) s t → Begins (go' s t) ps
 
 -- the step is among these pieces, and those after it show these replies
 record HasStep (plan : Plan) (made : Made) (y : List Value) (go : Stream → Play) (ps : List Piece) : Type 0 where
   rest : List ℕ
   replies : shown_replies plan ps ≡ shown_reply plan.controller plan (traced_step plan made.number made.outputs y made.locals ++ []) ++ rest
-  goes : (go' : Stream → Stream → Play) (s t : Stream) → PrefixesFollow plan go go' → IsFed plan rest (shown_verdicts ps starves) s t → Begins (oracle_asked plan made y (go' s) t) ps
+  goes : (go' : Stream → Stream → Play) (s t : Stream) → PrefixesFollow plan go go' → IsFed plan rest (shown_verdicts ps untold) s t → Begins (oracle_asked plan made y (go' s) t) ps
 
 -- or they write no trace
 data Prefixes (plan : Plan) (made : Made) (y : List Value) (go : Stream → Play) (ps : List Piece) : Type 0 where
@@ -126,7 +126,7 @@ module _ (reads : StepReadsBack) (spelling : SpellingIsRead) (rooms : RoomIsEnou
           replies = ap (λ (t : List ℕ). shown_reply asking.controller asking t ++ shown_replies asking after) (sym (append-nil text));
           goes =
               λ go' s t follows fed.
-              let verdicts = shown_verdicts after starves in
+              let verdicts = shown_verdicts after untold in
               let read = verdict_read reads spelling rooms asking.scene.decimals true verdicts t few (fed.1 refl ∙ ap (λ (b : Bool). line (bool_text b) ++ verdicts) (true_before after)) fed.2 in
               let next = read.next in
               let begins = follows o s read.left after rest at unended (fed.0, (λ has. next.0 (omega arith)), next.1) in
@@ -175,7 +175,7 @@ module _ (reads : StepReadsBack) (spelling : SpellingIsRead) (rooms : RoomIsEnou
   -- the reply that a step shows is read
   part_begins : (plan : Plan) (made : Made) (y : List Value) (go : Stream → Play) (go' : List Value → Stream → Stream → Play) (s t : Stream) (ps : List Piece) → IsInstant plan made → fit (input_slots plan.scene) y ≡ true
       → ((text : List ℕ) → shown_reply plan.controller plan text ≡ line_text plan.scene.decimals (reply_kinds plan.controller plan.scene) (shown_values plan.controller plan text))
-      → Prefixes plan made y go ps → PrefixesFollow plan go (go' y) → IsFed plan (shown_replies plan ps) (shown_verdicts ps starves) s t
+      → Prefixes plan made y go ps → PrefixesFollow plan go (go' y) → IsFed plan (shown_replies plan ps) (shown_verdicts ps untold) s t
       → Begins (controller_read plan made go' (controller_reply plan s) t) ps
   part_begins plan made y go go' s t ps known fitting is_line (has_step w) follows fed =
       let can = known.can in
@@ -194,14 +194,14 @@ module _ (reads : StepReadsBack) (spelling : SpellingIsRead) (rooms : RoomIsEnou
 
   -- nobody's reply is read
   unread_begins : (plan : Plan) (made : Made) (go : Stream → Play) (go' : List Value → Stream → Stream → Play) (s t : Stream) (ps : List Piece) → ((text : List ℕ) → shown_reply plan.controller plan text ≡ [])
-      → Prefixes plan made [] go ps → PrefixesFollow plan go (go' []) → IsFed plan (shown_replies plan ps) (shown_verdicts ps starves) s t → Begins (oracle_asked plan made [] (go' [] s) t) ps
+      → Prefixes plan made [] go ps → PrefixesFollow plan go (go' []) → IsFed plan (shown_replies plan ps) (shown_verdicts ps untold) s t → Begins (oracle_asked plan made [] (go' [] s) t) ps
   unread_begins plan made go go' s t ps no_line (has_step w) follows fed =
       w.goes (go' []) s t follows (((λ some. fed.0.0 some ∙ w.replies ∙ ap (λ (l : List ℕ). l ++ w.rest) (no_line (traced_step plan made.number made.outputs [] made.locals ++ []))), fed.0.1), fed.1, fed.2)
   unread_begins plan made go go' s t ps no_line (silent none) follows fed = nothing _ ps none
 
   reply_begins : (plan : Plan) (made : Made) (go go' : List Value → Stream → Stream → Play) (c s o t : Stream) (ps : List Piece) (rest : Play) (r : Reply) → controller_reply plan c ≡ r → IsInstant plan made
       → ((text : List ℕ) → shown_reply plan.controller plan text ≡ line_text plan.scene.decimals (reply_kinds plan.controller plan.scene) (shown_values plan.controller plan text))
-      → PrefixesFollowAll plan go go' → controller_read plan made go r o ≡ pieces_then ps rest → IsUnended rest → IsFed plan (shown_replies plan ps) (shown_verdicts ps starves) s t
+      → PrefixesFollowAll plan go go' → controller_read plan made go r o ≡ pieces_then ps rest → IsUnended rest → IsFed plan (shown_replies plan ps) (shown_verdicts ps untold) s t
       → Begins (controller_read plan made go' (controller_reply plan s) t) ps
   reply_begins plan made go go' c s o t ps rest (whole y left) read known is_line follows is unended fed =
       let fitting = given_fit fits plan.controller plan.scene y c left read in
@@ -215,7 +215,7 @@ module _ (reads : StepReadsBack) (spelling : SpellingIsRead) (rooms : RoomIsEnou
   talk_begins : (base : Plan) (t : Talk) (made : Made)
       → (let plan : Plan = record base { controller = t } in
       (go go' : List Value → Stream → Stream → Play) (c s o u : Stream) (ps : List Piece) (rest : Play) → IsInstant plan made → is_served t plan.scene ≡ true → PrefixesFollowAll plan go go'
-      → controller_asked t plan made go c o ≡ pieces_then ps rest → IsUnended rest → IsFed plan (shown_replies plan ps) (shown_verdicts ps starves) s u → Begins (controller_asked t plan made go' s u) ps)
+      → controller_asked t plan made go c o ≡ pieces_then ps rest → IsUnended rest → IsFed plan (shown_replies plan ps) (shown_verdicts ps untold) s u → Begins (controller_asked t plan made go' s u) ps)
   talk_begins base talk.Nobody made go go' c s o u ps rest known served follows is unended fed =
       let plan : Plan = record base { controller = talk.Nobody } in
       let can = known.can in
@@ -224,7 +224,7 @@ module _ (reads : StepReadsBack) (spelling : SpellingIsRead) (rooms : RoomIsEnou
       let plan : Plan = record base { controller = talk.Live } in
       let text = outputs_line plan made.outputs in
       prefix_is piece_kind.Outputs text (controller_read plan made go (controller_reply plan c) o) ps rest is
-      (λ (qs : List Piece). IsFed plan (shown_replies plan qs) (shown_verdicts qs starves) s u → Begins (controller_asked talk.Live plan made go' s u) qs)
+      (λ (qs : List Piece). IsFed plan (shown_replies plan qs) (shown_verdicts qs untold) s u → Begins (controller_asked talk.Live plan made go' s u) qs)
       (λ fed_none. nothing _ [] (refl, refl))
       (λ after at fed_some. begins_then piece_kind.Outputs text _ after (reply_begins plan made go go' c s o u after rest (controller_reply plan c) refl known (λ text. refl) follows at unended fed_some))
       fed
@@ -236,13 +236,13 @@ module _ (reads : StepReadsBack) (spelling : SpellingIsRead) (rooms : RoomIsEnou
     instant_begins : (k : ℕ) (i : Instant State) (go go' : State → List Value → Stream → Stream → Play) (c s o t : Stream) (ps : List Piece) (rest : Play) → k < 2 ^ 64
         → ((next : State) → i ≡ values next → Shows plan.scene (rules.outputs next) (rules.locals next))
         → ((next : State) → i ≡ values next → PrefixesFollowAll plan (go next) (go' next))
-        → instant_made rules plan k i go c o ≡ pieces_then ps rest → IsUnended rest → IsFed plan (shown_replies plan ps) (shown_verdicts ps starves) s t → Begins (instant_made rules plan k i go' s t) ps
+        → instant_made rules plan k i go c o ≡ pieces_then ps rest → IsUnended rest → IsFed plan (shown_replies plan ps) (shown_verdicts ps untold) s t → Begins (instant_made rules plan k i go' s t) ps
     instant_begins k (values m) go go' c s o t ps rest small shows follows is unended fed =
         talk_begins plan plan.controller (made_by rules k m) (go m) (go' m) c s o t ps rest (record { can = can; small = small; shows = shows m refl }) served (follows m refl) is unended fed
     instant_begins k (over e) go go' c s o t ps rest small shows follows is unended fed = nothing _ ps (ended_after plan (end_of e) (end_number (end_of e) (k - 1)) ps rest is unended)
 
     play_begins : (left k : ℕ) (m : State) (y : List Value) (c s o t : Stream) (ps : List Piece) (rest : Play) → k + left ≤ 1_000_001 → ShowsFor rules plan.scene left m y
-        → play_from rules plan left k m y c o ≡ pieces_then ps rest → IsUnended rest → IsFed plan (shown_replies plan ps) (shown_verdicts ps starves) s t → Begins (play_from rules plan left k m y s t) ps
+        → play_from rules plan left k m y c o ≡ pieces_then ps rest → IsUnended rest → IsFed plan (shown_replies plan ps) (shown_verdicts ps untold) s t → Begins (play_from rules plan left k m y s t) ps
     play_begins zero k m y c s o t ps rest small shows is unended fed = nothing _ ps (ended_after plan end.Limit (k - 1) ps rest is unended)
     play_begins (suc left) k m y c s o t ps rest small shows is unended fed =
         instant_begins k (rules.instant m y) (play_from rules plan left (k + 1)) (play_from rules plan left (k + 1)) c s o t ps rest (omega (arith, small)) (λ next at. (shows next at).0)
@@ -254,9 +254,9 @@ module _ (reads : StepReadsBack) (spelling : SpellingIsRead) (rooms : RoomIsEnou
 pub prefixes_show_their_run : {State : Type 0} → StepReadsBack → SpellingIsRead → RoomIsEnough → RepliesFit → PrefixesShowTheirRun State
 prefixes_show_their_run reads spelling rooms fits rules plan limit m c o ps rest can few served shows is unended =
     prefix_is piece_kind.Header (opening_text plan) (play_from rules plan limit 1 m (first_inputs plan.scene) c o) ps rest is
-    (λ (qs : List Piece). Begins (piece_then piece_kind.Header (opening_text plan) (play_from rules plan limit 1 m (first_inputs plan.scene) (open_text (shown_replies plan qs)) (open_text (shown_verdicts qs starves)))) qs)
+    (λ (qs : List Piece). Begins (piece_then piece_kind.Header (opening_text plan) (play_from rules plan limit 1 m (first_inputs plan.scene) (open_text (shown_replies plan qs)) (open_text (shown_verdicts qs untold)))) qs)
     (nothing _ [] (refl, refl))
     (λ after at.
     begins_then piece_kind.Header (opening_text plan) _ after
-    (play_begins reads spelling rooms fits rules plan can served limit 1 m (first_inputs plan.scene) c (open_text (shown_replies plan after)) o (open_text (shown_verdicts after starves)) after rest (omega (arith, few)) shows at unended
+    (play_begins reads spelling rooms fits rules plan can served limit 1 m (first_inputs plan.scene) c (open_text (shown_replies plan after)) o (open_text (shown_verdicts after untold)) after rest (omega (arith, few)) shows at unended
     (((λ some. refl), refl), (λ has. refl), refl)))

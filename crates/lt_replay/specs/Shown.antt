@@ -9,7 +9,7 @@ use Rattle.lt_rif.specs.declared.end.End.TheVariants as end
 use Rattle.lt_rif.specs.declared.slot.Slot.{Slot}
 use Rattle.lt_loop.specs.Machine.{Rules, most_steps}
 use Rattle.lt_loop.specs.Plan.{Plan, closing_text, step_kinds}
-use Rattle.lt_loop.specs.Play.{Piece, Play, Stop, ends, play_of, starves, step_count, stopped}
+use Rattle.lt_loop.specs.Play.{Piece, Play, Stop, ends, play_of, untold, step_count, stopped}
 use Rattle.lt_loop.specs.Run.{pieces_then}
 use Rattle.lt_loop.specs.Scene.{Scene, Variable, first_inputs, input_slots, kinds_of, traced_slots}
 use Rattle.lt_loop.specs.Stands.{is_served}
@@ -106,7 +106,7 @@ TracesShowTheirRun State =
 
 -- the play on what some pieces of a run show that was not over after them: all their verdicts are true
 abbrev pub shown_prefix : {State : Type 0} → Rules State → Plan → ℕ → State → List Piece → Play
-shown_prefix rules plan limit m ps = play_of rules plan limit m (open_text (shown_replies plan ps)) (open_text (shown_verdicts ps starves))
+shown_prefix rules plan limit m ps = play_of rules plan limit m (open_text (shown_replies plan ps)) (open_text (shown_verdicts ps untold))
 
 -- A play begins with these pieces, but for the last of them, which aren't for the trace: what was told of a step that isn't
 -- among them. So it begins with the same trace, and as many steps.

@@ -16,7 +16,7 @@ use Rattle.lt_drive.specs.declared.drive_end.DriveEnd.{DriveEnd}
 use Rattle.lt_io.specs.Causes.{WhereTold}
 use Rattle.lt_loop.specs.CoreView.{stream_of}
 use Rattle.lt_loop.specs.Plan.{Plan, closing_text}
-use Rattle.lt_loop.specs.Play.{Piece, Play, Stop, destination_of, ends, needs_byte, starves, step_count, steps_of, stopped}
+use Rattle.lt_loop.specs.Play.{Piece, Play, Stop, destination_of, ends, needs_byte, untold, step_count, steps_of, stopped}
 use Rattle.lt_loop.specs.Run.{pieces_then}
 use Rattle.lt_loop.specs.Side.{Rest, silent}
 use Rattle.lt_loop.specs.CoreState.{CoreState}
@@ -50,30 +50,30 @@ use Rattle.lt_call.specs.Given.{Gives, IsDone, status_of}
 use Rattle.lt_call.specs.declared.status.Status.{Status}
 use Rattle.lt_replayed.specs.Setup.{setup_of}
 use Rattle.lt_replayed.specs.Shown as shown
-use Rattle.lt_replayed.specs.Shown.{TraceShowsFirst, ShowsBy, ShowsPrefix, ShowsRun, TracesOfCallsShowTheirRuns, shown_run}
+use Rattle.lt_replayed.specs.Shown.{ShowsBy, ShowsPrefix, ShowsRun, TracesOfCallsShowTheirRuns, shown_run}
 use Rattle.lt_replayed.proofs.Traces.{none_appended, same_text, text_append}
 
 -- ---- verdicts
 
-before_same : (ps : List Piece) (e : End) → is_replayable e ≡ false → verdict_before ps (ends e) ≡ verdict_before ps starves
+before_same : (ps : List Piece) (e : End) → is_replayable e ≡ false → verdict_before ps (ends e) ≡ verdict_before ps untold
 before_same [] end.Oracle fails = absurd (cc)
 before_same [] e fails = refl
 before_same (p ∷ ps) e fails = refl
 
-in_same : (k : PieceKind) (ps : List Piece) (e : End) → is_replayable e ≡ false → verdict_in k ps (ends e) ≡ verdict_in k ps starves
+in_same : (k : PieceKind) (ps : List Piece) (e : End) → is_replayable e ≡ false → verdict_in k ps (ends e) ≡ verdict_in k ps untold
 in_same piece_kind.Step ps e fails = ap (λ (b : Bool). line (bool_text b)) (before_same ps e fails)
 in_same k ps e fails = refl
 
 -- where a reply was refused or missed, or a side failed, all verdicts are true, as where a run isn't over
-verdicts_same : (ps : List Piece) (e : End) → is_replayable e ≡ false → shown_verdicts ps (ends e) ≡ shown_verdicts ps starves
+verdicts_same : (ps : List Piece) (e : End) → is_replayable e ≡ false → shown_verdicts ps (ends e) ≡ shown_verdicts ps untold
 verdicts_same [] e fails = refl
 verdicts_same (p ∷ ps) e fails = λ i. in_same p.kind ps e fails i ++ verdicts_same ps e fails i
 
-true_before : (ps : List Piece) → verdict_before ps starves ≡ true
+true_before : (ps : List Piece) → verdict_before ps untold ≡ true
 true_before [] = refl
 true_before (p ∷ ps) = refl
 
-in_longer : (k : PieceKind) (ps qs : List Piece) → verdict_in k ps starves ≡ verdict_in k qs starves
+in_longer : (k : PieceKind) (ps qs : List Piece) → verdict_in k ps untold ≡ verdict_in k qs untold
 in_longer piece_kind.Step ps qs = ap (λ (b : Bool). line (bool_text b)) (true_before ps ∙ sym (true_before qs))
 in_longer k ps qs = refl
 
@@ -82,14 +82,14 @@ in_longer k ps qs = refl
 -- pieces that show no reply and no verdict, and are no steps
 record IsQuiet (plan : Plan) (qs : List Piece) : Type 0 where
   replies : shown_replies plan qs ≡ []
-  verdicts : shown_verdicts qs starves ≡ []
+  verdicts : shown_verdicts qs untold ≡ []
   steps : step_count qs ≡ 0
 
 replies_before : (plan : Plan) (ps qs : List Piece) → IsQuiet plan qs → shown_replies plan (ps ++ qs) ≡ shown_replies plan ps
 replies_before plan [] qs quiet = quiet.replies
 replies_before plan (p ∷ ps) qs quiet = ap (λ (t : List ℕ). reply_in p.kind plan p.bytes ++ t) (replies_before plan ps qs quiet)
 
-verdicts_before : (plan : Plan) (ps qs : List Piece) → IsQuiet plan qs → shown_verdicts (ps ++ qs) starves ≡ shown_verdicts ps starves
+verdicts_before : (plan : Plan) (ps qs : List Piece) → IsQuiet plan qs → shown_verdicts (ps ++ qs) untold ≡ shown_verdicts ps untold
 verdicts_before plan [] qs quiet = quiet.verdicts
 verdicts_before plan (p ∷ ps) qs quiet = λ i. in_longer p.kind (ps ++ qs) ps i ++ verdicts_before plan ps qs quiet i
 
@@ -132,7 +132,7 @@ part_traced kind bytes goes = append-nil (traced_to (destination_of kind) bytes)
 over_or_not : (ps : List Piece) (s : Stop) → ((e : End) × (record { pieces = ps; stop = s } ≡ stopped (ends e))) ⊎ IsUnended (record { pieces = ps; stop = s })
 over_or_not [] (ends e) = inl (e, refl)
 over_or_not [] (needs_byte w) = inr (λ e is. let stops : needs_byte w ≡ ends e = ap (λ (q : Play). q.stop) is in absurd (cc stops))
-over_or_not [] starves = inr (λ e is. let stops : starves ≡ ends e = ap (λ (q : Play). q.stop) is in absurd (cc stops))
+over_or_not [] untold = inr (λ e is. let stops : untold ≡ ends e = ap (λ (q : Play). q.stop) is in absurd (cc stops))
 over_or_not (p ∷ ps) s = inr (λ e is. let pieces : p ∷ ps ≡ [] = ap (λ (q : Play). q.pieces) is in absurd (cc pieces))
 
 more_unended : (p : Piece) (rest : Play) → IsUnended (pieces_then (p ∷ []) rest)
@@ -149,14 +149,6 @@ behind_none ps s = ap (λ (t : List Piece). record { pieces = t; stop = s }) (ap
 keeps_itself : (o : Option (List ℕ)) → Keeps o o
 keeps_itself None = tt
 keeps_itself (Some xs) = refl
-
--- where nothing was put out, nothing is shown
-nothing_shown : (request : Request) (scene : Scene) (old new : Option (List ℕ)) → Appends old new [] → TraceShowsFirst request scene old new
-nothing_shown request scene old new none = record {
-  pieces = [];
-  grows = none;
-  shows = record { prefix = []; rest = shown_run request scene [] starves; joined = refl; sent = []; pieces = refl; unseen = refl; text = refl; steps = refl };
-}
 
 module _ (traces : ScenarioTracesShowTheirRun) (prefixes : ScenarioPrefixesShowTheirRun) (request : Request) (text : List ℕ) (scene : Scene) (known : IsRunOf request.decimals request.node text scene (setup_of request)) where
   abbrev plan : Plan
@@ -177,7 +169,7 @@ module _ (traces : ScenarioTracesShowTheirRun) (prefixes : ScenarioPrefixesShowT
       ended_by ps e (is_replayable e) refl (subst (λ (run : Play). IsTold plan e (shown_run request scene run.pieces run.stop) run) is told)
 
   -- a prefix of a run that isn't over shows itself
-  prefix_shows : (c o : Rest) (ps : List Piece) (rest : Play) → run_of request scene c o ≡ pieces_then ps rest → IsUnended rest → Begins (shown_run request scene ps starves) ps
+  prefix_shows : (c o : Rest) (ps : List Piece) (rest : Play) → run_of request scene c o ≡ pieces_then ps rest → IsUnended rest → Begins (shown_run request scene ps untold) ps
   prefix_shows c o ps rest is unended = prefixes request.decimals request.node text scene request.budget (setup_of request) (stream_of c) (stream_of o) ps rest known is unended
 
   -- a prefix of a run shows itself, whether it is over or not
@@ -192,7 +184,7 @@ module _ (traces : ScenarioTracesShowTheirRun) (prefixes : ScenarioPrefixesShowT
       let begins = prefix_shows c o ps rest is unended in
       let replies = replies_before plan ps qs quiet in
       let verdicts = verdicts_same (ps ++ qs) (end.Device w) refl ∙ verdicts_before plan ps qs quiet in
-      let same : shown_run request scene (ps ++ qs) (ends (end.Device w)) ≡ shown_run request scene ps starves =
+      let same : shown_run request scene (ps ++ qs) (ends (end.Device w)) ≡ shown_run request scene ps untold =
       λ i. run_of request scene (record { bytes = replies i; is_closed = false }) (record { bytes = verdicts i; is_closed = false }) in
       let steps = begins.steps in
       let before : trace_text ps ≡ trace_text begins.prefix = sym begins.text in
@@ -263,9 +255,6 @@ module _ (traces : ScenarioTracesShowTheirRun) (prefixes : ScenarioPrefixesShowT
         shows = fault_given received out (Some w) w refl gives;
         number = numbered out (end.Device w) counts.1;
       }
-      driven_shows c o c' o' _ (drive.starved received ps begins interaction counts starving) =
-          let here = begins silent silent in
-          record { pieces = ps; grows = grown ps (interaction.gives destination.Trace); shows = prefix_shows _ _ ps here.0 (begins_run received ps here.0 here.1) here.2 }
       driven_shows c o c' o' _ (drive.untraced received fault out kind prefix rest gives goes some interaction counts) = record {
         pieces = out;
         kind = kind;
@@ -288,8 +277,8 @@ module _ (traces : ScenarioTracesShowTheirRun) (prefixes : ScenarioPrefixesShowT
       played_shows controller oracle _ (session.driven c c' o o' p q r how opens opened drove closes closed) = driven_shows c o c' o' how drove
       played_shows controller oracle _ (session.no_controller command why unstarted trace_is) = tt
       played_shows controller oracle _ (session.no_oracle command c p q why opens unstarted closes trace_is) = tt
-      played_shows controller oracle _ (session.memory_at_first same trace_is) = nothing_shown request scene old.trace.written new.trace.written (unchanged trace_is)
-      played_shows controller oracle _ (session.memory_later c p q opens same closes trace_is) = nothing_shown request scene old.trace.written new.trace.written (unchanged trace_is)
+      played_shows controller oracle _ (session.memory_at_first same trace_is) = unchanged trace_is
+      played_shows controller oracle _ (session.memory_later c p q opens same closes trace_is) = unchanged trace_is
 
 -- ---- what is done
 
@@ -317,7 +306,7 @@ module _ (traces : ScenarioTracesShowTheirRun) (prefixes : ScenarioPrefixesShowT
   gives_shows : (contents : Contents) (answer : Answer) (asked names : List (List ℕ)) (old new : Outside Sources) (s : Status) → RunsIt request scene answer.work → Gives request contents answer asked old new names s → ShowsBy request scene s old.trace.written new.trace.written
   gives_shows contents answer asked _ old new _ it (given.done names s files is) = done_shows contents.replay (without_files old) (without_files new) answer.work names s it is
   gives_shows contents answer asked _ old new _ it (given.by_file n some files puts) = tt
-  gives_shows contents answer asked _ old new _ it (given.by_memory n files puts) = nothing_shown request scene old.trace.written new.trace.written (none_appended old.trace.written new.trace.written puts.trace)
+  gives_shows contents answer asked _ old new _ it (given.by_memory n files puts) = none_appended old.trace.written new.trace.written puts.trace
 
 -- what is due to a request whose scenario is this one
 due_runs : TextsHaveOneScenarioAnswer → (request : Request) (text : List ℕ) (scene : Scene) (contents : Contents) (answer : Answer) → request.mode ≡ mode.Run → contents.scenario ≡ text →

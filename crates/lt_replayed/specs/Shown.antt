@@ -8,7 +8,7 @@ use Rattle.lt_drive.specs.Interaction.{piece}
 use Rattle.lt_io.specs.Outside.{Outside, Sources}
 use Rattle.lt_io.specs.Causes.{WhereTold}
 use Rattle.lt_loop.specs.Plan.{closing_text}
-use Rattle.lt_loop.specs.Play.{Piece, Play, Stop, destination_of, ends, starves, step_count}
+use Rattle.lt_loop.specs.Play.{Piece, Play, Stop, destination_of, ends, untold, step_count}
 use Rattle.lt_loop.specs.Run.{pieces_then}
 use Rattle.lt_loop.specs.declared.event.Destination.TheVariants as destination
 use Rattle.lt_loop.specs.declared.event.PieceKind.{PieceKind}
@@ -44,7 +44,7 @@ pub data ShowsRun (request : Request) (scene : Scene) (ps : List Piece) (e : End
 -- Pieces of a run, up to one that was not written whole, are told by what they show with it. A row a way.
 pub data ShowsPrefix (request : Request) (scene : Scene) (ps : List Piece) : Type 0 where
   -- the run wasn't over: the play on what they show begins with the same trace
-  begun : Begins (shown_run request scene ps starves) ps → ShowsPrefix request scene ps
+  begun : Begins (shown_run request scene ps untold) ps → ShowsPrefix request scene ps
   -- it was
   over : (e : End) → ShowsRun request scene ps e → ShowsPrefix request scene ps
 
@@ -68,17 +68,12 @@ pub record TraceShowsPart (request : Request) (scene : Scene) (at : ℕ) (old ne
   pub shows : ShowsPrefix request scene (pieces ++ piece kind (prefix ++ rest) ∷ [])
   pub number : at ≡ failed_step kind (step_count pieces)
 
--- The trace of a run in which memory ran out shows it.
-pub record TraceShowsFirst (request : Request) (scene : Scene) (old new : Option (List ℕ)) : Type 0 where
-  pub pieces : List Piece
-  pub grows : Appends old new (trace_text pieces)
-  pub shows : Begins (shown_run request scene pieces starves) pieces
-
--- The bytes by which the trace of a call grew show its run, by its status. Other statuses have no run.
+-- The bytes by which the trace of a call grew show its run, by its status; they are none where memory ran out. Other statuses
+-- have no run.
 abbrev pub ShowsBy : Request → Scene → Status → Option (List ℕ) → Option (List ℕ) → Type 0
 ShowsBy request scene (status.Ran ending) old new = TraceShowsRun request scene ending.end ending.at old new
 ShowsBy request scene (status.Device device.Trace at) old new = TraceShowsPart request scene at old new
-ShowsBy request scene status.Memory old new = TraceShowsFirst request scene old new
+ShowsBy request scene status.Memory old new = Appends old new []
 ShowsBy request scene _ old new = Unit {0}
 
 -- Whatever its sides tell, a call that runs a scenario leaves a trace of the replies and the verdicts that the trace shows. The

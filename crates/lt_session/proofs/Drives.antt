@@ -31,7 +31,6 @@ module _ {State : Type 0} (k : Continuation) (old new : Outside Links) (core : C
   pub plan_kept : (how : DriveEnd) → IsDriven k old new core how → core.plan ≡ k.plan
   plan_kept _ (drive.ended received ps e is_whole interaction counts over) = counts.0
   plan_kept _ (drive.failed received given w gives interaction counts over) = counts.0
-  plan_kept _ (drive.starved received ps begins interaction counts over) = counts.0
   plan_kept _ (drive.untraced received fault given kind prefix rest gives goes is_part interaction counts) = counts.0
 
   -- a run that no fault of a side ended counted none of them
@@ -39,7 +38,6 @@ module _ {State : Type 0} (k : Continuation) (old new : Outside Links) (core : C
   ended_calm _ e (drive.ended received ps f is_whole interaction counts over) is calm =
       elim [ who.Controller ↦ interaction.blames destination.Controller | who.Oracle ↦ interaction.blames destination.Oracle ]
   ended_calm _ e (drive.failed received given v gives interaction counts over) is calm = absurd (calm v (cc is))
-  ended_calm _ e (drive.starved received ps begins interaction counts over) is calm = absurd (cc is)
   ended_calm _ e (drive.untraced received fault given kind prefix rest gives goes is_part interaction counts) is calm = absurd (cc is)
 
   whole_stop : (received : Received) (ps : List Piece) (e : End) → IsWhole k received ps e → (play_on k received silent silent).stop ≡ ends e
@@ -54,5 +52,4 @@ module _ {State : Type 0} (k : Continuation) (old new : Outside Links) (core : C
   failed_rose _ w (drive.failed received given v gives interaction counts over) is unbroken =
       let v_is : v ≡ w = cc is in
       subst (λ (x : Who). Rose (faults_of (side x) old) (faults_of (side x) new)) v_is (failed_at old new received given v interaction)
-  failed_rose _ w (drive.starved received ps begins interaction counts over) is unbroken = absurd (cc is)
   failed_rose _ w (drive.untraced received fault given kind prefix rest gives goes is_part interaction counts) is unbroken = absurd (cc is)

@@ -17,7 +17,6 @@ use Rattle.lt_loop.specs.InputSource.{InputSource}
 use Rattle.lt_session.specs.Session.{Closes, IsPlayed, Opens}
 use Rattle.lt_io.specs.Outside.{Links, Outside, linked}
 use Rattle.lt_drive.specs.declared.drive_end.DriveEnd.{DriveEnd}
-use Rattle.lt_drive.specs.declared.drive_end.DriveEnd.TheVariants as drive_end
 use Rattle.lt_session.specs.Sent as sent
 use Rattle.lt_session.specs.Sent.{AreGiven, AreSent, IsFaulty, SidesGetTheirPieces}
 use Rattle.lt_session.specs.Session as session
@@ -51,7 +50,6 @@ given : {State : Type 0} (k : Continuation) (old new : Outside Links) (core : Co
     (received : Received) × (ps : List Piece) × (fault : Option Who) × (trace : Bool) × AreGiven k received ps fault how × Interaction old new received ps fault trace
 given k old new core _ (drive.ended received ps e whole interaction put over) = (received, ps, None, false, sent.whole ps e whole, interaction)
 given k old new core _ (drive.failed received ps w gives interaction put over) = (received, ps, Some w, false, sent.failed ps w gives, interaction)
-given k old new core _ (drive.starved received ps begins interaction put over) = (received, ps, None, false, sent.starved ps begins, interaction)
 given k old new core _ (drive.untraced received fault before kind prefix rest gives to some interaction put) =
     (received, _, fault, true, sent.untraced before fault kind prefix rest gives to some, interaction)
 

@@ -95,7 +95,6 @@ module _ {State : Type 0} where
   resumed_in phase.Oracle s c o turn =
       oracle_read_on s.plan (at_hand s) s.inputs (after_step s s.inputs (side_stream s.controller c)) (side_answer s.oracle o) (after_on s s.inputs (side_stream s.controller c))
   resumed_in (phase.Over e) s c o turn = absurd (turn tt)
-  resumed_in phase.OutOfMemory s c o turn = absurd (turn tt)
 
   -- from a core on that wants a turn, no play ends by the fault of a side
   pub turns_unbroken : (s : CoreState State) → WantsTell s wants.Turn → (c o : Rest) → IsUnbroken (resume s c o)

@@ -16,7 +16,7 @@ use Rattle.lt_loop.specs.Play.{Piece, destination_of, step_count}
 use Rattle.lt_loop.specs.CoreState.{CoreState}
 use Rattle.lt_loop.specs.declared.event.Destination.TheVariants as destination
 use Rattle.lt_loop.specs.declared.event.PieceKind.{PieceKind}
-use Rattle.lt_drive.specs.Drive.{BeginsUnended, Continuation, GivesOut, IsWhole, failed_step}
+use Rattle.lt_drive.specs.Drive.{Continuation, GivesOut, IsWhole, failed_step}
 use Rattle.lt_drive.specs.declared.drive_end.DriveEnd.{DriveEnd}
 use Rattle.lt_drive.specs.declared.drive_end.DriveEnd.TheVariants as drive_end
 use Rattle.lt_session.specs.Told.{Gives, GivesBeside, IsFirstOf}
@@ -29,8 +29,6 @@ pub data AreGiven (k : Continuation) (received : Received) : List Piece → Opti
   whole : (ps : List Piece) (e : End) → IsWhole k received ps e → AreGiven k received ps None (drive_end.Ended e)
   -- a side failed: they are those before that, and the end line of its fault
   failed : (ps : List Piece) (w : Who) → GivesOut k received ps (Some w) → AreGiven k received ps (Some w) (drive_end.Ended (end.Device w))
-  -- memory ran out: they are those before that
-  starved : (ps : List Piece) → BeginsUnended k received ps → AreGiven k received ps None drive_end.OutOfMemory
   -- a write to the trace failed: they are those before that, and a prefix of the piece
   untraced : (before : List Piece) (fault : Option Who) (kind : PieceKind) (prefix rest : List ℕ) →
       GivesOut k received (before ++ piece kind (prefix ++ rest) ∷ []) fault → destination_of kind ≡ destination.Trace → 0 < length rest →

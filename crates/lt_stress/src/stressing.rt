@@ -132,7 +132,7 @@ fn setup(number: u64) -> Setup
     }
 }
 
-// Plays the run of a core against a plant. None where memory ran out, or a side failed.
+// Plays the run of a core against a plant. None where a side failed.
 fn play_core(core: &mut Core<Player>, plant: &mut Plant) -> Option<Ran>
     requires { WantsTell (core_state core.old) Wants.Turn }
     ensures { (n : ℕ) (s : Scene) → IsContinuationOf n s (continuation_of (core_state core.old)) →
@@ -142,7 +142,6 @@ fn play_core(core: &mut Core<Player>, plant: &mut Plant) -> Option<Ran>
     let mut nobody = Recorded::new(&[]);
     match drive(core, plant, &mut nobody, &mut Nowhere) {
         DriveEnd::Ended(end) => unbroken(end, core.steps(), plant.sum()),
-        DriveEnd::OutOfMemory => None,
         DriveEnd::TraceWriteFailed { .. } => unreachable!(),
     }
 }

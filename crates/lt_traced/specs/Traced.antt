@@ -8,7 +8,7 @@ use Rattle.lt_rif.specs.declared.end.End.{End}
 use Rattle.lt_loop.specs.CoreView.{plan_of}
 use Rattle.lt_loop.specs.Machine.{most_steps}
 use Rattle.lt_loop.specs.Plan.{opening_text}
-use Rattle.lt_loop.specs.Play.{Piece, Play, Stop, ends, starves, step_count, stopped}
+use Rattle.lt_loop.specs.Play.{Piece, Play, Stop, ends, untold, step_count, stopped}
 use Rattle.lt_loop.specs.Run.{pieces_then}
 use Rattle.lt_loop.specs.Scene.{first_inputs}
 use Rattle.lt_loop.specs.Stands.{is_served}
@@ -111,4 +111,4 @@ abbrev pub ScenarioPrefixesShowTheirRun : Type 0
 ScenarioPrefixesShowTheirRun =
     (decimals : ℕ) (node : Option (List ℕ)) (text : List ℕ) (scene : Scene) (budget : ℕ) (setup : Setup) (c o : Stream) (ps : List Piece) (rest : Play) → IsRunOf decimals node text scene setup →
     scenario_play scene budget setup c o ≡ pieces_then ps rest → ((e : End) → rest ≢ stopped (ends e)) →
-    Begins (shown_run scene budget setup ps starves) ps
+    Begins (shown_run scene budget setup ps untold) ps

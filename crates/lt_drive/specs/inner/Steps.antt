@@ -1,5 +1,5 @@
 -- How a run is driven step by step.
-use Rattle.std.specs.Prelude.{◌≡◌, ◌≢◌, ℕ, ◌+◌, ◌<◌, ◌⊎◌, Bool, true, false, List, [], ◌∷◌, ◌++◌, length, None, Some}
+use Rattle.std.specs.Prelude.{◌≡◌, ℕ, ◌<◌, Bool, true, false, List, [], ◌∷◌, ◌++◌, length, None, Some}
 use Rattle.std.specs.Io.KnownBytes.{Appends}
 use Rattle.std.specs.declared.option.Option.{Option}
 use Rattle.lt_io.specs.Causes.{Rose}
@@ -10,7 +10,7 @@ use Rattle.lt_rif.specs.declared.end.Who.{Who}
 use Rattle.lt_rif.specs.declared.end.Who.TheVariants as who
 use Rattle.lt_loop.specs.Event.{Told, play_due, taken_of, WantsTell}
 use Rattle.lt_loop.specs.Plan.{closing_text}
-use Rattle.lt_loop.specs.Play.{Piece, Play, destination_of}
+use Rattle.lt_loop.specs.Play.{Piece, destination_of}
 use Rattle.lt_loop.specs.Run.{pieces_then}
 use Rattle.lt_loop.specs.Side.{Rest}
 use Rattle.lt_loop.specs.CoreState.{CoreState, resume}
@@ -19,7 +19,7 @@ use Rattle.lt_loop.specs.declared.event.Destination.{Destination}
 use Rattle.lt_loop.specs.declared.event.Destination.TheVariants as destination
 use Rattle.lt_loop.specs.declared.event.PieceKind.{PieceKind}
 use Rattle.lt_loop.specs.declared.phase.Phase.TheVariants as phase
-use Rattle.lt_drive.specs.Drive.{Continuation, HasPutOut, IsDriven, IsUnended, continuation_of, play_on}
+use Rattle.lt_drive.specs.Drive.{Continuation, HasPutOut, IsDriven, play_on}
 use Rattle.lt_drive.specs.Interaction.{Interaction, Received, piece, silence}
 use Rattle.lt_io.specs.Outside.{Links, Outside}
 use Rattle.lt_io.specs.Sink.{Sink}
@@ -33,24 +33,18 @@ abbrev pub continuation_due : {State : Type 0} → CoreState State → Told → 
 continuation_due s e = record { plan = s.plan; written = s.written; play = play_due e (taken_of s e) s }
 
 -- What is left of a run was driven up to where a core stands: what was given out, and what the core will put out, is the
--- play, unless memory ran out, and then the play isn't over.
+-- play.
 pub record Goes {State : Type 0} (k : Continuation) (old new : Outside Links) (core : CoreState State) : Type 0 where
   pub received : Received
   pub pieces : List Piece
   pub interaction : Interaction old new received pieces None false
   pub counts : HasPutOut k pieces core
-  pub way : (c o : Rest) → (rest : Play) × (play_on k received c o ≡ pieces_then pieces rest) × (core.phase ≢ phase.OutOfMemory → rest ≡ resume core c o) × (core.phase ≡ phase.OutOfMemory → IsUnended rest)
+  pub way : (c o : Rest) → play_on k received c o ≡ pieces_then pieces (resume core c o)
 
 -- it goes on, or is over
 abbrev pub Proceeds : {State : Type 0} → Continuation → Outside Links → Outside Links → CoreState State → Progress → Type 0
 Proceeds k old new core (progress.Goes w) = Goes k old new core × WantsTell core w
 Proceeds k old new core (progress.Over d) = IsDriven k old new core d
-
--- the same from a state on: it may be over before, since memory ran out
-abbrev pub Steps : {State : Type 0} → CoreState State → Outside Links → Outside Links → CoreState State → Progress → Type 0
-Steps s old new core (progress.Goes w) = (s.phase ≢ phase.OutOfMemory) × Goes (continuation_of s) old new core × WantsTell core w
-Steps s old new core (progress.Over d) =
-    ((s.phase ≢ phase.OutOfMemory) × IsDriven (continuation_of s) old new core d) ⊎ ((s.phase ≡ phase.OutOfMemory) × (d ≡ drive_end.OutOfMemory) × (core ≡ s) × (new ≡ old))
 
 -- where it goes on, less is left to do
 abbrev pub Falls : {State : Type 0} → CoreState State → CoreState State → Progress → Type 0
@@ -86,4 +80,3 @@ abbrev pub Fails : {State : Type 0} → CoreState State → Who → Sink → Sin
 Fails s w old new core (drive_end.Ended e) =
     (e ≡ end.Device w) × (core.phase ≡ phase.Over e) × StandsAs s core × Appends old.written new.written (fault_text s w) × (new.faults ≡ old.faults)
 Fails s w old new core (drive_end.TraceWriteFailed n) = (n ≡ step_at_hand s.written) × StandsAs s core × AppendsProperPrefix old.written new.written (fault_text s w) × Rose old.faults new.faults
-Fails s w old new core drive_end.OutOfMemory = ⊥

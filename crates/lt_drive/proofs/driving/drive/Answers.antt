@@ -27,8 +27,8 @@ loop-next-preserved g c =
           (linked (g.C.Link.state c.args.controller.now) (g.O.Link.state c.args.oracle.now) (g.S.Sink.state c.args.trace.now))
           (linked (g.C.Link.state c.loop-next.controller) (g.O.Link.state c.loop-next.oracle) (g.S.Sink.state c.loop-next.trace))
           (linked (g.C.Link.state c.step.new.controller) (g.O.Link.state c.step.new.oracle) (g.S.Sink.state c.step.new.trace))
-          (core_state {b = g.M.Machine} c.loop-next.core) (core_state {b = g.M.Machine} c.step.new.core) c.in-Goes.next before.goes c.in-Goes.ensures.steps;
-      wants = c.in-Goes.ensures.steps.2;
+          (core_state {b = g.M.Machine} c.loop-next.core) (core_state {b = g.M.Machine} c.step.new.core) before.goes c.in-Goes.ensures.proceeds.0;
+      wants = c.in-Goes.ensures.proceeds.1;
       no_controller = λ none. c.step.ensures.no_controller (ap (λ (p : Plan). has_controller p.controller) plan ∙ none) ∙ before.no_controller none;
       untold = λ none. Keeps-trans _ _ _ (before.untold none) (c.step.ensures.untold (ap (λ (p : Plan). is_told p.controller) plan ∙ none));
       no_oracle = λ none. c.step.ensures.no_oracle (ap (λ (p : Plan). p.has_oracle) plan ∙ none) ∙ before.no_oracle none;
@@ -40,4 +40,4 @@ returns-in-Over-clause-driven g c =
     (linked (g.C.Link.state c.args.controller.now) (g.O.Link.state c.args.oracle.now) (g.S.Sink.state c.args.trace.now))
     (linked (g.C.Link.state c.loop-next.controller) (g.O.Link.state c.loop-next.oracle) (g.S.Sink.state c.loop-next.trace))
     (linked (g.C.Link.state c.step.new.controller) (g.O.Link.state c.step.new.oracle) (g.S.Sink.state c.step.new.trace))
-    (core_state {b = g.M.Machine} c.loop-next.core) (core_state {b = g.M.Machine} c.step.new.core) c.in-Over.driven c.loop-next.invariant.goes c.in-Over.ensures.steps
+    (core_state {b = g.M.Machine} c.loop-next.core) (core_state {b = g.M.Machine} c.step.new.core) c.in-Over.driven c.loop-next.invariant.goes c.in-Over.ensures.proceeds

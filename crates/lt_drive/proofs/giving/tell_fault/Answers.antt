@@ -23,9 +23,6 @@ returns-in-Controller g c =
       oracle = told.oracle;
       falls = told.falls;
       rises_not = told.rises_not;
-      starved = told.starves;
-      at_once = told.at_once;
-      stays = told.stays;
     }) in
     let was_told = fault_told c.faults_are_cuts.ensures s new c.args.who a c.requires answers in
     record { text = was_told.0; over = was_told.1; same = was_told.2 }
@@ -47,9 +44,6 @@ returns-in-Oracle g c =
       oracle = told.oracle;
       falls = told.falls;
       rises_not = told.rises_not;
-      starved = told.starves;
-      at_once = told.at_once;
-      stays = told.stays;
     }) in
     let was_told = fault_told c.faults_are_cuts.ensures s new c.args.who a c.requires answers in
     record { text = was_told.0; over = was_told.1; same = was_told.2 }

@@ -6,7 +6,7 @@ use Rattle.lt_loop.specs.inner.Writing.{header_in}
 use Rattle.lt_loop.proofs.CoreStateLemmas.{opens}
 use Rattle.lt_loop.proofs.TextLemmas.{opening_is}
 use Rattle.std.specs.Prelude.{Some}
-use Rattle.lt_loop.specs.Event.{MayStarve, Waits}
+use Rattle.lt_loop.specs.Event.{Waits}
 use Rattle.lt_loop.specs.Side.{side_state}
 use Rattle.lt_loop.specs.Work.{work_in, work_left}
 use Rattle.lt_loop.proofs.HoldingLemmas.{controller_at, oracle_at, untouched}
@@ -92,6 +92,3 @@ returns-in-Oracle-clause-falls g c = λ moves. less_at (work_left (core_state {b
 
 pub returns-in-Oracle-clause-rises_not : goal.returns-in-Oracle-clause-rises_not
 returns-in-Oracle-clause-rises_not g c = no_less_at (work_left (core_state {b = g.M.Machine} c.read_oracle.new.self)) c.args.self.now.left (side_state c.args.self.now.controller).reading (side_state c.args.self.now.oracle).reading c.args.self.now.phase phase.Oracle c.in-Oracle.is c.read_oracle.ensures.rises_not
-
-pub returns-in-Ready-clause-starves : goal.returns-in-Ready-clause-starves
-returns-in-Ready-clause-starves g c = λ starved. subst (λ (p : Phase). MayStarve p c.args.self.now.left c.make_instant.result) (sym c.in-Ready.is) (c.make_instant.ensures.starves starved)

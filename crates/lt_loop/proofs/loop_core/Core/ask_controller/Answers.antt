@@ -29,10 +29,10 @@ returns-in-Live-clause-out g c =
     (c.make_line.ensures.is ∙ outputs_are s.plan (writing c.args.self.now.writer) _ _ c.args.self.now.writes c.outputs.ensures.is)
 
 pub returns-in-Replay-clause-out : goal.returns-in-Replay-clause-out
-returns-in-Replay-clause-out g c = λ fed more other.
+returns-in-Replay-clause-out g c = λ more other.
     let s = core_state {b = g.M.Machine} c.args.self.now in
     let stands = subst (λ (p : Phase). Stands p s.written s.left s.controller.reading s.oracle.reading) c.requires c.args.self.now.stands in
-    replays s more other c.in-Replay.is stands.0.0 c.args.self.now.asks_in c.args.self.now.asks ∙ c.read_controller.ensures.out fed more other
+    replays s more other c.in-Replay.is stands.0.0 c.args.self.now.asks_in c.args.self.now.asks ∙ c.read_controller.ensures.out more other
 
 pub returns-in-Nobody-clause-controller : goal.returns-in-Nobody-clause-controller
 returns-in-Nobody-clause-controller g c = λ on.

@@ -6,7 +6,7 @@ use Rattle.lt_loop.proofs.TextLemmas.{closing_is}
 use Rattle.lt_loop.proofs.loop_core.Core.end.Goals as goal
 
 pub returns-clause-out : goal.returns-clause-out
-returns-clause-out g c = λ fed more other.
+returns-clause-out g c = λ more other.
     let text = c.make_end.ensures.is ∙ closing_is (core_state {b = g.M.Machine} c.args.self.now).plan c.args.end (map string_bytes c.names.result.now) c.number-number.result c.names.ensures in
     ap (λ (n : ℕ). ended (core_state {b = g.M.Machine} c.args.self.now).plan c.args.end n) (sym c.number-number.ensures)
     ∙ ap (λ (t : List ℕ). piece_then piece_kind.EndLine t (stopped (ends c.args.end))) (sym text)

@@ -5,15 +5,15 @@ use Rattle.lt_loop.proofs.KeepingLemmas.{ends_controller, ends_oracle}
 use Rattle.lt_loop.specs.Kept.{HoldsController, HoldsOracle}
 use Rattle.lt_loop.specs.Side.{side_state}
 use Rattle.lt_loop.proofs.HoldingLemmas.{end_is_kept, later_controller, later_oracle, untouched}
-use Rattle.lt_loop.proofs.WorkLemmas.{controller_end_is_there, later_falls, may_starve_still, later_rises_not, oracle_end_is_there, same_work}
+use Rattle.lt_loop.proofs.WorkLemmas.{controller_end_is_there, later_falls, later_rises_not, oracle_end_is_there, same_work}
 use Rattle.lt_rif.specs.declared.end.Who.TheVariants as who
 use Rattle.lt_loop.proofs.loop_core.Core.go.Goals as goal
 
 pub returns-in-ControllerEnd-clause-out : goal.returns-in-ControllerEnd-clause-out
-returns-in-ControllerEnd-clause-out g c = λ fed more other. ends_controller (core_state {b = g.M.Machine} c.args.self.now) (told c.args.event) more other (ap told c.in-ControllerEnd.is) ∙ c.advance-in-ControllerEnd.ensures.out fed more other
+returns-in-ControllerEnd-clause-out g c = λ more other. ends_controller (core_state {b = g.M.Machine} c.args.self.now) (told c.args.event) more other (ap told c.in-ControllerEnd.is) ∙ c.advance-in-ControllerEnd.ensures.out more other
 
 pub returns-in-OracleEnd-clause-out : goal.returns-in-OracleEnd-clause-out
-returns-in-OracleEnd-clause-out g c = λ fed more other. ends_oracle (core_state {b = g.M.Machine} c.args.self.now) (told c.args.event) more other (ap told c.in-OracleEnd.is) ∙ c.advance-in-OracleEnd.ensures.out fed more other
+returns-in-OracleEnd-clause-out g c = λ more other. ends_oracle (core_state {b = g.M.Machine} c.args.self.now) (told c.args.event) more other (ap told c.in-OracleEnd.is) ∙ c.advance-in-OracleEnd.ensures.out more other
 
 pub returns-in-Turn-clause-controller : goal.returns-in-Turn-clause-controller
 returns-in-Turn-clause-controller g c =
@@ -112,11 +112,3 @@ returns-in-OracleFault-clause-oracle g c = subst (λ (e : Told). HoldsOracle e 0
 
 pub returns-in-OracleFault-clause-falls : goal.returns-in-OracleFault-clause-falls
 returns-in-OracleFault-clause-falls g c = λ wanted. c.fail-in-OracleFault.ensures.falls (subst (λ (e : Told). IsWanted (core_state {b = g.M.Machine} c.args.self.now) e) (ap told c.in-OracleFault.is) wanted)
-
-pub returns-in-ControllerBytes-clause-starves : goal.returns-in-ControllerBytes-clause-starves
-returns-in-ControllerBytes-clause-starves g c = λ starved.
-    may_starve_still c.args.self.now.phase c.keep-taken.new.self.phase c.args.self.now.left c.keep-taken.new.self.left c.advance-in-ControllerBytes.result c.keep-taken.ensures.phase c.keep-taken.ensures.left (c.advance-in-ControllerBytes.ensures.starves starved)
-
-pub returns-in-OracleBytes-clause-starves : goal.returns-in-OracleBytes-clause-starves
-returns-in-OracleBytes-clause-starves g c = λ starved.
-    may_starve_still c.args.self.now.phase c.keep-taken-in-OracleBytes.new.self.phase c.args.self.now.left c.keep-taken-in-OracleBytes.new.self.left c.advance-in-OracleBytes.result c.keep-taken-in-OracleBytes.ensures.phase c.keep-taken-in-OracleBytes.ensures.left (c.advance-in-OracleBytes.ensures.starves starved)

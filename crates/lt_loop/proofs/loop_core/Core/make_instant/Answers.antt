@@ -29,36 +29,24 @@ invariant_of-self-in-Over-clause-writes g c = c.args.self.now.writes ∙ ap (λ 
 pub invariant_of-self-in-Over-clause-asks : goal.invariant_of-self-in-Over-clause-asks
 invariant_of-self-in-Over-clause-asks g c = c.args.self.now.asks ∙ ap (λ (sc : Scene). reply_slots c.args.self.now.setup.controller sc) (sym c.in-Over.ensures.scene)
 
-pub invariant_of-self-in-Memory-clause-served : goal.invariant_of-self-in-Memory-clause-served
-invariant_of-self-in-Memory-clause-served g c = subst (λ (sc : Scene). IsTrue (is_served c.args.self.now.setup.controller sc)) (sym c.in-Memory.ensures.scene) c.args.self.now.served
-
-pub invariant_of-self-in-Memory-clause-fits : goal.invariant_of-self-in-Memory-clause-fits
-invariant_of-self-in-Memory-clause-fits g c = subst (λ (sc : Scene). IsTrue (fit (input_slots sc) c.args.self.now.inputs.items)) (sym c.in-Memory.ensures.scene) c.args.self.now.fits
-
-pub invariant_of-self-in-Memory-clause-writes : goal.invariant_of-self-in-Memory-clause-writes
-invariant_of-self-in-Memory-clause-writes g c = c.args.self.now.writes ∙ ap (λ (sc : Scene). writing_of sc c.args.self.now.setup.locals) (sym c.in-Memory.ensures.scene)
-
-pub invariant_of-self-in-Memory-clause-asks : goal.invariant_of-self-in-Memory-clause-asks
-invariant_of-self-in-Memory-clause-asks g c = c.args.self.now.asks ∙ ap (λ (sc : Scene). reply_slots c.args.self.now.setup.controller sc) (sym c.in-Memory.ensures.scene)
-
 pub returns-in-Values-clause-out : goal.returns-in-Values-clause-out
-returns-in-Values-clause-out g c = λ fed more other.
+returns-in-Values-clause-out g c = λ more other.
     let s = core_state {b = g.M.Machine} c.args.self.now in
     let next = g.M.Machine.state c.step.new.self in
     let tells = subst (λ (y : List Value). StepTells (s.rules.instant s.machine y) outcome.Values next) c.deref.ensures.value c.in-Values.ensures.tells in
     let some : s.left ≡ suc (s.left - 1) = omega arith in
     goes_on s next (s.left - 1) more other some tells
     ∙ ap (λ (sc : Scene). play_once_made (record s { plan = plan_of sc c.args.self.now.setup; left = s.left - 1; machine = next; phase = phase.Made }) more other) (sym c.in-Values.ensures.scene)
-    ∙ c.ask_controller.ensures.out fed more other
+    ∙ c.ask_controller.ensures.out more other
 
 pub returns-in-Over-clause-out : goal.returns-in-Over-clause-out
-returns-in-Over-clause-out g c = λ fed more other.
+returns-in-Over-clause-out g c = λ more other.
     let s = core_state {b = g.M.Machine} c.args.self.now in
     let tells = subst (λ (y : List Value). StepTells (s.rules.instant s.machine y) (outcome.Over c.in-Over.end) (g.M.Machine.state c.step.new.self)) c.deref.ensures.value c.in-Over.ensures.tells in
     let some : s.left ≡ suc (s.left - 1) = omega arith in
     goes_over s (g.M.Machine.state c.step.new.self) (s.left - 1) more other c.in-Over.end some tells
     ∙ (λ i. ended (plan_of (sym c.in-Over.ensures.scene i) c.args.self.now.setup) (sym c.end-cause.ensures i) (end_number (sym c.end-cause.ensures i) s.written))
-    ∙ c.end-in-Over.ensures.out fed more other
+    ∙ c.end-in-Over.ensures.out more other
 
 pub returns-in-Values-clause-controller : goal.returns-in-Values-clause-controller
 returns-in-Values-clause-controller g c = λ on.
@@ -69,6 +57,3 @@ returns-in-Values-clause-plan g c = c.ask_controller.ensures.plan ∙ ap (λ (sc
 
 pub returns-in-Over-clause-plan : goal.returns-in-Over-clause-plan
 returns-in-Over-clause-plan g c = c.end-in-Over.ensures.plan ∙ ap (λ (sc : Scene). plan_of sc c.args.self.now.setup) c.in-Over.ensures.scene
-
-pub returns-in-Memory-clause-plan : goal.returns-in-Memory-clause-plan
-returns-in-Memory-clause-plan g c = ap (λ (sc : Scene). plan_of sc c.args.self.now.setup) c.in-Memory.ensures.scene
