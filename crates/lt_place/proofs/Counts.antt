@@ -7,9 +7,9 @@ use Rattle.lt_term.specs.Process.{Process}
 use Rattle.lt_term.specs.Size.{each_one, branches_weight, capped}
 use Rattle.lt_term.specs.Tree.{vanish, nothing, raised, go, leaf, ordered, weighted, Branches, no_branch, branch, size}
 use Rattle.lt_place.specs.Before.{nodes_before, nodes_before_in, nodes_of_first}
-use Rattle.lt_place.specs.Finding.{Found}
+use Rattle.lt_place.specs.inner.Finding.{Found}
 use Rattle.lt_place.specs.Room.{HandlesBelow, IsRoomFor}
-use Rattle.lt_place.specs.Spot.{Spot, at_choice, first_weight, spot, spot_in}
+use Rattle.lt_place.specs.inner.Spot.{Spot, at_choice, first_weight, spot, spot_in}
 use Rattle.lt_place.specs.declared.place.Place.{Place}
 use Rattle.lt_place.specs.declared.place.Place.TheVariants as place
 use Rattle.lt_place.specs.declared.room.Room.{Room}

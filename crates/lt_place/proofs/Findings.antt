@@ -8,8 +8,8 @@ use Rattle.lt_term.specs.Offers.{TermTree, in_seq, in_turn, in_par, in_assert, i
 use Rattle.lt_term.specs.Process.{Process}
 use Rattle.lt_term.specs.Size.{Weights, capped}
 use Rattle.lt_term.specs.Tree.{Lasts, nothing, leaf, ordered, weighted, Branches, with_leaves, with_local}
-use Rattle.lt_place.specs.Finding.{Finds, Found}
-use Rattle.lt_place.specs.Spot.{Spot, at_vanish, at_raised, at_go, first_side, first_weight, spot, spot_in}
+use Rattle.lt_place.specs.inner.Finding.{Finds, Found}
+use Rattle.lt_place.specs.inner.Spot.{Spot, at_vanish, at_raised, at_go, first_side, first_weight, spot, spot_in}
 use Rattle.lt_place.specs.declared.place.Place.{Place}
 use Rattle.lt_place.specs.declared.place.Place.TheVariants as place
 use Rattle.lt_place.proofs.Contexts.{behind_weights, beside_weights, besides, handled_weights, in_turn_weights}

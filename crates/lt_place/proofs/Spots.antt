@@ -13,7 +13,7 @@ use Rattle.lt_track.specs.View.{body_each, choices_of}
 use Rattle.lt_track.specs.declared.track.Parts.{Parts}
 use Rattle.lt_track.specs.declared.track.Parts.TheVariants.{End, Part'}
 use Rattle.lt_place.proofs.Contexts.{behind_weights, beside_weights, besides, handled_weights, in_turn_weights, turn_weight}
-use Rattle.lt_place.specs.Spot.{Spot, at_vanish, at_nothing, at_raised, at_go, at_choice, at_leaf, first_side, first_weight, spot, spot_in}
+use Rattle.lt_place.specs.inner.Spot.{Spot, at_vanish, at_nothing, at_raised, at_go, at_choice, at_leaf, first_side, first_weight, spot, spot_in}
 
 -- Trees with f of each leaf in its place: they weigh what the trees do where leaves weigh what replaces them; and g says what stands
 -- behind a leaf.

@@ -4,8 +4,7 @@
 //! nodes as stand in its place in the whole tree. So it makes no tree, and looks at no part beside the path but by how large
 //! that is. It takes no memory: a [`Room`] is made once for a body.
 //!
-//! `specs/Before.antt` says what is counted, and `specs/Spot.antt` what stands at a path in the part at hand. No program uses
-//! this crate yet: it is for an instant that makes no tree.
+//! `specs/Before.antt` says what is counted, and `specs/inner/Spot.antt` what stands at a path in the part at hand.
 #![tactic(auto)]
 
 mod aim;

@@ -1,6 +1,6 @@
 //! Paths: the choices that lead to a node.
 
-ghost use Rattle.lt_place.specs.Finding.{IsSide};
+ghost use Rattle.lt_place.specs.inner.Finding.{IsSide};
 
 /// What a path says of a choice between two trees.
 #[derive(Clone, Copy)]

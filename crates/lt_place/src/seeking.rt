@@ -6,7 +6,7 @@ ghost use Rattle.lt_term.specs.Offers.{in_catch, in_par, offers_of};
 ghost use Rattle.lt_term.specs.Process.{count, dead, loop};
 ghost use Rattle.lt_term.specs.Size.{Weights};
 ghost use Rattle.lt_term.specs.Tree.{ordered, with_leaves};
-ghost use Rattle.lt_place.specs.Finding.{AreWeights, Found, IsContext};
+ghost use Rattle.lt_place.specs.inner.Finding.{AreWeights, Found, IsContext};
 ghost use Rattle.lt_place.specs.Room.{EachHandlesBelow, HandlesBelow};
 ghost use Rattle.lt_track.specs.Tallied.{AreTallied, IsTallied};
 ghost use Rattle.lt_track.specs.View.{begun, begun_each, body, choices_of};

@@ -6,8 +6,8 @@ ghost use Rattle.lt_tally.specs.Tally.{raises};
 ghost use Rattle.lt_term.specs.Offers.{offers_of, offers_of_each};
 ghost use Rattle.lt_term.specs.Process.{count, loop};
 ghost use Rattle.lt_term.specs.Size.{Weights, capped, tree_weight};
-ghost use Rattle.lt_place.specs.Finding.{AreWeights, IsContext, IsWeight};
-ghost use Rattle.lt_place.specs.Spot.{first_side, first_weight};
+ghost use Rattle.lt_place.specs.inner.Finding.{AreWeights, IsContext, IsWeight};
+ghost use Rattle.lt_place.specs.inner.Spot.{first_side, first_weight};
 ghost use Rattle.lt_track.specs.Tallied.{AreTallied, IsTallied};
 ghost use Rattle.lt_track.specs.View.{begun, body, choices_of};
 

@@ -5,8 +5,7 @@
 //! it. [`raised_in_turn`] and the like do so for the leaves that raise one exception. [`joined`] and [`grown`] are the sums
 //! that they stand on.
 //!
-//! `specs/Tally.antt` has the numbers, and a row for each rule of `lt_term`. No program uses this crate yet: it is for
-//! an instant that makes no tree.
+//! `specs/Tally.antt` has the numbers, and a row for each rule of `lt_term`.
 #![tactic(auto)]
 
 mod capped;

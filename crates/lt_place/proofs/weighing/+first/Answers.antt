@@ -2,7 +2,7 @@ use Rattle.std.proofs.Common.{◌≡◌, suc, ◌+◌, ◌-◌, ◌*◌, refl, a
 use Rattle.lt_term.specs.Offers.{offers_of, offers_of_each}
 use Rattle.lt_term.specs.Size.{capped, tree_weight}
 use Rattle.lt_track.specs.View.{body, choices_of}
-use Rattle.lt_place.specs.Spot.{first_weight}
+use Rattle.lt_place.specs.inner.Spot.{first_weight}
 use Rattle.lt_place.proofs.weighing.+first.Goals as goal
 
 pub weigh_among-returns-else-parts-eq0-clause-is : goal.weigh_among-returns-else-parts-eq0-clause-is
