@@ -85,7 +85,7 @@ pub(crate) fn put_atom(found: &mut String, alloc: Global, sheet: &Sheet) -> Resu
         return Err(Fail::new("it is no part"));
     }
     let mut space = Space::make(alloc, &sheet.table, 1)?;
-    let loaded = space.load(&sheet.table, &[constraint], &known());
+    let loaded = space.load_noted(&sheet.table, &[constraint], &known());
     put_atom_or_fault(found, loaded, space.atom(atom))
 }
 

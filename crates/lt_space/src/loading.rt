@@ -1,6 +1,6 @@
 //! Lists of constraints, loaded.
 
-ghost use Rattle.std.specs.Prelude.{◌≡◌, ◌<◌, ◌≤◌, ◌+◌, ◌*◌, IsTrue, OnErr, OnOk, length, map, nat_lt};
+ghost use Rattle.std.specs.Prelude.{true, ◌≡◌, ◌<◌, ◌≤◌, ◌+◌, ◌*◌, IsTrue, OnErr, OnOk, length, map, nat_lt};
 ghost use Rattle.std.specs.List.{list_all};
 ghost use Rattle.lt_num.specs.Bounds.{most_decimals};
 ghost use Rattle.lt_formula.specs.Kinds.{variables_of};
@@ -23,12 +23,13 @@ use crate::work::Work;
 use lt_formula::{Known, Table};
 use lt_num::Arith;
 
-/// Loads the constraints of a list as [`load_into`] does, and notes what is evaluated for them. Where they meet a fault
-/// nothing is noted.
+/// Loads the constraints of a list as [`load_into`] does, and notes what is evaluated for them, where notes are asked for.
+/// Where they meet a fault nothing is noted.
 pub(crate) fn load_and_note(
     table: &Table,
     wanted: &[u32],
     known: &Known<'_>,
+    notes: bool,
     work: &mut Work,
     noted: &mut Memo,
 ) -> Result<u32, Arith>
@@ -41,14 +42,17 @@ pub(crate) fn load_and_note(
     requires notes { length (memo_numbers noted.old) ≡ table_len table.now }
     ensures loads { LoadTells (formula_of_all (valuation_of_known known.now) (table_kinds table.now)
         (map (spelled (table_expressions table.now)) wanted.now)) result work.old work.new }
-    ensures evaluated { OnOk result (AreEvaluated (valuation_of_known known.now) table.now
-        wanted.now (formulas_in work.new) (memo_numbers noted.new)) }
+    ensures evaluated { notes ≡ true → OnOk result (AreEvaluated (valuation_of_known known.now)
+        table.now wanted.now (formulas_in work.new) (memo_numbers noted.new)) }
     ensures none { OnErr result (IsTrue (are_free (memo_numbers noted.new))) }
     ensures below { IsTrue (are_below (length (formulas_in work.new)) (memo_numbers noted.new)) }
     ensures len { length (memo_numbers noted.new) ≡ length (memo_numbers noted.old) }
 {
     noted.clear();
     let root = load_into(table, wanted, known, work)?;
+    if !notes {
+        return Ok(root);
+    }
     has_each_once(table);
     note_all(table, wanted, known, work, noted);
     Ok(root)

@@ -86,7 +86,7 @@ impl Space {
     /// Loads constraints of a table, by their numbers and in the order of a list: their formula is that of the
     /// constraints joined by `and`. Each expression that isn't known is evaluated at most once; one that is known is
     /// evaluated where it stands, with its parts. It needs no memory, and its time doesn't depend on the size of the
-    /// table.
+    /// table. Of atoms nothing is told afterwards.
     ///
     /// The table is that of [`Space::make`], or one with as many expressions, outputs and locals.
     ///
@@ -110,11 +110,70 @@ impl Space {
         ensures table_stays { IsOver table.now self.new }
         ensures most_stays { space_most self.new ≡ space_most self.old }
         ensures gates { space_gates self.new ≡ space_gates self.old }
+    {
+        self.fill(table, wanted, known, false)
+    }
+
+    /// Loads constraints as [`Space::load`] does, and takes down what it evaluates, so that [`Space::atom`] can tell.
+    ///
+    /// # Errors
+    ///
+    /// Those of [`Space::load`].
+    pub fn load_noted(
+        &mut self,
+        table: &Table,
+        wanted: &[u32],
+        known: &Known<'_>,
+    ) -> Result<(), Arith>
+        requires table { IsOver table.now self.old }
+        requires few { variables_of (table_kinds table.now) ≤ most_variables }
+        requires within { IsTrue (list_all (λ exp. nat_lt exp (table_len table.now)) wanted.now) }
+        requires most { length wanted.now ≤ space_most self.old }
+        requires decimals { known.now.decimals ≤ most_decimals }
+        ensures loads { loaded (space_formula self.new) result ≡
+            formula_of_all (valuation_of_known known.now) (table_kinds table.now)
+            (map (spelled (table_expressions table.now)) wanted.now) }
+        ensures wanted { OnOk result (space_wanted self.new ≡ wanted.now) }
+        ensures none { OnErr result (space_wanted self.new ≡ []) }
+        ensures empty { OnErr result (space_formula self.new ≡ truth true) }
+        ensures decimals { space_decimals self.new ≡ known.now.decimals }
+        ensures table_stays { IsOver table.now self.new }
+        ensures most_stays { space_most self.new ≡ space_most self.old }
+        ensures gates { space_gates self.new ≡ space_gates self.old }
         ensures tells { TellsEvaluated (valuation_of_known known.now) table.now self.new }
+    {
+        self.fill(table, wanted, known, true)
+    }
+
+    // Loads constraints, and takes down what it evaluates where notes are asked for.
+    fn fill(
+        &mut self,
+        table: &Table,
+        wanted: &[u32],
+        known: &Known<'_>,
+        notes: bool,
+    ) -> Result<(), Arith>
+        requires table { IsOver table.now self.old }
+        requires few { variables_of (table_kinds table.now) ≤ most_variables }
+        requires within { IsTrue (list_all (λ exp. nat_lt exp (table_len table.now)) wanted.now) }
+        requires most { length wanted.now ≤ space_most self.old }
+        requires decimals { known.now.decimals ≤ most_decimals }
+        ensures loads { loaded (space_formula self.new) result ≡
+            formula_of_all (valuation_of_known known.now) (table_kinds table.now)
+            (map (spelled (table_expressions table.now)) wanted.now) }
+        ensures wanted { OnOk result (space_wanted self.new ≡ wanted.now) }
+        ensures none { OnErr result (space_wanted self.new ≡ []) }
+        ensures empty { OnErr result (space_formula self.new ≡ truth true) }
+        ensures decimals { space_decimals self.new ≡ known.now.decimals }
+        ensures table_stays { IsOver table.now self.new }
+        ensures most_stays { space_most self.new ≡ space_most self.old }
+        ensures gates { space_gates self.new ≡ space_gates self.old }
+        ensures tells { notes ≡ true →
+            TellsEvaluated (valuation_of_known known.now) table.now self.new }
     {
         self.wanted.clear();
         self.decimals = known.decimals;
-        match load_and_note(table, wanted, known, &mut self.work, &mut self.noted) {
+        match load_and_note(table, wanted, known, notes, &mut self.work, &mut self.noted) {
             Ok(root) => {
                 self.root = root;
                 self.wanted.extend_from_slice(wanted).unwrap();
@@ -149,7 +208,7 @@ impl Space {
         self.root
     }
 
-    /// What the last load says of an atom of a constraint that it loaded: a known Boolean, a Boolean variable or a
+    /// What the last load with notes says of an atom of a constraint that it loaded: a known Boolean, a Boolean variable or a
     /// comparison of numbers, by its number in the table. It is skipped exactly where it wasn't evaluated. Of an
     /// expression that isn't such an atom nothing is promised.
     pub fn atom(&self, exp: u32) -> Loaded<'_>

@@ -9,6 +9,9 @@ use Rattle.lt_space.proofs.loading.load_and_note.Goals as goal
 pub returns-in_err-root-clause-below : goal.returns-in_err-root-clause-below
 returns-in_err-root-clause-below c = free_below (length (formulas_in c.load_into.new.work)) (memo_numbers c.clear.new.self) c.clear.ensures.free
 
+pub returns-then-not-notes-clause-below : goal.returns-then-not-notes-clause-below
+returns-then-not-notes-clause-below c = free_below (length (formulas_in c.load_into.new.work)) (memo_numbers c.clear.new.self) c.clear.ensures.free
+
 pub note_all-requires-clause-noted : goal.note_all-requires-clause-noted
 note_all-requires-clause-noted c =
     free_noted (valuation_of_known c.args.known.now) c.args.table.now c.load_into.new.work (memo_numbers c.clear.new.self) c.in_ok-root.ensures.ready (c.clear.ensures.len ∙ c.requires.notes) c.clear.ensures.free
@@ -22,7 +25,7 @@ returns-clause-loads c =
     loads_noted _ c.in_ok-root.root c.args.work.now c.load_into.new.work c.note_all.new.work c.in_ok-root.ensures.loads c.note_all.ensures.grows c.note_all.ensures.wide
 
 pub returns-clause-evaluated : goal.returns-clause-evaluated
-returns-clause-evaluated c =
+returns-clause-evaluated c = λ so.
     notes_evaluated (valuation_of_known c.args.known.now) c.args.table.now c.args.wanted.now c.load_into.new.work c.note_all.new.work (memo_numbers c.clear.new.self) (memo_numbers c.note_all.new.noted) c.clear.ensures.free c.note_all.ensures
 
 pub returns-clause-below : goal.returns-clause-below
