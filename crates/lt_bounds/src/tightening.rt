@@ -187,5 +187,9 @@ fn quotient(others: i128, coefficient: i128) -> i128
     requires coefficient { coefficient ≢ pos 0 }
     ensures { result ≡ int_div_euclid (neg_ℤ others) coefficient }
 {
-    (-others).div_euclid(coefficient)
+    match coefficient {
+        1 => -others,
+        -1 => others,
+        _ => (-others).div_euclid(coefficient),
+    }
 }
