@@ -15,29 +15,30 @@ ghost use Rattle.lt_propagation.specs.Domains.{AreDomains};
 ghost use Rattle.lt_propagation.specs.Wide.{Keeps, wide, sign_of};
 ghost use Rattle.lt_propagation.specs.inner.Sums.{least_signed, signed};
 
+use crate::agenda::Agenda;
 use crate::evaluation::{scaled, span_of, terms_between};
 use crate::narrowing::narrow;
-use crate::touching::Touched;
 use lt_bounds::cut_in_row;
 use lt_num::Range;
 use lt_space::{Circuit, Gate};
 
-/// Narrows the sign of a comparison by the ranges of its variables.
-pub(crate) fn raise_comparison(
+/// Between which signs a comparison lies by the ranges of its variables; another gate by its own range.
+pub(crate) fn signs_by_variables(
     circuit: &Circuit,
     number: u32,
     decimals: u32,
     count: usize,
-    ranges: &mut [Range],
-    touched: &mut Touched,
-) -> bool
+    ranges: &[Range],
+) -> Range
     requires within { number < circuit_len circuit.now }
     requires decimals { decimals ≤ most_decimals }
-    requires long { length ranges.old ≡ count + circuit_len circuit.now }
-    requires domains { AreDomains ranges.old }
-    ensures keeps { Keeps decimals circuit.now result ranges.old ranges.new }
-    ensures narrower { IsNarrower ranges.old ranges.new }
-    ensures domains { AreDomains ranges.new }
+    requires long { length ranges.now ≡ count + circuit_len circuit.now }
+    requires domains { AreDomains ranges.now }
+    ensures { (values : List ℤ) → IsPointOf ranges.now (wide decimals circuit.now values) →
+        (result.low ≤ℤ
+        slice_index_or (wide decimals circuit.now values) (count + number) (pos 0)) ×
+        (slice_index_or (wide decimals circuit.now values) (count + number) (pos 0) ≤ℤ
+        result.high) }
 {
     let Gate::Compare {
         first,
@@ -46,18 +47,17 @@ pub(crate) fn raise_comparison(
         ..
     } = circuit.gate(number)
     else {
-        return true;
+        return ranges[count + number as usize];
     };
     let span = span_of(
         terms_between(circuit.terms(), first, after),
         &ranges[..count],
     );
     let constant = scaled(constant, decimals);
-    let signs = Range {
+    Range {
         low: sign_of(span.least + constant),
         high: sign_of(span.greatest + constant),
-    };
-    narrow(ranges, count + number as usize, signs, touched)
+    }
 }
 
 // The sign of a number: -1, 0 or 1.
@@ -80,7 +80,7 @@ pub(crate) fn lower_comparison(
     decimals: u32,
     count: usize,
     ranges: &mut [Range],
-    touched: &mut Touched,
+    agenda: &mut Agenda,
 ) -> bool
     requires within { number < circuit_len circuit.now }
     requires decimals { decimals ≤ most_decimals }
@@ -102,10 +102,10 @@ pub(crate) fn lower_comparison(
     let signs = ranges[count + number as usize];
     let terms = terms_between(circuit.terms(), first, after);
     let constant = scaled(constant, decimals);
-    if !cut_above(terms, constant, signs.high, count, ranges, touched) {
+    if !cut_above(terms, constant, signs.high, count, ranges, agenda) {
         return false;
     }
-    cut_below(terms, constant, signs.low, count, ranges, touched)
+    cut_below(terms, constant, signs.low, count, ranges, agenda)
 }
 
 // Narrows ranges by a sum of terms and a constant that is at most the greatest sign, where that isn't over 0.
@@ -115,7 +115,7 @@ fn cut_above(
     high: i64,
     count: usize,
     ranges: &mut [Range],
-    touched: &mut Touched,
+    agenda: &mut Agenda,
 ) -> bool
     requires exact { IsTrue (are_terms terms.now) }
     requires few { length terms.now ≤ most_terms }
@@ -138,7 +138,7 @@ fn cut_above(
         constant - i128::from(high),
         count,
         ranges,
-        touched,
+        agenda,
     )
 }
 
@@ -149,7 +149,7 @@ fn cut_below(
     low: i64,
     count: usize,
     ranges: &mut [Range],
-    touched: &mut Touched,
+    agenda: &mut Agenda,
 ) -> bool
     requires exact { IsTrue (are_terms terms.now) }
     requires few { length terms.now ≤ most_terms }
@@ -172,7 +172,7 @@ fn cut_below(
         i128::from(low) - constant,
         count,
         ranges,
-        touched,
+        agenda,
     )
 }
 
@@ -183,7 +183,7 @@ fn cut_sum(
     constant: i128,
     count: usize,
     ranges: &mut [Range],
-    touched: &mut Touched,
+    agenda: &mut Agenda,
 ) -> bool
     requires exact { IsTrue (are_terms terms.now) }
     requires few { length terms.now ≤ most_terms }
@@ -202,7 +202,7 @@ fn cut_sum(
     }
     let mut rest = terms;
     while let Some((term, more)) = rest.split_first() {
-        if !cut_term(*term, negated, least, count, ranges, touched) {
+        if !cut_term(*term, negated, least, count, ranges, agenda) {
             return false;
         }
         rest = more;
@@ -229,7 +229,7 @@ fn cut_term(
     least: i128,
     count: usize,
     ranges: &mut [Range],
-    touched: &mut Touched,
+    agenda: &mut Agenda,
 ) -> bool
     requires coefficient { unsigned_abs term.1 ≤ most_coefficient }
     requires least { unsigned_abs least ≤ 2 ^ 109 }
@@ -247,7 +247,7 @@ fn cut_term(
         return true;
     }
     match cut_range(term.1, negated, least, ranges[place]) {
-        Some(range) => narrow(ranges, place, range, touched),
+        Some(range) => narrow(ranges, place, range, agenda),
         None => false,
     }
 }

@@ -11,6 +11,7 @@
 //! `specs/Wide.antt` says what wide points are and what keeps them, and `specs/Kleene.antt` what is known of a formula.
 #![tactic(auto)]
 
+mod agenda;
 mod choosing;
 mod comparing;
 mod evaluation;
@@ -19,14 +20,13 @@ mod laws;
 mod narrowing;
 mod propagating;
 mod refuting;
-mod touching;
 mod tying;
 
+pub use agenda::Agenda;
 pub use evaluation::evaluate;
 pub use kleene::Kleene;
 pub use laws::kleene_agrees;
 pub use narrowing::demand_truth;
 pub use propagating::propagate;
 pub use refuting::{Room, refute};
-pub use touching::Touched;
 pub use tying::find_ties;

@@ -13,15 +13,15 @@ ghost use Rattle.lt_propagation.specs.Kleene.{Agrees};
 ghost use Rattle.lt_propagation.specs.Wide.{Keeps, wide};
 ghost use Rattle.lt_propagation.specs.inner.Demands.{Knows, signs_compared, signs_known, signs_of, kleene_by, without_zero};
 
+use crate::agenda::Agenda;
 use crate::evaluation::evaluate_flag;
 use crate::kleene::Kleene;
-use crate::touching::Touched;
 use lt_num::Range;
 use lt_space::{Circuit, Gate, Relation};
 
 /// Narrows a range of a box to what it has of another one, and says whether there is anything left. Where there is nothing,
 /// the box stays. The place is marked where its range was narrowed.
-pub(crate) fn narrow(ranges: &mut [Range], place: usize, to: Range, touched: &mut Touched) -> bool
+pub(crate) fn narrow(ranges: &mut [Range], place: usize, to: Range, agenda: &mut Agenda) -> bool
     requires within { place < length ranges.old }
     requires domains { AreDomains ranges.old }
     ensures keeps { (values : List ℤ) → IsPointOf ranges.old values →
@@ -38,7 +38,7 @@ pub(crate) fn narrow(ranges: &mut [Range], place: usize, to: Range, touched: &mu
         return false;
     }
     if range.low < low || high < range.high {
-        touched.note(place);
+        agenda.note(place);
         ranges[place] = Range { low, high };
     }
     true
@@ -72,7 +72,7 @@ pub(crate) fn demand(
     kleene: Kleene,
     count: usize,
     ranges: &mut [Range],
-    touched: &mut Touched,
+    agenda: &mut Agenda,
 ) -> bool
     requires within { number < circuit_len circuit.now }
     requires long { length ranges.old ≡ count + circuit_len circuit.now }
@@ -85,8 +85,8 @@ pub(crate) fn demand(
     ensures domains { AreDomains ranges.new }
 {
     match kleene {
-        Kleene::True => demand_truth(circuit, number, true, count, ranges, touched),
-        Kleene::False => demand_truth(circuit, number, false, count, ranges, touched),
+        Kleene::True => demand_truth(circuit, number, true, count, ranges, agenda),
+        Kleene::False => demand_truth(circuit, number, false, count, ranges, agenda),
         Kleene::Unknown => true,
     }
 }
@@ -98,7 +98,7 @@ pub fn demand_truth(
     so: bool,
     count: usize,
     ranges: &mut [Range],
-    touched: &mut Touched,
+    agenda: &mut Agenda,
 ) -> bool
     requires within { number < circuit_len circuit.now }
     requires long { length ranges.old ≡ count + circuit_len circuit.now }
@@ -112,7 +112,7 @@ pub fn demand_truth(
 {
     let place = count + number as usize;
     let signs = signs_of(circuit.gate(number), so, ranges[place]);
-    narrow(ranges, place, signs, touched)
+    narrow(ranges, place, signs, agenda)
 }
 
 // The signs of a gate that holds, or doesn't, by the range that its sign has.

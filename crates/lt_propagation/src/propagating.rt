@@ -8,27 +8,28 @@ ghost use Rattle.lt_num.specs.Bounds.{most_decimals};
 ghost use Rattle.lt_space.specs.Circuit.{are_terms, formula_at};
 ghost use Rattle.lt_space.specs.CircuitView.{circuit_formulas, circuit_len, circuit_terms};
 ghost use Rattle.lt_space.specs.Evaluated.{Where};
-ghost use Rattle.lt_space.specs.Formula.{holds};
+ghost use Rattle.lt_space.specs.Formula.{choice, holds};
 ghost use Rattle.lt_propagation.specs.Domains.{AreDomains};
 ghost use Rattle.lt_propagation.specs.Ties.{AreTies};
 ghost use Rattle.lt_propagation.specs.Kleene.{Agrees};
 ghost use Rattle.lt_propagation.specs.Wide.{Keeps, wide};
 ghost use Rattle.lt_propagation.specs.inner.Demands.{Knows};
 
-use crate::comparing::{lower_comparison, raise_comparison};
+use crate::agenda::Agenda;
+use crate::comparing::{lower_comparison, signs_by_variables};
 use crate::evaluation::evaluate_flag;
 use crate::kleene::Kleene;
 use crate::narrowing::{demand, kleene_at, narrow};
-use crate::touching::{Touched, is_beside_touched, is_near_touched};
-use crate::tying::tie_all;
+use crate::tying::tie_gate;
 use lt_num::Range;
 use lt_space::{Circuit, Gate};
 
-// How often the gates are gone through at most.
-const MOST_PASSES: u32 = 8;
+// How often each gate is looked at, at most, on average.
+const MOST_LOOKS: u64 = 8;
 
-/// Narrows a box by what the gates say, and says whether it may have wide points. Only those gates are looked at beside
-/// which a place is touched: whoever narrowed the box before has marked what changed.
+/// Narrows a box by what the gates say, and says whether it may have wide points. Only those gates are looked at that the agenda
+/// has, and those beside a place that is narrowed then: whoever narrowed the box before has noted what changed. Nothing is left
+/// on the agenda.
 pub fn propagate(
     circuit: &Circuit,
     same: &[u32],
@@ -36,7 +37,7 @@ pub fn propagate(
     decimals: u32,
     count: usize,
     ranges: &mut [Range],
-    touched: &mut Touched,
+    agenda: &mut Agenda,
 ) -> bool
     requires ties { AreTies circuit.now same.now }
     requires root { root < circuit_len circuit.now }
@@ -47,29 +48,29 @@ pub fn propagate(
     ensures narrower { IsNarrower ranges.old ranges.new }
     ensures domains { AreDomains ranges.new }
 {
-    for _ in 0..MOST_PASSES {
-        if !raise_and_tie(circuit, same, root, decimals, count, ranges, touched) {
-            return false;
-        }
-        if !lower_all(circuit, root, decimals, count, ranges, touched) {
-            return false;
-        }
-        if !touched.end_pass() {
+    for _ in 0..MOST_LOOKS * (u64::from(root) + 1) {
+        let Some(number) = agenda.take() else {
             return true;
+        };
+        if !look_within(circuit, same, root, number, decimals, count, ranges, agenda) {
+            agenda.clear();
+            return false;
         }
     }
+    agenda.clear();
     true
 }
 
-// Narrows the signs of all gates up to one, parts before wholes, and then those that are equal by each other.
-fn raise_and_tie(
+// Narrows a box by what one gate says, if that isn't behind the root.
+fn look_within(
     circuit: &Circuit,
     same: &[u32],
     root: u32,
+    number: u32,
     decimals: u32,
     count: usize,
     ranges: &mut [Range],
-    touched: &mut Touched,
+    agenda: &mut Agenda,
 ) -> bool
     requires ties { AreTies circuit.now same.now }
     requires root { root < circuit_len circuit.now }
@@ -80,121 +81,24 @@ fn raise_and_tie(
     ensures narrower { IsNarrower ranges.old ranges.new }
     ensures domains { AreDomains ranges.new }
 {
-    if !raise_all(circuit, root, decimals, count, ranges, touched) {
-        return false;
-    }
-    tie_all(circuit, same, decimals, count, ranges, touched)
-}
-
-// Narrows the signs of all gates up to one, parts before wholes.
-fn raise_all(
-    circuit: &Circuit,
-    root: u32,
-    decimals: u32,
-    count: usize,
-    ranges: &mut [Range],
-    touched: &mut Touched,
-) -> bool
-    requires root { root < circuit_len circuit.now }
-    requires decimals { decimals ≤ most_decimals }
-    requires long { length ranges.old ≡ count + circuit_len circuit.now }
-    requires domains { AreDomains ranges.old }
-    ensures keeps { Keeps decimals circuit.now result ranges.old ranges.new }
-    ensures narrower { IsNarrower ranges.old ranges.new }
-    ensures domains { AreDomains ranges.new }
-{
-    for number in 0..root {
-        if !raise_due(circuit, number, decimals, count, ranges, touched) {
-            return false;
-        }
-    }
-    raise_due(circuit, root, decimals, count, ranges, touched)
-}
-
-// Narrows by the signs of all gates from one down, wholes before parts.
-fn lower_all(
-    circuit: &Circuit,
-    root: u32,
-    decimals: u32,
-    count: usize,
-    ranges: &mut [Range],
-    touched: &mut Touched,
-) -> bool
-    requires root { root < circuit_len circuit.now }
-    requires decimals { decimals ≤ most_decimals }
-    requires long { length ranges.old ≡ count + circuit_len circuit.now }
-    requires domains { AreDomains ranges.old }
-    ensures keeps { Keeps decimals circuit.now result ranges.old ranges.new }
-    ensures narrower { IsNarrower ranges.old ranges.new }
-    ensures domains { AreDomains ranges.new }
-{
-    let mut number = root;
-    'gates: loop {
-        if !lower_due(circuit, number, decimals, count, ranges, touched) {
-            return false;
-        }
-        if number == 0 {
-            return true;
-        }
-        number -= 1;
-    }
-}
-
-// Narrows the sign of a gate by what is known of its parts, where a place beside it is touched.
-fn raise_due(
-    circuit: &Circuit,
-    number: u32,
-    decimals: u32,
-    count: usize,
-    ranges: &mut [Range],
-    touched: &mut Touched,
-) -> bool
-    requires within { number < circuit_len circuit.now }
-    requires decimals { decimals ≤ most_decimals }
-    requires long { length ranges.old ≡ count + circuit_len circuit.now }
-    requires domains { AreDomains ranges.old }
-    ensures keeps { Keeps decimals circuit.now result ranges.old ranges.new }
-    ensures narrower { IsNarrower ranges.old ranges.new }
-    ensures domains { AreDomains ranges.new }
-{
-    if !is_beside_touched(circuit, number, count, touched) {
+    if number > root {
         return true;
     }
-    raise_gate(circuit, number, decimals, count, ranges, touched)
+    look(circuit, same, number, decimals, count, ranges, agenda)
 }
 
-// Narrows by the sign of a gate, where that or a place beside it is touched.
-fn lower_due(
+// Narrows a box by what one gate says. Of a gate but a comparison either its parts say something of it, or it says something
+// of them.
+fn look(
     circuit: &Circuit,
+    same: &[u32],
     number: u32,
     decimals: u32,
     count: usize,
     ranges: &mut [Range],
-    touched: &mut Touched,
+    agenda: &mut Agenda,
 ) -> bool
-    requires within { number < circuit_len circuit.now }
-    requires decimals { decimals ≤ most_decimals }
-    requires long { length ranges.old ≡ count + circuit_len circuit.now }
-    requires domains { AreDomains ranges.old }
-    ensures keeps { Keeps decimals circuit.now result ranges.old ranges.new }
-    ensures narrower { IsNarrower ranges.old ranges.new }
-    ensures domains { AreDomains ranges.new }
-{
-    if !is_near_touched(circuit, number, count, touched) {
-        return true;
-    }
-    lower_gate(circuit, number, decimals, count, ranges, touched)
-}
-
-// Narrows the sign of a gate by what is known of its parts.
-fn raise_gate(
-    circuit: &Circuit,
-    number: u32,
-    decimals: u32,
-    count: usize,
-    ranges: &mut [Range],
-    touched: &mut Touched,
-) -> bool
+    requires ties { AreTies circuit.now same.now }
     requires within { number < circuit_len circuit.now }
     requires decimals { decimals ≤ most_decimals }
     requires long { length ranges.old ≡ count + circuit_len circuit.now }
@@ -204,10 +108,78 @@ fn raise_gate(
     ensures domains { AreDomains ranges.new }
 {
     if let Gate::Compare { .. } = circuit.gate(number) {
-        return raise_comparison(circuit, number, decimals, count, ranges, touched);
+        return look_comparison(circuit, same, number, decimals, count, ranges, agenda);
     }
+    if is_open(ranges[count + number as usize]) {
+        return raise_gate(circuit, number, decimals, count, ranges, agenda);
+    }
+    lower_gate(circuit, number, decimals, count, ranges, agenda)
+}
+
+// Whether nothing is known of a sign.
+fn is_open(signs: Range) -> bool {
+    signs.low < 0 && signs.high > 0
+}
+
+// Whether two ranges are the same.
+fn is_same(one: Range, other: Range) -> bool {
+    one.low == other.low && one.high == other.high
+}
+
+// Narrows a box by what a comparison says: its sign by its variables and by a gate of the same sign, and then its variables by
+// its sign, where that says more than they do.
+fn look_comparison(
+    circuit: &Circuit,
+    same: &[u32],
+    number: u32,
+    decimals: u32,
+    count: usize,
+    ranges: &mut [Range],
+    agenda: &mut Agenda,
+) -> bool
+    requires ties { AreTies circuit.now same.now }
+    requires within { number < circuit_len circuit.now }
+    requires decimals { decimals ≤ most_decimals }
+    requires long { length ranges.old ≡ count + circuit_len circuit.now }
+    requires domains { AreDomains ranges.old }
+    ensures keeps { Keeps decimals circuit.now result ranges.old ranges.new }
+    ensures narrower { IsNarrower ranges.old ranges.new }
+    ensures domains { AreDomains ranges.new }
+{
+    let place = count + number as usize;
+    let signs = signs_by_variables(circuit, number, decimals, count, ranges);
+    if !narrow(ranges, place, signs, agenda) {
+        return false;
+    }
+    if !tie_gate(circuit, same, number, decimals, count, ranges, agenda) {
+        return false;
+    }
+    if is_same(ranges[place], signs) {
+        return true;
+    }
+    agenda.release();
+    lower_comparison(circuit, number, decimals, count, ranges, agenda)
+}
+
+// Narrows the sign of a gate by what is known of its parts, but for a comparison.
+fn raise_gate(
+    circuit: &Circuit,
+    number: u32,
+    decimals: u32,
+    count: usize,
+    ranges: &mut [Range],
+    agenda: &mut Agenda,
+) -> bool
+    requires within { number < circuit_len circuit.now }
+    requires decimals { decimals ≤ most_decimals }
+    requires long { length ranges.old ≡ count + circuit_len circuit.now }
+    requires domains { AreDomains ranges.old }
+    ensures keeps { Keeps decimals circuit.now result ranges.old ranges.new }
+    ensures narrower { IsNarrower ranges.old ranges.new }
+    ensures domains { AreDomains ranges.new }
+{
     let kleene = evaluate_parts(circuit, number, count, ranges);
-    demand(circuit, number, kleene, count, ranges, touched)
+    demand(circuit, number, kleene, count, ranges, agenda)
 }
 
 // What is known of a gate by what is known of its parts, but for a comparison.
@@ -248,7 +220,7 @@ fn lower_gate(
     decimals: u32,
     count: usize,
     ranges: &mut [Range],
-    touched: &mut Touched,
+    agenda: &mut Agenda,
 ) -> bool
     requires within { number < circuit_len circuit.now }
     requires decimals { decimals ≤ most_decimals }
@@ -261,47 +233,81 @@ fn lower_gate(
     let whole = kleene_at(circuit, number, count, ranges);
     match circuit.gate(number) {
         Gate::Truth(_) => true,
-        Gate::Flag(variable) => lower_flag(variable, whole, count, ranges, touched),
-        Gate::Compare { .. } => lower_comparison(circuit, number, decimals, count, ranges, touched),
-        Gate::Not(part) => demand(circuit, part, whole.not(), count, ranges, touched),
+        Gate::Flag(variable) => lower_flag(variable, whole, count, ranges, agenda),
+        Gate::Compare { .. } => lower_comparison(circuit, number, decimals, count, ranges, agenda),
+        Gate::Not(part) => demand(circuit, part, whole.not(), count, ranges, agenda),
         Gate::And(left, right) => {
             let first = whole.part_of_both(kleene_at(circuit, right, count, ranges));
             let second = whole.part_of_both(kleene_at(circuit, left, count, ranges));
-            demand_two(circuit, left, first, right, second, count, ranges, touched)
+            demand_two(circuit, left, first, right, second, count, ranges, agenda)
         }
         Gate::Or(left, right) => {
             let first = whole.part_of_either(kleene_at(circuit, right, count, ranges));
             let second = whole.part_of_either(kleene_at(circuit, left, count, ranges));
-            demand_two(circuit, left, first, right, second, count, ranges, touched)
+            demand_two(circuit, left, first, right, second, count, ranges, agenda)
         }
         Gate::Xor(left, right) => {
             let first = whole.xor(kleene_at(circuit, right, count, ranges));
             let second = whole.xor(kleene_at(circuit, left, count, ranges));
-            demand_two(circuit, left, first, right, second, count, ranges, touched)
+            demand_two(circuit, left, first, right, second, count, ranges, agenda)
         }
         Gate::If(condition, first, second) => {
-            let is = kleene_at(circuit, condition, count, ranges);
-            let first_differs = whole.xor(kleene_at(circuit, first, count, ranges));
-            let second_differs = whole.xor(kleene_at(circuit, second, count, ranges));
-            demand(
-                circuit,
-                condition,
-                first_differs.condition(second_differs),
-                count,
-                ranges,
-                touched,
-            ) && demand_two(
-                circuit,
-                first,
-                is.then(whole),
-                second,
-                is.not().then(whole),
-                count,
-                ranges,
-                touched,
+            lower_choice(
+                circuit, whole, condition, first, second, count, ranges, agenda,
             )
         }
     }
+}
+
+// Narrows the signs of the parts of a choice by what is known of the whole.
+fn lower_choice(
+    circuit: &Circuit,
+    whole: Kleene,
+    condition: u32,
+    first: u32,
+    second: u32,
+    count: usize,
+    ranges: &mut [Range],
+    agenda: &mut Agenda,
+) -> bool
+    requires condition { condition < circuit_len circuit.now }
+    requires first { first < circuit_len circuit.now }
+    requires second { second < circuit_len circuit.now }
+    requires long { length ranges.old ≡ count + circuit_len circuit.now }
+    requires domains { AreDomains ranges.old }
+    ensures keeps { (decimals : ℕ) (values : List ℤ) →
+        IsPointOf ranges.old (wide decimals circuit.now values) →
+        Agrees whole (holds decimals values (choice
+        (formula_at (circuit_formulas circuit.now) condition)
+        (formula_at (circuit_formulas circuit.now) first)
+        (formula_at (circuit_formulas circuit.now) second))) →
+        Where result (IsPointOf ranges.new (wide decimals circuit.now values)) }
+    ensures narrower { IsNarrower ranges.old ranges.new }
+    ensures domains { AreDomains ranges.new }
+{
+    let first_differs = whole.xor(kleene_at(circuit, first, count, ranges));
+    let second_differs = whole.xor(kleene_at(circuit, second, count, ranges));
+    if !demand(
+        circuit,
+        condition,
+        first_differs.condition(second_differs),
+        count,
+        ranges,
+        agenda,
+    ) {
+        return false;
+    }
+    let is = kleene_at(circuit, condition, count, ranges);
+    demand_two(
+        circuit,
+        first,
+        is.then(whole),
+        second,
+        is.not().then(whole),
+        count,
+        ranges,
+        agenda,
+    )
 }
 
 // Narrows the signs of two gates to what is known of them.
@@ -313,7 +319,7 @@ fn demand_two(
     second: Kleene,
     count: usize,
     ranges: &mut [Range],
-    touched: &mut Touched,
+    agenda: &mut Agenda,
 ) -> bool
     requires left { left < circuit_len circuit.now }
     requires right { right < circuit_len circuit.now }
@@ -327,10 +333,10 @@ fn demand_two(
     ensures narrower { IsNarrower ranges.old ranges.new }
     ensures domains { AreDomains ranges.new }
 {
-    if !demand(circuit, left, first, count, ranges, touched) {
+    if !demand(circuit, left, first, count, ranges, agenda) {
         return false;
     }
-    demand(circuit, right, second, count, ranges, touched)
+    demand(circuit, right, second, count, ranges, agenda)
 }
 
 // Narrows the range of a variable by what is known of it as a flag.
@@ -339,7 +345,7 @@ fn lower_flag(
     whole: Kleene,
     count: usize,
     ranges: &mut [Range],
-    touched: &mut Touched,
+    agenda: &mut Agenda,
 ) -> bool
     requires count { count ≤ length ranges.old }
     requires domains { AreDomains ranges.old }
@@ -356,8 +362,8 @@ fn lower_flag(
     }
     let range = ranges[place];
     match whole {
-        Kleene::True => narrow(ranges, place, not_zero(range), touched),
-        Kleene::False => narrow(ranges, place, Range { low: 0, high: 0 }, touched),
+        Kleene::True => narrow(ranges, place, not_zero(range), agenda),
+        Kleene::False => narrow(ranges, place, Range { low: 0, high: 0 }, agenda),
         Kleene::Unknown => true,
     }
 }

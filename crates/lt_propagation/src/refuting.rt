@@ -11,10 +11,10 @@ ghost use Rattle.lt_propagation.specs.Ties.{AreTies};
 ghost use Rattle.lt_propagation.specs.Wide.{wide};
 ghost use Rattle.lt_propagation.specs.inner.Choices.{IsChoice, IsSplitAt};
 
+use crate::agenda::Agenda;
 use crate::choosing::{Choice, choose};
 use crate::kleene::Kleene;
 use crate::propagating::propagate;
-use crate::touching::Touched;
 use lt_num::Range;
 use lt_space::Circuit;
 
@@ -30,8 +30,11 @@ pub struct Room {
     /// A truth value of each gate.
     pub kleenes: Vec<Kleene>,
 
-    /// Which places of the box at hand were narrowed lately.
-    pub touched: Touched,
+    /// Where the boxes that are left were split.
+    pub places: Vec<usize>,
+
+    /// Which gates are still to be looked at.
+    pub agenda: Agenda,
 }
 
 /// Whether it was found out, in so many steps, that a box has no wide point. Where this is false, nothing is known.
@@ -65,8 +68,9 @@ pub fn refute(
         hard,
         &mut room.current,
         &mut room.stack,
+        &mut room.places,
         &mut room.kleenes,
-        &mut room.touched,
+        &mut room.agenda,
         steps,
     )
 }
@@ -80,8 +84,9 @@ fn search(
     hard: &[bool],
     current: &mut [Range],
     stack: &mut Vec<Range>,
+    places: &mut Vec<usize>,
     kleenes: &mut Vec<Kleene>,
-    touched: &mut Touched,
+    agenda: &mut Agenda,
     steps: u64,
 ) -> bool
     requires ties { AreTies circuit.now same.now }
@@ -96,7 +101,7 @@ fn search(
     ensures kleenes { vec_capacity kleenes.new ≡ vec_capacity kleenes.old }
 {
     stack.clear();
-    touched.touch_all(current.len());
+    places.clear();
     let mut height: usize = 0;
     let mut left = steps;
     'boxes: loop {
@@ -104,22 +109,26 @@ fn search(
             return false;
         }
         left -= 1;
-        if propagate(circuit, same, root, decimals, hard.len(), current, touched) {
+        if propagate(circuit, same, root, decimals, hard.len(), current, agenda) {
             let Some(choice) = choose(circuit, root, hard, current, kleenes) else {
                 return false;
             };
-            if stack.capacity() - stack.len() < current.len() {
+            if stack.capacity() - stack.len() < current.len() || places.len() == places.capacity() {
                 return false;
             }
             split_at(choice, current, stack);
-            touched.touch_only(choice.place);
+            places.push_reserved(choice.place);
+            agenda.note(choice.place);
             height += 1;
         } else {
             if height == 0 {
                 return true;
             }
             take_box(current, stack);
-            touched.touch_all(current.len());
+            let Some(place) = places.pop() else {
+                return false;
+            };
+            agenda.note(place);
             height -= 1;
         }
     }

@@ -10,44 +10,45 @@ ghost use Rattle.lt_propagation.specs.Domains.{AreDomains};
 ghost use Rattle.lt_propagation.specs.Ties.{AreTied, AreTies};
 ghost use Rattle.lt_propagation.specs.Wide.{Keeps};
 
+use crate::agenda::Agenda;
 use crate::evaluation::terms_between;
 use crate::narrowing::narrow;
-use crate::touching::Touched;
 use lt_num::Range;
 use lt_space::{Circuit, Gate};
 
-/// Narrows the signs of gates that are equal by each other.
-pub(crate) fn tie_all(
+/// Narrows the sign of a gate, and that of another gate of the same sign, by each other.
+pub(crate) fn tie_gate(
     circuit: &Circuit,
     same: &[u32],
+    number: u32,
     decimals: u32,
     count: usize,
     ranges: &mut [Range],
-    touched: &mut Touched,
+    agenda: &mut Agenda,
 ) -> bool
-    requires decimals { decimals ≤ most_decimals }
     requires ties { AreTies circuit.now same.now }
+    requires within { number < circuit_len circuit.now }
+    requires decimals { decimals ≤ most_decimals }
     requires long { length ranges.old ≡ count + circuit_len circuit.now }
     requires domains { AreDomains ranges.old }
     ensures keeps { Keeps decimals circuit.now result ranges.old ranges.new }
     ensures narrower { IsNarrower ranges.old ranges.new }
     ensures domains { AreDomains ranges.new }
 {
-    for number in 0..same.len().min(circuit.len()) {
-        if !narrow_both(
-            ranges,
-            count + number,
-            count + same[number] as usize,
-            touched,
-        ) {
-            return false;
-        }
+    let number = number as usize;
+    if number >= same.len() {
+        return true;
     }
-    true
+    narrow_both(
+        ranges,
+        count + number,
+        count + same[number] as usize,
+        agenda,
+    )
 }
 
 // Narrows two ranges by each other.
-fn narrow_both(ranges: &mut [Range], place: usize, other: usize, touched: &mut Touched) -> bool
+fn narrow_both(ranges: &mut [Range], place: usize, other: usize, agenda: &mut Agenda) -> bool
     requires place { place < length ranges.old }
     requires other { other < length ranges.old }
     requires domains { AreDomains ranges.old }
@@ -61,11 +62,11 @@ fn narrow_both(ranges: &mut [Range], place: usize, other: usize, touched: &mut T
         return true;
     }
     let range = ranges[other];
-    if !narrow(ranges, place, range, touched) {
+    if !narrow(ranges, place, range, agenda) {
         return false;
     }
     let range = ranges[place];
-    narrow(ranges, other, range, touched)
+    narrow(ranges, other, range, agenda)
 }
 
 /// Finds for each gate an earlier one with the same form, or else itself, in reserved room. `latest` has gates by their forms:
@@ -93,7 +94,10 @@ fn tie_of(circuit: &Circuit, number: u32, latest: &mut [u32]) -> u32
     ensures tied { AreTied circuit.now number result }
     ensures latest { length latest.new ≡ length latest.old }
 {
-    let place = place_of(circuit, number) % latest.len();
+    let Some(place) = place_of(circuit, number) else {
+        return number;
+    };
+    let place = place % latest.len();
     let other = latest[place];
     if other < number && is_tied(circuit, number, other) {
         return other;
@@ -102,8 +106,8 @@ fn tie_of(circuit: &Circuit, number: u32, latest: &mut [u32]) -> u32
     number
 }
 
-// Where a gate stands among the latest ones: equal forms stand at one place.
-fn place_of(circuit: &Circuit, number: u32) -> usize
+// Where a comparison stands among the latest ones: equal forms stand at one place.
+fn place_of(circuit: &Circuit, number: u32) -> Option<usize>
     requires within { number < circuit_len circuit.now }
 {
     match circuit.gate(number) {
@@ -121,9 +125,9 @@ fn place_of(circuit: &Circuit, number: u32) -> usize
                     .wrapping_mul(31)
                     .wrapping_add(factor.unsigned_abs() as usize);
             }
-            place
+            Some(place)
         }
-        _ => 0,
+        _ => None,
     }
 }
 

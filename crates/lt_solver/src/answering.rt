@@ -85,6 +85,10 @@ pub(crate) fn answer_within(
     }
     write_ranges(scope, ranges, &mut room.current);
     find_ties(space.circuit(), &mut room.latest, &mut room.same);
+    room.boxes
+        .refuter
+        .agenda
+        .prepare(space.circuit(), &room.same, space.root(), targets.len());
     if search(
         space,
         &room.same,

@@ -17,7 +17,7 @@ use crate::diving::dive;
 use crate::widening::{copy_box, propagate_box, widen};
 use lt_formula::Memory;
 use lt_num::Range;
-use lt_propagation::{Kleene, Touched, evaluate, refute};
+use lt_propagation::{Agenda, Kleene, evaluate, refute};
 use lt_space::Space;
 use std::alloc::Global;
 
@@ -69,7 +69,8 @@ impl BoxRoom {
                 current: Vec::with_capacity(alloc, places)?,
                 stack: Vec::with_capacity(alloc, kept)?,
                 kleenes: Vec::with_capacity(alloc, gates)?,
-                touched: Touched::make(alloc, places)?,
+                places: Vec::with_capacity(alloc, MOST_BOXES)?,
+                agenda: Agenda::make(alloc, variables, gates)?,
             },
         })
     }
@@ -80,40 +81,6 @@ impl BoxRoom {
 ///
 /// All that a search asks of this is that the first solution stays.
 pub(crate) fn classify(
-    space: &Space,
-    same: &[u32],
-    targets: &[i64],
-    hard: &[bool],
-    steps: u64,
-    current: &mut [Range],
-    room: &mut BoxRoom,
-) -> BoxStatus
-    requires ties { AreTies (space_circuit space.now) same.now }
-    requires domains { AreDomains current.old }
-    requires targets { length targets.now ≡ length current.old }
-    requires hard { length hard.now ≡ length current.old }
-    requires widened { length current.old + circuit_len (space_circuit space.now) ≤
-        vec_capacity room.old.widened }
-    requires copy { length current.old + circuit_len (space_circuit space.now) ≤
-        vec_capacity room.old.refuter.current }
-    requires kleenes { circuit_len (space_circuit space.now) ≤
-        vec_capacity room.old.refuter.kleenes }
-    ensures sees { Classifies (passes space.now) targets.now current.old current.new result }
-    ensures narrower { IsNarrower current.old current.new }
-    ensures widened { vec_capacity room.old.widened ≤ vec_capacity room.new.widened }
-    ensures copy { vec_capacity room.old.refuter.current ≤ vec_capacity room.new.refuter.current }
-    ensures kleenes { vec_capacity room.new.refuter.kleenes ≡
-        vec_capacity room.old.refuter.kleenes }
-{
-    match kleene_within(space, current, &mut room.refuter.kleenes) {
-        Kleene::False => BoxStatus::Infeasible,
-        Kleene::True => BoxStatus::Solved,
-        Kleene::Unknown => classify_unknown(space, same, targets, hard, steps, current, room),
-    }
-}
-
-// What is found of a box once it is propagated.
-fn classify_unknown(
     space: &Space,
     same: &[u32],
     targets: &[i64],
@@ -177,7 +144,7 @@ fn classify_widened(
     ensures copy { vec_capacity room.old.current ≤ vec_capacity room.new.current }
     ensures kleenes { vec_capacity room.new.kleenes ≡ vec_capacity room.old.kleenes }
 {
-    if !propagate_box(space, same, current, widened, &mut room.touched) {
+    if !propagate_box(space, same, current, widened, &mut room.agenda) {
         return BoxStatus::Infeasible;
     }
     match first_open(current) {
@@ -249,7 +216,7 @@ fn classify_propagated(
         &mut room.current,
         current,
         &mut room.kleenes,
-        &mut room.touched,
+        &mut room.agenda,
     ) {
         return BoxStatus::Solved;
     }
@@ -299,7 +266,7 @@ fn dive_within(
     copy: &mut [Range],
     current: &mut [Range],
     kleenes: &mut Vec<Kleene>,
-    touched: &mut Touched,
+    agenda: &mut Agenda,
 ) -> bool
     requires ties { AreTies (space_circuit space.now) same.now }
     requires targets { length targets.now ≡ length current.old }
@@ -318,7 +285,7 @@ fn dive_within(
     ensures narrower { IsNarrower current.old current.new }
     ensures kleenes { vec_capacity kleenes.new ≡ vec_capacity kleenes.old }
 {
-    if !is_dived(space, same, targets, copy, touched) {
+    if !is_dived(space, same, targets, copy, agenda) {
         return false;
     }
     let point = &copy[..targets.len()];
@@ -338,7 +305,7 @@ fn is_dived(
     same: &[u32],
     targets: &[i64],
     copy: &mut [Range],
-    touched: &mut Touched,
+    agenda: &mut Agenda,
 ) -> bool
     requires ties { AreTies (space_circuit space.now) same.now }
     requires long { length copy.old ≡ length targets.now + circuit_len (space_circuit space.now) }
@@ -357,7 +324,7 @@ fn is_dived(
         space.decimals(),
         targets,
         copy,
-        touched,
+        agenda,
     )
 }
 

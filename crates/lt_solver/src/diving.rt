@@ -12,7 +12,7 @@ ghost use Rattle.lt_solver.specs.inner.Points.{AreFixed, first_raw};
 ghost use Rattle.lt_solver.specs.inner.Dive.{Covers, Leads, test_of};
 
 use lt_num::Range;
-use lt_propagation::{Touched, propagate};
+use lt_propagation::{Agenda, propagate};
 use lt_space::Circuit;
 
 /// Fixes each variable at its first number in turn, and propagates the box after each; says whether every one could be fixed.
@@ -23,7 +23,7 @@ pub(crate) fn dive(
     decimals: u32,
     targets: &[i64],
     ranges: &mut [Range],
-    touched: &mut Touched,
+    agenda: &mut Agenda,
 ) -> bool
     requires ties { AreTies circuit.now same.now }
     requires root { root < circuit_len circuit.now }
@@ -42,16 +42,16 @@ pub(crate) fn dive(
     for i in 0..targets.len() {
         let was_fixed = ranges[i].low == ranges[i].high;
         fix(i, targets[i], ranges);
-        touched.touch_only(i);
         if !propagate_fixed(
             circuit,
             same,
             root,
             decimals,
             targets.len(),
+            i,
             was_fixed,
             ranges,
-            touched,
+            agenda,
         ) {
             return false;
         }
@@ -66,9 +66,10 @@ fn propagate_fixed(
     root: u32,
     decimals: u32,
     count: usize,
+    place: usize,
     was_fixed: bool,
     ranges: &mut [Range],
-    touched: &mut Touched,
+    agenda: &mut Agenda,
 ) -> bool
     requires ties { AreTies circuit.now same.now }
     requires root { root < circuit_len circuit.now }
@@ -82,7 +83,8 @@ fn propagate_fixed(
     if was_fixed {
         return true;
     }
-    propagate(circuit, same, root, decimals, count, ranges, touched)
+    agenda.note(place);
+    propagate(circuit, same, root, decimals, count, ranges, agenda)
 }
 
 // Fixes a variable at its first number.
