@@ -65,7 +65,7 @@ others_under (c ∷ cs) (r ∷ rs) (v ∷ vs) (suc i) p l =
     omega (arith, ints)
 
 -- a value under a bound rounded down
-under : (a : ℕ) (v x : ℤ) → (pos (suc a) *ℤ v) ≤ℤ x → v ≤ℤ int_div_euclid x (pos (suc a))
+pub under : (a : ℕ) (v x : ℤ) → (pos (suc a) *ℤ v) ≤ℤ x → v ≤ℤ int_div_euclid x (pos (suc a))
 under a (pos v) (pos x) h = let d = le-div v x (suc a) (omega arith) (omega (arith, ints)) in omega (arith, ints)
 under a (pos v) (negsuc x) h = absurd (omega (arith, ints))
 under a (negsuc v) (pos x) h = omega (arith, ints)

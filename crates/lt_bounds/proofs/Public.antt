@@ -1,5 +1,6 @@
 -- What the proofs of other crates may cite of this one.
-use Rattle.std.specs.Prelude.{◌≡◌, ◌*◌, ◌++◌, ◌<◌, ℕ, List, [], ◌∷◌, length, slice_set, ℤ, pos, ◌*ℤ◌, ◌+ℤ◌, ◌≤ℤ◌}
+use Rattle.std.specs.Prelude.{◌≡◌, ◌*◌, ◌++◌, ◌<◌, ℕ, suc, List, [], ◌∷◌, length, slice_set, ℤ, pos, ◌*ℤ◌, ◌+ℤ◌, ◌≤ℤ◌}
+use Rattle.std.specs.Int.{int_div_euclid}
 use Rattle.lt_num.specs.Range.{IsWithin}
 use Rattle.lt_num.specs.declared.range.Range.{Range}
 use Rattle.lt_bounds.specs.Ranges.{range_at, AreSome, IsNarrower}
@@ -60,3 +61,7 @@ rows_pushed = passes.rows_pushed
 -- a value stays inside where a term leaves it
 pub inside_cut : (a m v : ℤ) (range : Range) → IsWithin range v → ((a *ℤ v) +ℤ m) ≤ℤ pos 0 → IsWithin (cut a m range) v
 inside_cut = points.inside_cut
+
+-- a value under a quotient that is rounded down
+pub quotient_under : (a : ℕ) (v x : ℤ) → (pos (suc a) *ℤ v) ≤ℤ x → v ≤ℤ int_div_euclid x (pos (suc a))
+quotient_under = points.under

@@ -4,7 +4,7 @@ ghost use Rattle.lt_diff.specs.Limits.{most_bound, most_variables};
 ghost use Rattle.std.specs.Prelude.{◌≡◌, ◌≢◌, ◌*◌, ◌<◌, ◌≤◌, ℕ, ℤ, pos, ◌≤ℤ◌, length, get_or};
 
 use crate::relaxing::close;
-use crate::square::{negate_row, state, unstate};
+use crate::square::{UNSTATED, negate_row, state, unstate};
 use lt_formula::Memory;
 use std::alloc::Global;
 
@@ -22,7 +22,7 @@ pub struct Matrix {
 }
 
 impl Matrix {
-    ghost use Rattle.std.specs.Prelude.{◌↔◌, IsTrue, Bool, true, false, IfOk, neg_ℤ};
+    ghost use Rattle.std.specs.Prelude.{◌↔◌, IsTrue, Bool, true, false, IfOk, MatchOption, neg_ℤ};
     ghost use Rattle.lt_diff.specs.Bounds.{AreLess, AreUnstated, HasLeasts, HasSameSolutions, IsBounded, IsSolution, StaysStated, unstated};
     ghost use Rattle.lt_diff.specs.Closing.{AreStated, IsClosed};
     ghost use Rattle.lt_diff.specs.MatrixView.{matrix_cell, matrix_size};
@@ -46,6 +46,24 @@ impl Matrix {
         };
         matrix.clear();
         Ok(matrix)
+    }
+
+    /// How many variables it has, with the constant 0.
+    pub fn size(&self) -> usize
+        ensures { result ≡ matrix_size self.now }
+    {
+        self.size
+    }
+
+    /// How much one variable may be over another; nothing, where no bound is stated.
+    pub fn most(&self, a: usize, b: usize) -> Option<i64>
+        requires a { a < matrix_size self.now }
+        requires b { b < matrix_size self.now }
+        ensures { MatchOption result (matrix_cell self.now a b ≡ unstated)
+            (λ most. (matrix_cell self.now a b ≡ most) × (matrix_cell self.now a b ≢ unstated)) }
+    {
+        let most = self.cells[a * self.size + b];
+        if most == UNSTATED { None } else { Some(most) }
     }
 
     /// Takes all bounds back. It may be called at any time, and is all that may be called once the bounds contradict each

@@ -16,3 +16,5 @@ mod SumLemmas
 mod Comparisons
 -- Gates of equal signs.
 mod Ties
+-- Bounds on the differences of variables.
+mod Bounds

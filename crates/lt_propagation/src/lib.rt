@@ -14,11 +14,13 @@
 mod agenda;
 mod choosing;
 mod comparing;
+mod differences;
 mod evaluation;
 mod kleene;
 mod laws;
 mod narrowing;
 mod propagating;
+mod propagator;
 mod refuting;
 mod tying;
 
@@ -28,5 +30,6 @@ pub use kleene::Kleene;
 pub use laws::kleene_agrees;
 pub use narrowing::demand_truth;
 pub use propagating::propagate;
+pub use propagator::Propagator;
 pub use refuting::{Room, refute};
 pub use tying::find_ties;

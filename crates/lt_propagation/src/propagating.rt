@@ -17,9 +17,11 @@ ghost use Rattle.lt_propagation.specs.inner.Demands.{Knows};
 
 use crate::agenda::Agenda;
 use crate::comparing::{lower_comparison, signs_by_variables};
+use crate::differences::narrow_by_differences;
 use crate::evaluation::evaluate_flag;
 use crate::kleene::Kleene;
 use crate::narrowing::{demand, kleene_at, narrow};
+use crate::propagator::Propagator;
 use crate::tying::tie_gate;
 use lt_num::Range;
 use lt_space::{Circuit, Gate};
@@ -28,8 +30,8 @@ use lt_space::{Circuit, Gate};
 const MOST_LOOKS: u64 = 8;
 
 /// Narrows a box by what the gates say, and says whether it may have wide points. Only those gates are looked at that the agenda
-/// has, and those beside a place that is narrowed then: whoever narrowed the box before has noted what changed. Nothing is left
-/// on the agenda.
+/// has, and those beside a place that is narrowed then: whoever narrowed the box before has noted what changed. Where
+/// that doesn't come to an end soon, comparisons of differences are taken together, once. Nothing is left on the agenda.
 pub fn propagate(
     circuit: &Circuit,
     same: &[u32],
@@ -37,7 +39,7 @@ pub fn propagate(
     decimals: u32,
     count: usize,
     ranges: &mut [Range],
-    agenda: &mut Agenda,
+    propagator: &mut Propagator,
 ) -> bool
     requires ties { AreTies circuit.now same.now }
     requires root { root < circuit_len circuit.now }
@@ -49,16 +51,34 @@ pub fn propagate(
     ensures domains { AreDomains ranges.new }
 {
     for _ in 0..MOST_LOOKS * (u64::from(root) + 1) {
-        let Some(number) = agenda.take() else {
+        let Some(number) = propagator.agenda.take() else {
             return true;
         };
-        if !look_within(circuit, same, root, number, decimals, count, ranges, agenda) {
-            agenda.clear();
+        if !look_within(
+            circuit,
+            same,
+            root,
+            number,
+            decimals,
+            count,
+            ranges,
+            &mut propagator.agenda,
+        ) {
+            propagator.agenda.clear();
             return false;
         }
     }
-    agenda.clear();
-    true
+    let alive = narrow_by_differences(
+        circuit,
+        root,
+        decimals,
+        count,
+        ranges,
+        &mut propagator.matrix,
+        &mut propagator.agenda,
+    );
+    propagator.agenda.clear();
+    alive
 }
 
 // Narrows a box by what one gate says, if that isn't behind the root.

@@ -11,10 +11,10 @@ ghost use Rattle.lt_propagation.specs.Ties.{AreTies};
 ghost use Rattle.lt_propagation.specs.Wide.{wide};
 ghost use Rattle.lt_propagation.specs.inner.Choices.{IsChoice, IsSplitAt};
 
-use crate::agenda::Agenda;
 use crate::choosing::{Choice, choose};
 use crate::kleene::Kleene;
 use crate::propagating::propagate;
+use crate::propagator::Propagator;
 use lt_num::Range;
 use lt_space::Circuit;
 
@@ -33,8 +33,8 @@ pub struct Room {
     /// Where the boxes that are left were split.
     pub places: Vec<usize>,
 
-    /// Which gates are still to be looked at.
-    pub agenda: Agenda,
+    /// What a propagation works with.
+    pub propagator: Propagator,
 }
 
 /// Whether it was found out, in so many steps, that a box has no wide point. Where this is false, nothing is known.
@@ -70,7 +70,7 @@ pub fn refute(
         &mut room.stack,
         &mut room.places,
         &mut room.kleenes,
-        &mut room.agenda,
+        &mut room.propagator,
         steps,
     )
 }
@@ -86,7 +86,7 @@ fn search(
     stack: &mut Vec<Range>,
     places: &mut Vec<usize>,
     kleenes: &mut Vec<Kleene>,
-    agenda: &mut Agenda,
+    propagator: &mut Propagator,
     steps: u64,
 ) -> bool
     requires ties { AreTies circuit.now same.now }
@@ -109,7 +109,15 @@ fn search(
             return false;
         }
         left -= 1;
-        if propagate(circuit, same, root, decimals, hard.len(), current, agenda) {
+        if propagate(
+            circuit,
+            same,
+            root,
+            decimals,
+            hard.len(),
+            current,
+            propagator,
+        ) {
             let Some(choice) = choose(circuit, root, hard, current, kleenes) else {
                 return false;
             };
@@ -118,7 +126,7 @@ fn search(
             }
             split_at(choice, current, stack);
             places.push_reserved(choice.place);
-            agenda.note(choice.place);
+            propagator.note(choice.place);
             height += 1;
         } else {
             if height == 0 {
@@ -128,7 +136,7 @@ fn search(
             let Some(place) = places.pop() else {
                 return false;
             };
-            agenda.note(place);
+            propagator.note(place);
             height -= 1;
         }
     }

@@ -87,7 +87,7 @@ pub(crate) fn answer_within(
     find_ties(space.circuit(), &mut room.latest, &mut room.same);
     room.boxes
         .refuter
-        .agenda
+        .propagator
         .prepare(space.circuit(), &room.same, space.root(), targets.len());
     if search(
         space,

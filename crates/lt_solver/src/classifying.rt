@@ -17,7 +17,7 @@ use crate::diving::dive;
 use crate::widening::{copy_box, propagate_box, widen};
 use lt_formula::Memory;
 use lt_num::Range;
-use lt_propagation::{Agenda, Kleene, evaluate, refute};
+use lt_propagation::{Kleene, Propagator, evaluate, refute};
 use lt_space::Space;
 use std::alloc::Global;
 
@@ -70,7 +70,7 @@ impl BoxRoom {
                 stack: Vec::with_capacity(alloc, kept)?,
                 kleenes: Vec::with_capacity(alloc, gates)?,
                 places: Vec::with_capacity(alloc, MOST_BOXES)?,
-                agenda: Agenda::make(alloc, variables, gates)?,
+                propagator: Propagator::make(alloc, variables, gates)?,
             },
         })
     }
@@ -144,7 +144,7 @@ fn classify_widened(
     ensures copy { vec_capacity room.old.current ≤ vec_capacity room.new.current }
     ensures kleenes { vec_capacity room.new.kleenes ≡ vec_capacity room.old.kleenes }
 {
-    if !propagate_box(space, same, current, widened, &mut room.agenda) {
+    if !propagate_box(space, same, current, widened, &mut room.propagator) {
         return BoxStatus::Infeasible;
     }
     match first_open(current) {
@@ -216,7 +216,7 @@ fn classify_propagated(
         &mut room.current,
         current,
         &mut room.kleenes,
-        &mut room.agenda,
+        &mut room.propagator,
     ) {
         return BoxStatus::Solved;
     }
@@ -266,7 +266,7 @@ fn dive_within(
     copy: &mut [Range],
     current: &mut [Range],
     kleenes: &mut Vec<Kleene>,
-    agenda: &mut Agenda,
+    propagator: &mut Propagator,
 ) -> bool
     requires ties { AreTies (space_circuit space.now) same.now }
     requires targets { length targets.now ≡ length current.old }
@@ -285,7 +285,7 @@ fn dive_within(
     ensures narrower { IsNarrower current.old current.new }
     ensures kleenes { vec_capacity kleenes.new ≡ vec_capacity kleenes.old }
 {
-    if !is_dived(space, same, targets, copy, agenda) {
+    if !is_dived(space, same, targets, copy, propagator) {
         return false;
     }
     let point = &copy[..targets.len()];
@@ -305,7 +305,7 @@ fn is_dived(
     same: &[u32],
     targets: &[i64],
     copy: &mut [Range],
-    agenda: &mut Agenda,
+    propagator: &mut Propagator,
 ) -> bool
     requires ties { AreTies (space_circuit space.now) same.now }
     requires long { length copy.old ≡ length targets.now + circuit_len (space_circuit space.now) }
@@ -324,7 +324,7 @@ fn is_dived(
         space.decimals(),
         targets,
         copy,
-        agenda,
+        propagator,
     )
 }
 

@@ -12,7 +12,7 @@ ghost use Rattle.lt_solver.specs.inner.Points.{AreFixed, first_raw};
 ghost use Rattle.lt_solver.specs.inner.Dive.{Covers, Leads, test_of};
 
 use lt_num::Range;
-use lt_propagation::{Agenda, propagate};
+use lt_propagation::{Propagator, propagate};
 use lt_space::Circuit;
 
 /// Fixes each variable at its first number in turn, and propagates the box after each; says whether every one could be fixed.
@@ -23,7 +23,7 @@ pub(crate) fn dive(
     decimals: u32,
     targets: &[i64],
     ranges: &mut [Range],
-    agenda: &mut Agenda,
+    propagator: &mut Propagator,
 ) -> bool
     requires ties { AreTies circuit.now same.now }
     requires root { root < circuit_len circuit.now }
@@ -51,7 +51,7 @@ pub(crate) fn dive(
             i,
             was_fixed,
             ranges,
-            agenda,
+            propagator,
         ) {
             return false;
         }
@@ -69,7 +69,7 @@ fn propagate_fixed(
     place: usize,
     was_fixed: bool,
     ranges: &mut [Range],
-    agenda: &mut Agenda,
+    propagator: &mut Propagator,
 ) -> bool
     requires ties { AreTies circuit.now same.now }
     requires root { root < circuit_len circuit.now }
@@ -83,8 +83,8 @@ fn propagate_fixed(
     if was_fixed {
         return true;
     }
-    agenda.note(place);
-    propagate(circuit, same, root, decimals, count, ranges, agenda)
+    propagator.note(place);
+    propagate(circuit, same, root, decimals, count, ranges, propagator)
 }
 
 // Fixes a variable at its first number.

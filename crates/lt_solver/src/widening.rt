@@ -13,7 +13,7 @@ ghost use Rattle.lt_solver.specs.inner.Dive.{Covers};
 ghost use Rattle.lt_solver.specs.inner.Classified.{passes};
 
 use lt_num::Range;
-use lt_propagation::{Agenda, demand_truth, propagate};
+use lt_propagation::{Propagator, demand_truth, propagate};
 use lt_space::Space;
 
 /// Narrows a box by what the formula says, and says whether it may have solutions. `widened` has any signs of the gates behind it,
@@ -23,7 +23,7 @@ pub(crate) fn propagate_box(
     same: &[u32],
     current: &mut [Range],
     widened: &mut [Range],
-    agenda: &mut Agenda,
+    propagator: &mut Propagator,
 ) -> bool
     requires ties { AreTies (space_circuit space.now) same.now }
     requires domains { AreDomains current.old }
@@ -42,7 +42,7 @@ pub(crate) fn propagate_box(
     ensures narrower { IsNarrower current.old current.new }
 {
     let count = current.len();
-    if !propagate_demanded(space, same, count, widened, agenda) {
+    if !propagate_demanded(space, same, count, widened, propagator) {
         return false;
     }
     current.copy_from_slice(&widened[..count]);
@@ -79,7 +79,7 @@ fn propagate_demanded(
     same: &[u32],
     count: usize,
     ranges: &mut [Range],
-    agenda: &mut Agenda,
+    propagator: &mut Propagator,
 ) -> bool
     requires ties { AreTies (space_circuit space.now) same.now }
     requires long { length ranges.old ≡ count + circuit_len (space_circuit space.now) }
@@ -92,8 +92,15 @@ fn propagate_demanded(
     ensures narrower { IsNarrower ranges.old ranges.new }
     ensures domains { AreDomains ranges.new }
 {
-    agenda.note_start(ranges);
-    if !demand_truth(space.circuit(), space.root(), true, count, ranges, agenda) {
+    propagator.note_start(ranges);
+    if !demand_truth(
+        space.circuit(),
+        space.root(),
+        true,
+        count,
+        ranges,
+        &mut propagator.agenda,
+    ) {
         return false;
     }
     propagate(
@@ -103,6 +110,6 @@ fn propagate_demanded(
         space.decimals(),
         count,
         ranges,
-        agenda,
+        propagator,
     )
 }

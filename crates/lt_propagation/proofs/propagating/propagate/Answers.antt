@@ -19,3 +19,9 @@ loop-preserved c =
       narrower = narrower_more c.args.ranges.now c.loop.ranges c.look_within.new.ranges c.loop.invariant.narrower c.look_within.ensures.narrower;
       domains = c.look_within.ensures.domains;
     }
+
+pub returns-clause-narrower : goal.returns-clause-narrower
+returns-clause-narrower c = narrower_more c.args.ranges.now c.loop.ranges c.narrow_by_differences-alive.new.ranges c.loop.invariant.narrower c.narrow_by_differences-alive.ensures.narrower
+
+pub returns-clause-keeps : goal.returns-clause-keeps
+returns-clause-keeps c = λ values p. c.narrow_by_differences-alive.ensures.keeps values (c.loop.invariant.keeps values p)

@@ -1,0 +1,56 @@
+//! What a propagation works with beside a box.
+
+ghost use Rattle.std.specs.Prelude.{◌<◌};
+ghost use Rattle.lt_space.specs.CircuitView.{circuit_len};
+
+use crate::agenda::Agenda;
+use lt_diff::Matrix;
+use lt_formula::Memory;
+use lt_num::Range;
+use lt_space::Circuit;
+use std::alloc::Global;
+
+/// What a propagation works with beside a box: which gates are still to be looked at, and room for bounds on differences. No
+/// proof stands on what is in it.
+#[derive(Drop)]
+pub struct Propagator {
+    /// Which gates are still to be looked at.
+    pub agenda: Agenda,
+
+    /// Room for bounds on the differences of variables.
+    pub matrix: Matrix,
+}
+
+impl Propagator {
+    /// One for boxes of so many variables, and for circuits of up to so many gates.
+    ///
+    /// # Errors
+    ///
+    /// Want of memory; also where there are more than 128 variables.
+    pub fn make(alloc: Global, variables: usize, gates: usize) -> Result<Propagator, Memory> {
+        if variables > 128 {
+            return Err(Memory);
+        }
+        Ok(Propagator {
+            agenda: Agenda::make(alloc, variables, gates)?,
+            matrix: Matrix::make(alloc, variables + 1)?,
+        })
+    }
+
+    /// Finds out which gates up to a root stand beside which places. Nothing waits then.
+    pub fn prepare(&mut self, circuit: &Circuit, same: &[u32], root: u32, variables: usize)
+        requires { root < circuit_len circuit.now }
+    {
+        self.agenda.prepare(circuit, same, root, variables);
+    }
+
+    /// Notes what says something of a box of whose gates nothing is known.
+    pub fn note_start(&mut self, ranges: &[Range]) {
+        self.agenda.note_start(ranges);
+    }
+
+    /// Notes a place that was narrowed.
+    pub fn note(&mut self, place: usize) {
+        self.agenda.note(place);
+    }
+}
