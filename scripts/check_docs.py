@@ -150,7 +150,7 @@ def furnish(room, program, plant):
         shutil.copytree(os.path.join(TOP, name), os.path.join(room, name))
     for name, path in (("lurette", program), ("lt_plant", plant)):
         with open(os.path.join(room, name), "w", encoding="utf-8") as file:
-            file.write(CALLED.replace("PROGRAM", os.path.abspath(path)))
+            file.write(CALLED.replace("PROGRAM", path))
         os.chmod(os.path.join(room, name), 0o755)
 
 
@@ -202,17 +202,23 @@ def check(program, plant):
     return count, faults
 
 
-def main(words):
+def programs(words):
+    """The paths of the programs `lurette` and `lt_plant` that words of the command line name."""
     built = lambda name: os.path.join(TOP, "crates", name, "out", name)
-    parser = argparse.ArgumentParser(prog="check_docs.py")
+    parser = argparse.ArgumentParser()
     parser.add_argument("--program", default=built("lurette"))
     parser.add_argument("--plant", default=built("lt_plant"))
     given = parser.parse_args(words)
-    for path in (given.program, given.plant):
+    return os.path.abspath(given.program), os.path.abspath(given.plant)
+
+
+def main(words):
+    program, plant = programs(words)
+    for path in (program, plant):
         if not os.access(path, os.X_OK):
             print(f"check_docs: {path} is not there, so no command can be run", file=sys.stderr)
             return 2
-    count, faults = check(given.program, given.plant)
+    count, faults = check(program, plant)
     for line in faults:
         print(line)
     wrong = sum(not it.startswith(" ") for it in faults)
