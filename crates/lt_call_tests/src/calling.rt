@@ -20,6 +20,7 @@ pub fn found_of(alloc: Global, row: &str, room: usize) -> Result<String, Fail> {
     let mut spawner = KeepingSpawner {
         programs: programs_of(alloc, row)?,
         finished: Finished::Nobody,
+        ends: Calls::new(numbers_of(alloc, value_of(row, "ends fail ", ""))?),
         faults: 0,
     };
     let mut found = called(alloc, row, room, &mut spawner)?;
@@ -60,7 +61,9 @@ pub fn called<S: Spawner>(
     let mut files = files_of(alloc, row)?;
     let failing = numbers_of(alloc, value_of(row, "writes fail ", ""))?;
     let mut trace = MemSink::make(alloc, room, failing)?;
-    call_over(alloc, &words, &mut files, programs, &mut trace)
+    let failing = numbers_of(alloc, value_of(row, "says fails ", ""))?;
+    let mut says = MemSink::make(alloc, 1_000, failing)?;
+    call_over(alloc, &words, &mut files, programs, &mut trace, &mut says)
 }
 
 fn call_over<S: Spawner>(
@@ -69,9 +72,9 @@ fn call_over<S: Spawner>(
     files: &mut MemFiles,
     programs: &mut S,
     trace: &mut MemSink,
+    says: &mut MemSink,
 ) -> Result<String, Fail> {
-    let mut says = MemSink::make(alloc, 1_000, Vec::new(alloc))?;
-    let code = lurette(alloc, words, files, programs, trace, &mut says).code();
+    let code = lurette(alloc, words, files, programs, trace, says).code();
     let trace = text_of(trace.written());
     let said = text_of(says.written());
     let asked = files.asked.len();

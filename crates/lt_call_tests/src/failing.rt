@@ -8,7 +8,7 @@ fn files_and_traces_that_fail_end_calls(rt: HostRuntime) -> Result<(), Fail> {
     check_rows(
         &rt,
         "",
-        15,
+        20,
         r#"
 ## files are refused
 f is node n() returns (b: bool) = b fby not b
@@ -75,6 +75,34 @@ trace holds 0 to 45
 = 9 lurette: device trace 0
 
 trace holds 46
+
+## a line that can't be said changes neither status nor trace
+says fails 0
+
+$ run f
+f is node n() returns (x: int [0;3]) = x > 3
+> #seed 0\n#inputs "x":int\n#outputs\n#end deadlock 1
+= 4
+
+-- It was said in vain that the trace can't be written.
+$ run f
+f is node n() returns (x: int [0;3]) = x > 3
+> #seed 0\n#inputs "x":int\n#outputs
+writes fail 1
+= 9
+
+$ run f
+f is node n() returns (x: int [0;3]) = y
+= 3
+
+$ run g
+f is node n() returns (x: int [0;3]) = x > 3
+= 9
+
+$ run
+f is node n() returns (x: int [0;3]) = x > 3
+= 2
+files 0
 "#,
     )
 }

@@ -8,7 +8,7 @@ fn programs_that_fail_end_calls(rt: HostRuntime) -> Result<(), Fail> {
     check_rows(
         &rt,
         "",
-        15,
+        16,
         r#"
 ## a controller that fails ends the run
 -- It is sent its line by the calls 0 and 2, and replies in the calls 1 and 3.
@@ -42,6 +42,18 @@ c fails 3
 > #step 1\n5 #outs 7\n#end device controller 2
 = 9 lurette: device controller 2
 c got "5\n7\n"
+
+## a controller that fails after its last reply ends the run
+-- The call 3 is the second that receives: its first reply came in one piece.
+f is node n(y: int) returns (x: int [0;3]) = loop x = 1
+> #seed 0\n#inputs "x":int\n#outputs "y":int
+
+$ run f --sut c -l 3
+c says "5\n"
+c fails 3
+> #step 1\n1 #outs 5\n#end device controller 2
+= 9 lurette: device controller 2
+c got "1\n1\n"
 
 ## an oracle that fails ends the run
 f is node n() returns (x: int [0;3]) = loop x = 1

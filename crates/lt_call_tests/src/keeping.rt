@@ -5,7 +5,7 @@ ghost use Rattle.lt_call_tests.specs.Keeping.{closed_by};
 ghost use Rattle.lt_io.specs.MemSpawner.{programs_of};
 ghost use Rattle.lt_io.specs.ScriptState.{link_of};
 
-use lt_io::{Failed, Link, MemSpawner, ScriptLink, Spawner, StartRefusal};
+use lt_io::{Calls, Failed, Link, MemSpawner, ScriptLink, Spawner, StartRefusal};
 use std::alloc::{AllocError, Global};
 use std::{mem, str};
 
@@ -55,6 +55,9 @@ impl Link for KeptLink {
 pub struct KeepingSpawner {
     pub programs: MemSpawner,
     pub finished: Finished,
+
+    // The calls of `finish`. One that fails is counted, and changes nothing else.
+    pub ends: Calls,
     pub faults: u64,
 }
 
@@ -84,6 +87,12 @@ impl Spawner for KeepingSpawner {
     fn finish(&mut self, link: KeptLink) {
         let KeptLink { link, mut place } = link;
         self.faults = self.faults.saturating_add(link.faults());
+        if self.ends.is_next_to_fail() {
+            self.ends.count_fault();
+            self.faults = self.faults.saturating_add(1);
+        } else {
+            self.ends.count_success();
+        }
         *place = mem::replace(&mut self.finished, Finished::Nobody);
         self.finished = Finished::After(place, link);
     }

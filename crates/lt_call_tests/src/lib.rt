@@ -17,6 +17,8 @@ mod ends;
 #[cfg(test)]
 mod failing;
 #[cfg(test)]
+mod failing_once;
+#[cfg(test)]
 mod failing_sides;
 pub mod keeping;
 #[cfg(test)]

@@ -15,14 +15,17 @@
 //! c holds 3                 it has room for so many bytes that it is sent
 //! c fails 1                 the calls of it that fail, where the first one is 0; likewise with
 //! reads fail 0              the files that are read,
-//! starts fail 0             the programs that are started, and
-//! writes fail 0             the texts of the trace that are written
+//! starts fail 0             the programs that are started,
+//! ends fail 0               the programs that are waited for,
+//! writes fail 0             the texts of the trace that are written, and
+//! says fails 0              the texts of the line that is said
 //! trace holds 9             there is room for so many bytes of the trace, and no more of the lines `>` come of the call
 //! trace holds 4 to 9        that is so for each of these numbers
 //! beside plants             the programs are plants, each by its word
 //!
 //! > #step 1\n5 #outs 7      lines of the trace that comes of it, each with its line feed
 //! = 4 lurette: deadlock 1   the status, and the line that is said. Without such a line they are 0 and nothing
+//! = 4                       the status where nothing is said
 //! c got "5\n7\n"            what a program was sent, in the order in which they were finished
 //! asks c o                  the commands that were asked for. Without such a line they are those that got something
 //! files 2                   how many files were asked for. Without such a line it is one
@@ -40,7 +43,7 @@ use std::test::Fail;
 
 // What a line may begin with, and what may stand after the name of a program.
 const BEGINNINGS: &str =
-    "## ;$;f is ;t is ;reads fail ;starts fail ;writes fail ;trace holds ;beside plants;> ;= ;asks ;files ;is printed";
+    "## ;$;f is ;t is ;reads fail ;starts fail ;ends fail ;writes fail ;says fails ;trace holds ;beside plants;> ;= ;asks ;files ;is printed";
 
 const OF_PROGRAMS: &str = "says ;cuts ;holds ;fails ;got ";
 
@@ -169,10 +172,13 @@ fn push_due(due: &mut String, row: &str, room: usize) -> Result<(), Fail> {
 
 // The status and the line that is said, and how many files were asked for.
 fn push_due_ending(due: &mut String, row: &str) -> Result<(), Fail> {
-    if value_of(row, "= ", "").is_none() {
-        due.push_str("0 ")?;
+    let ending = value_of(row, "= ", "").unwrap_or("0");
+    if ending.contains(' ') {
+        push_after(due, row, "= ")?;
+    } else {
+        due.push_str(ending)?;
+        due.push_str(" ")?;
     }
-    push_after(due, row, "= ")?;
     due.push_str("files ")?;
     due.push_str(value_of(row, "files ", "").unwrap_or("1"))?;
     due.push_str("\n")?;
