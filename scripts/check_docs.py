@@ -20,7 +20,8 @@ import sys
 import tempfile
 from collections import namedtuple
 
-TOP = os.path.dirname(os.path.dirname(os.path.abspath(__file__)))
+import calls
+
 DOCUMENTS = ("README.md", "docs/LANGUAGE.md", "docs/COMMAND.md", "docs/TRACE.md")
 
 # A command, with the file and the line where it stands, and the lines that are to come of it; or
@@ -131,7 +132,7 @@ def commands_of_example(file, text):
 
 
 def read(path):
-    with open(os.path.join(TOP, path), encoding="utf-8") as file:
+    with open(os.path.join(calls.TOP, path), encoding="utf-8") as file:
         return file.read()
 
 
@@ -139,7 +140,7 @@ def all_commands():
     """The commands of each file, in turn."""
     for file in DOCUMENTS:
         yield commands_of_document(file, read(file))
-    for name in sorted(os.listdir(os.path.join(TOP, "examples"))):
+    for name in sorted(os.listdir(os.path.join(calls.TOP, "examples"))):
         if name.endswith(".lut"):
             yield commands_of_example(f"examples/{name}", read(f"examples/{name}"))
 
@@ -147,7 +148,7 @@ def all_commands():
 def furnish(room, program, plant):
     """Puts into a folder what commands at the top of the repository find there."""
     for name in ("docs", "examples", "scripts"):
-        shutil.copytree(os.path.join(TOP, name), os.path.join(room, name))
+        shutil.copytree(os.path.join(calls.TOP, name), os.path.join(room, name))
     for name, path in (("lurette", program), ("lt_plant", plant)):
         with open(os.path.join(room, name), "w", encoding="utf-8") as file:
             file.write(CALLED.replace("PROGRAM", path))
@@ -204,10 +205,9 @@ def check(program, plant):
 
 def programs(words):
     """The paths of the programs `lurette` and `lt_plant` that words of the command line name."""
-    built = lambda name: os.path.join(TOP, "crates", name, "out", name)
-    parser = argparse.ArgumentParser()
-    parser.add_argument("--program", default=built("lurette"))
-    parser.add_argument("--plant", default=built("lt_plant"))
+    parser = argparse.ArgumentParser(prog="check_docs.py")
+    parser.add_argument("--program", default=calls.built("lurette"))
+    parser.add_argument("--plant", default=calls.built("lt_plant"))
     given = parser.parse_args(words)
     return os.path.abspath(given.program), os.path.abspath(given.plant)
 

@@ -20,18 +20,14 @@ program is the one that `rt ci` leaves in the checkout, where no option names an
 import argparse
 import glob
 import os
-import random
 import re
-import resource
-import subprocess
 import sys
-import tempfile
-from collections import Counter, namedtuple
+from collections import Counter
 
+import calls
 import explain
+from chance import Chance
 
-TOP = os.path.dirname(os.path.dirname(os.path.abspath(__file__)))
-SECONDS = 10
 STEPS = 3
 
 # -- Texts -----------------------------------------------------------------------------------------
@@ -130,27 +126,6 @@ RULES = {
 LARGE = [it.encode() for it in NUMBERS.split() if len(it) > 1]
 
 
-class Chance:
-    """Draws by a name: the same ones for the same name."""
-
-    def __init__(self, name):
-        self._random = random.Random(name).random
-
-    def below(self, count):
-        return int(self._random() * count)
-
-    def one_of(self, things):
-        return things[self.below(len(things))]
-
-    def is_one_in(self, count):
-        return self.below(count) == 0
-
-    def piece(self, length, most):
-        """Where a piece begins and ends in what is so long."""
-        begin = self.below(length + 1)
-        return begin, min(length, begin + self.below(most) + 1)
-
-
 def spelled_out(word, depth, chance):
     """The tokens of a word of RULES, in which so many words are open in one another."""
     if word not in RULES:
@@ -226,7 +201,7 @@ CHANGES = (flipped, without_lines, swapped, repeated, enlarged)
 def examples():
     """The texts of the examples, by their names."""
     found = []
-    for path in sorted(glob.glob(os.path.join(TOP, "examples", "*.lut"))):
+    for path in sorted(glob.glob(os.path.join(calls.TOP, "examples", "*.lut"))):
         with open(path, "rb") as file:
             found.append(file.read())
     return found
@@ -244,9 +219,6 @@ def mutated_text(seed, number):
 TEXTS = {"tokens": text_of_tokens, "mutated": mutated_text}
 
 # -- What may come of a call -----------------------------------------------------------------------
-
-# The status is None where the call hadn't ended. `seconds` are those of the processor.
-Outcome = namedtuple("Outcome", "status output errors seconds")
 
 WITHOUT_PLACE = (
     "file.TooLong",
@@ -311,7 +283,7 @@ def fault_of(mode, length, outcome):
     """What is wrong with what came of a text of so many bytes; None where nothing is."""
     status, line = outcome.status, line_of(outcome.errors)
     if status is None:
-        return f"had not ended after {SECONDS} seconds"
+        return f"had not ended after {calls.SECONDS} seconds"
     if status < 0:
         return f"was ended by the signal {-status}"
     if status != 3 and status not in LINES[mode]:
@@ -343,25 +315,6 @@ def fault_between(printed, again, run):
 # -- Calls -----------------------------------------------------------------------------------------
 
 
-def seconds_so_far():
-    used = resource.getrusage(resource.RUSAGE_CHILDREN)
-    return used.ru_utime + used.ru_stime
-
-
-def outcome(program, text, *words):
-    """What comes of a call of the program with a text as its file."""
-    how = {"stdin": subprocess.DEVNULL, "stdout": subprocess.PIPE, "stderr": subprocess.PIPE}
-    before = seconds_so_far()
-    with tempfile.NamedTemporaryFile(prefix="hostile-") as file:
-        file.write(text)
-        file.flush()
-        try:
-            run = subprocess.run([program, *words, file.name], timeout=SECONDS, check=False, **how)
-        except subprocess.TimeoutExpired:
-            return Outcome(None, b"", b"", SECONDS)
-    return Outcome(run.returncode, run.stdout, run.stderr, seconds_so_far() - before)
-
-
 def name_of_end(mode, found):
     """How an outcome is counted."""
     line = (line_of(found.errors) or "").split(" ")
@@ -371,8 +324,9 @@ def name_of_end(mode, found):
 
 def tried(program, text):
     """The ends of a text's calls, and what is wrong with them."""
-    printed, run = outcome(program, text, "print"), outcome(program, text, "run", "-l", str(STEPS))
-    again = outcome(program, printed.output, "print") if printed.status == 0 else printed
+    printed = calls.outcome(program, text, "print")
+    run = calls.outcome(program, text, "run", "-l", str(STEPS))
+    again = calls.outcome(program, printed.output, "print") if printed.status == 0 else printed
     ends, faults = [], []
     for mode, found in (("print", printed), ("run", run)):
         ends.append(name_of_end(mode, found))
@@ -402,13 +356,12 @@ def try_texts(program, kind, seed, most):
 
 
 def main(words):
-    built = os.path.join(TOP, "crates", "lurette", "out", "lurette")
     parser = argparse.ArgumentParser(prog="hostile.py")
     parser.add_argument("kind", choices=sorted(TEXTS))
     parser.add_argument("seed", type=int)
     parser.add_argument("most", type=int)
     parser.add_argument("--show", action="store_true")
-    parser.add_argument("--program", default=built)
+    parser.add_argument("--program", default=calls.built("lurette"))
     given = parser.parse_args(words)
     if given.show:
         sys.stdout.buffer.write(TEXTS[given.kind](given.seed, given.most))

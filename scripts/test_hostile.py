@@ -5,6 +5,8 @@ import re
 import unittest
 
 import hostile
+from calls import Outcome
+from chance import Chance
 
 TOP = os.path.dirname(os.path.dirname(os.path.abspath(__file__)))
 TRACE = b'#seed 0\n#inputs "b":bool\n#outputs\n'
@@ -20,7 +22,7 @@ def codes():
 
 def fault(mode, status, said="", output=b"", length=40):
     errors = f"lurette: {said}\n".encode() if said else b""
-    return hostile.fault_of(mode, length, hostile.Outcome(status, output, errors, 0.0))
+    return hostile.fault_of(mode, length, Outcome(status, output, errors, 0.0))
 
 
 class Texts(unittest.TestCase):
@@ -32,7 +34,7 @@ class Texts(unittest.TestCase):
             self.assertGreater(len(set(texts)), 35, kind)
 
     def test_what_is_drawn_is_the_same_in_every_version(self):
-        chance = hostile.Chance("a name")
+        chance = Chance("a name")
         self.assertEqual([chance.below(100) for _ in range(6)], [2, 19, 70, 62, 3, 89])
 
     def test_each_way_of_a_word_ends(self):
@@ -40,13 +42,13 @@ class Texts(unittest.TestCase):
             for way in ways:
                 parts = [it for it in way.split() if it.isupper()]
                 self.assertEqual([it for it in parts if it not in hostile.RULES], [], word)
-            self.assertTrue(hostile.spelled_out(word, 0, hostile.Chance("")), word)
+            self.assertTrue(hostile.spelled_out(word, 0, Chance("")), word)
 
     def test_each_change_takes_any_text(self):
         for change in hostile.CHANGES:
             for text in (b"x", b"\n", b"node n() returns (b: bool) = b\n", b"\xff\x00"):
                 for number in range(20):
-                    self.assertIsInstance(change(text, hostile.Chance(f"{number}")), bytes)
+                    self.assertIsInstance(change(text, Chance(f"{number}")), bytes)
 
 
 class Ends(unittest.TestCase):
@@ -98,7 +100,7 @@ class Ends(unittest.TestCase):
             self.assertIsNotNone(fault(mode, status, said, output), (mode, status, said))
 
     def test_outcomes_beside_each_other(self):
-        made = lambda status, output, said: hostile.Outcome(status, output, said, 0.0)
+        made = lambda status, output, said: Outcome(status, output, said, 0.0)
         refused = made(3, b"", b"lurette: refused lex.BadByte at 1\n")
         printed, other = made(0, b"b\n", b""), made(0, b"c\n", b"")
         untyped = made(3, b"", b"lurette: refused type.NoNode\n")

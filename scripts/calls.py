@@ -1,0 +1,39 @@
+"""Calls of the programs, and what comes of them."""
+
+import os
+import resource
+import subprocess
+import tempfile
+from collections import namedtuple
+
+TOP = os.path.dirname(os.path.dirname(os.path.abspath(__file__)))
+# How long a call is waited for.
+SECONDS = 10
+
+# What comes of a call. The status is None where the call hadn't ended. `seconds` are those of the
+# processor.
+Outcome = namedtuple("Outcome", "status output errors seconds")
+
+
+def built(name):
+    """Where `rt ci` leaves a program in the checkout."""
+    return os.path.join(TOP, "crates", name, "out", name)
+
+
+def seconds_so_far():
+    used = resource.getrusage(resource.RUSAGE_CHILDREN)
+    return used.ru_utime + used.ru_stime
+
+
+def outcome(program, text, *words):
+    """What comes of a call of a program with a text as its file."""
+    how = {"stdin": subprocess.DEVNULL, "stdout": subprocess.PIPE, "stderr": subprocess.PIPE}
+    before = seconds_so_far()
+    with tempfile.NamedTemporaryFile(prefix="lurette-") as file:
+        file.write(text)
+        file.flush()
+        try:
+            run = subprocess.run([program, *words, file.name], timeout=SECONDS, check=False, **how)
+        except subprocess.TimeoutExpired:
+            return Outcome(None, b"", b"", SECONDS)
+    return Outcome(run.returncode, run.stdout, run.stderr, seconds_so_far() - before)
