@@ -234,6 +234,10 @@ OFFERED = {
 # -- One instant -----------------------------------------------------------------------------------
 
 
+class Stopped(Exception):
+    """That a run ends at a leaf, by a fault or since a search is over the budget: how it ends."""
+
+
 class Instance:
     """One instant of a run: what is known in it, and the words that decide it."""
 
@@ -300,40 +304,38 @@ class Instance:
         count = variable.high - variable.low + 1
         return variable.low + word(self.seed, self.step, VARIABLES + number) % count
 
-    def is_live(self, tree):
-        """Whether a leaf that can be taken may be come to in a tree."""
-        if isinstance(tree, Order):
-            return self.is_live(tree.first) or self.is_live(tree.second)
-        if isinstance(tree, Any):
-            return any(weight and self.is_live(part) for weight, part in tree.parts)
-        if isinstance(tree, Go):
-            return self.solution(tree) is not None
-        return not isinstance(tree, Nothing)
+    def drawn(self, tree):
+        """The leaf that is drawn, and the values of its instant; None where there is none."""
+        for leaf in self.arrived(tree):
+            values = self.solution(leaf) if isinstance(leaf, Go) else None
+            if values is not None or isinstance(leaf, (Over, Raised)):
+                return leaf, values
+        return None, None
 
-    def drawn(self, tree, place=0):
-        """The leaf that is drawn, or None. The place counts what stands before the tree."""
-        if isinstance(tree, Order):
-            if self.is_live(tree.first):
-                return self.drawn(tree.first, place + 1)
-            return self.drawn(tree.second, place + 1 + size(tree.first))
-        if isinstance(tree, Any):
-            return self.chosen(tree, place)
-        return tree if self.is_live(tree) else None
+    def arrived(self, tree, place=0):
+        """The leaves that a draw comes to, in turn, as long as each before can't be taken.
 
-    def chosen(self, tree, place):
-        """The leaf that a choice comes to: a part is drawn, and another one where that can't be."""
-        weights = [weight for weight, _ in tree.parts]
-        for attempt in range(len(weights)):
-            if not sum(weights):
-                return None
+        The place counts what stands before the tree.
+        """
+        if isinstance(tree, Order):
+            yield from self.arrived(tree.first, place + 1)
+            yield from self.arrived(tree.second, place + 1 + size(tree.first))
+        elif isinstance(tree, Any):
+            for at in self.tried([weight for weight, _ in tree.parts], place):
+                before = sum(size(part) for _, part in tree.parts[:at])
+                yield from self.arrived(tree.parts[at][1], place + 1 + before)
+        else:
+            yield tree
+
+    def tried(self, weights, place):
+        """The parts of a choice in the order in which they are drawn, by their weights."""
+        attempt = 0
+        while sum(weights):
             rest = word(self.seed, self.step, 64 * place + attempt) % sum(weights)
             sums = itertools.accumulate(weights)
             at = next(at for at, so_far in enumerate(sums) if so_far > rest)
-            if self.is_live(tree.parts[at][1]):
-                before = sum(size(part) for _, part in tree.parts[:at])
-                return self.drawn(tree.parts[at][1], place + 1 + before)
-            weights[at] = 0
-        return None
+            yield at
+            weights[at], attempt = 0, attempt + 1
 
 
 def size(tree):
@@ -364,7 +366,11 @@ def start_of(variable):
     return min(max(0, variable.low), variable.high)
 
 
-def steps_of(scenario, controller, limit, seed=0):
+# The values of the outputs, the inputs and the locals; those of a local out of scope are None.
+Step = namedtuple("Step", "told answers locals")
+
+
+def steps_of(scenario, controller, limit, seed=0, instance=Instance):
     """The steps of a run, each as its values in turn, and how the run ends."""
     known = {it.name: start_of(it) for it in scenario.inputs}
     declared = [*scenario.inputs, *scenario.outputs]
@@ -372,47 +378,65 @@ def steps_of(scenario, controller, limit, seed=0):
     term, steps = scenario.body, []
     while len(steps) < limit:
         number = len(steps) + 1
-        instance = Instance(scenario, seed, number, known, last)
-        leaf = instance.drawn(offers(term))
+        at_hand = instance(scenario, seed, number, known, last)
+        try:
+            leaf, values = at_hand.drawn(offers(term))
+        except Stopped as stopped:
+            return steps, f"{stopped} {number}"
         if leaf is None:
             return steps, f"deadlock {number}"
         if isinstance(leaf, Over):
             return steps, f"normal {len(steps)}"
         if isinstance(leaf, Raised):
             return steps, f"raise {leaf.name} {number}"
-        values = instance.solution(leaf)
         last = {**last, **known, **values}
         told = [values[it.name] for it in scenario.outputs]
         answers = controller(told)
         known = dict(zip((it.name for it in scenario.inputs), answers))
-        steps.append((told, answers))
+        steps.append(Step(told, answers, [values.get(it.name) for it in scenario.locals]))
         term = leaf.rest
     return steps, f"limit {limit}"
 
 
-def written(kind, value):
-    """A value as a trace has it; a real has two decimals."""
+def written(kind, value, decimals=2):
+    """A value as a trace has it."""
+    if value is None:
+        return "?"
     if kind == "bool":
         return "ft"[value]
-    if kind == "int":
+    if kind == "int" or decimals == 0:
         return str(value)
-    return f"{'-' if value < 0 else ''}{abs(value) // 100}.{abs(value) % 100:02}"
+    whole, rest = divmod(abs(value), 10**decimals)
+    return f"{'-' if value < 0 else ''}{whole}.{rest:0{decimals}}"
 
 
-def row_of(variables, values):
-    return " ".join(written(it.kind, value) for it, value in zip(variables, values))
+def row_of(variables, values, decimals=2):
+    return [written(it.kind, value, decimals) for it, value in zip(variables, values)]
+
+
+def declared_words(variables):
+    return [f'"{it.name}":{it.kind}' for it in variables]
+
+
+def lines_of(scenario, steps, end, seed=0, decimals=2, has_locals=False):
+    """The lines of the trace of a run that made these steps and ended so."""
+    named = [it._replace(name=f"{it.name}.{at}") for at, it in enumerate(scenario.locals, 1)]
+    header = [f"#seed {seed}"]
+    header.append(" ".join(["#inputs", *declared_words(scenario.outputs)]))
+    header.append(" ".join(["#outputs", *declared_words(scenario.inputs)]))
+    lines = header + [" ".join(["#locals", *declared_words(named)])] * has_locals
+    for number, step in enumerate(steps, 1):
+        words = row_of(scenario.outputs, step.told, decimals)
+        words += ["#outs", *row_of(scenario.inputs, step.answers, decimals)]
+        if has_locals:
+            words += ["#locs", *row_of(named, step.locals, decimals)]
+        lines += [f"#step {number}", " ".join(words)]
+    return [*lines, f"#end {end}"]
 
 
 def trace_of(scenario, controller, limit, seed=0):
     """The lines of the trace of a run."""
-    declared = lambda variables: "".join(f' "{it.name}":{it.kind}' for it in variables)
-    lines = [f"#seed {seed}"]
-    lines += [f"#inputs{declared(scenario.outputs)}", f"#outputs{declared(scenario.inputs)}"]
-    steps, end = steps_of(scenario, controller, limit, seed)
-    for number, (told, answers) in enumerate(steps, 1):
-        words = [row_of(scenario.outputs, told), "#outs", row_of(scenario.inputs, answers)]
-        lines += [f"#step {number}", " ".join(it for it in words if it)]
-    return [*lines, f"#end {end}"]
+    return lines_of(scenario, *steps_of(scenario, controller, limit, seed), seed)
 
 
 # -- The scenarios of examples/ that tests compare -------------------------------------------------

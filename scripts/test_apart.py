@@ -17,7 +17,7 @@ def read(path):
 def first_values(scenario, limit, seed):
     """What the first output of a scenario is in each step, as its trace has it."""
     steps, _ = apart.steps_of(scenario, apart.NOBODY, limit, seed)
-    return [apart.written(scenario.outputs[0].kind, told[0]) for told, _ in steps]
+    return [apart.written(scenario.outputs[0].kind, it.told[0]) for it in steps]
 
 
 def traces_of_rows(text):
@@ -84,7 +84,7 @@ class Thermostats(unittest.TestCase):
     def test_the_heater_of_the_drafty_room_goes_on_and_off(self):
         for seed in (1, 3):
             steps, _ = apart.steps_of(apart.drafty(), apart.thermostat(), 100, seed)
-            heats = [answers[0] for _, answers in steps]
+            heats = [it.answers[0] for it in steps]
             switches = sum(one != other for one, other in zip(heats, heats[1:]))
             self.assertGreaterEqual(switches, 10, seed)
 
