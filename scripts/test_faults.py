@@ -552,13 +552,10 @@ class Outputs(Fault):
                 call = self.begin(self.words_beside(role, command), {"stdout": end})
                 os.close(end)
                 header = texts(role, 0).encode()
-                read = b""
-                while len(read) < len(header):
-                    read += os.read(trace, len(header) - len(read))
-                os.close(trace)
+                with open(trace, "rb") as stream:
+                    self.assertEqual(stream.read(len(header)), header)
                 os.write(gone, b"\n")
                 self.check(self.finish(call), 9, "device trace 1", "")
-                self.assertEqual(read, header)
                 self.assertEqual(self.got(role), "1\n")
 
     def test_a_trace_that_may_only_grow_so_long(self):
