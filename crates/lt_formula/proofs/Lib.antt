@@ -3,3 +3,4 @@ pub mod Tables
 pub mod Distinct
 pub mod ValueLemmas
 pub mod Solutions
+pub mod Translations

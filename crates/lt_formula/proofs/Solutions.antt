@@ -8,7 +8,7 @@ use Rattle.std.proofs.lemmas.List.Elements.{All-contains, All-contains_itself, A
 use Rattle.std.specs.List.{AllByRecursion}
 use Rattle.lt_num.specs.Range.{IsWithin, RawsAreWithin, raws_of}
 use Rattle.lt_num.specs.declared.range.Range.{Range}
-use Rattle.lt_formula.specs.Solution.{IsPointOf, raws_from, IsSatisfiable, or_else, first_some, with_first, behind, first_solution, IsFirstAmong, IsFirst, FirstSolutionIsFirst, RawsFromTarget}
+use Rattle.lt_formula.specs.Solution.{IsPointOf, raws_from, IsSatisfiable, or_else, first_some, with_first, behind, first_among, first_solution, IsFirstAmong, IsFirst, FirstSolutionIsFirst, RawsFromTarget}
 
 -- a range by its ends
 abbrev range_of : ℤ → ℤ → Range
@@ -109,7 +109,7 @@ at_end holds targets false e = none
         by (v ∷ vs) p k = p
 
 says : RawsAreWithin → (holds : List ℤ → Bool) (ranges : List Range) (targets : List ℤ) → length targets ≡ length ranges → Says holds ranges targets (first_solution holds ranges targets)
-unfolding first_solution
+unfolding first_solution first_among
 says law holds [] targets e = at_end holds targets (holds []) refl
 says law holds (r ∷ rs) [] e = absurd (omega (arith, e))
 says law holds (r ∷ rs) (t ∷ ts) e = one_more law holds r rs t ts _ (among holds r rs ts (raws_from t r) (each_from law t r.low r.high) (λ x. says law (behind holds x) rs ts (omega (arith, e))))

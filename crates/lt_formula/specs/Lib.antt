@@ -18,6 +18,8 @@ pub mod View
 pub mod Domain
 -- The first values that pass a test.
 pub mod Solution
+-- First values that are told by others.
+pub mod Translation
 -- How large a scenario may be.
 pub mod Limits
 -- Words of private contracts and of what types keep.

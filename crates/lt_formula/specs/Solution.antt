@@ -40,12 +40,21 @@ with_first v (Some vs) = Some (v ∷ vs)
 abbrev pub behind : (List ℤ → Bool) → ℤ → List ℤ → Bool
 behind holds v values = holds (v ∷ values)
 
--- The first point that passes a test: in turn each variable gets the first number, in the order from its target, with
--- which those so far extend to one that does.
+-- The first point that passes a test, where the numbers of each variable stand in an order of their own: in turn each variable
+-- gets the first of its numbers with which those so far extend to one that does.
+unfoldable pub first_among : (List ℤ → Bool) → List (List ℤ) → Option (List ℤ)
+first_among holds [] = if holds [] then Some [] else None
+first_among holds (order ∷ orders) = first_some (λ v. with_first v (first_among (behind holds v) orders)) order
+
+-- the numbers of each range in the order from its target; a range without a target has none
+abbrev pub orders_from : List Range → List ℤ → List (List ℤ)
+orders_from [] targets = []
+orders_from (r ∷ rs) [] = [] ∷ []
+orders_from (r ∷ rs) (t ∷ ts) = raws_from t r ∷ orders_from rs ts
+
+-- the first point of ranges that passes a test, in the orders from targets
 unfoldable pub first_solution : (List ℤ → Bool) → List Range → List ℤ → Option (List ℤ)
-first_solution holds [] targets = if holds [] then Some [] else None
-first_solution holds (r ∷ rs) [] = None
-first_solution holds (r ∷ rs) (t ∷ ts) = first_some (λ v. with_first v (first_solution (behind holds v) rs ts)) (raws_from t r)
+first_solution holds ranges targets = first_among holds (orders_from ranges targets)
 
 -- v is among these numbers, and none before it can be gone on from
 abbrev pub IsFirstAmong : (ℤ → Type 0) → List ℤ → ℤ → Type 0

@@ -1,6 +1,7 @@
 //! Laws of the definitions that the contracts cite. The functions do nothing: their contracts say it.
 
 ghost use Rattle.lt_formula.specs.Solution.{FirstSolutionIsFirst, RawsFromTarget};
+ghost use Rattle.lt_formula.specs.Translation.{TranslationKeepsTheFirst};
 
 use lt_num::raws_are_within;
 
@@ -17,4 +18,10 @@ pub fn first_solution_is_first()
 /// below the target.
 pub fn raws_from_target()
     ensures { RawsFromTarget }
+{}
+
+/// What is first of numbers that are told by others, as points by their places, is told by what is first of those.
+#[tactic(auto, using(crate::proofs::Translations::translation_keeps_the_first))]
+pub fn translation_keeps_the_first()
+    ensures { TranslationKeepsTheFirst }
 {}

@@ -24,7 +24,7 @@ mod values;
 
 pub use facts::Facts;
 pub use known::{Known, known_value};
-pub use laws::{first_solution_is_first, raws_from_target};
+pub use laws::{first_solution_is_first, raws_from_target, translation_keeps_the_first};
 pub use memory::Memory;
 pub use node::ExpNode;
 pub use operator::{BinaryOperator, UnaryOperator};
