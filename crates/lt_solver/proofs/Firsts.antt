@@ -5,7 +5,7 @@ use Rattle.std.specs.Int.{int_min, int_max}
 use Rattle.std.specs.declared.option.Option.{Option}
 use Rattle.std.proofs.lemmas.Int.{ints, clamps, by_lt_z}
 use Rattle.lt_bounds.specs.Ranges.{AreSome, IsNarrower, range_at}
-use Rattle.lt_formula.specs.Solution.{IsPointOf, behind, first_solution, first_some, or_else, raws_from, with_first}
+use Rattle.lt_formula.specs.Solution.{IsPointOf, behind, first_among, first_solution, first_some, or_else, raws_from, with_first}
 use Rattle.lt_num.proofs.Public.{raws_of-more, raws_of-none}
 use Rattle.lt_num.specs.Range.{IsWithin, raws_of}
 use Rattle.lt_solver.specs.inner.Points.{AreFixed, first_point, first_raw}
@@ -14,7 +14,7 @@ use Rattle.lt_solver.proofs.Order.{range_of, or_else-none, first_some-append, no
 
 -- no point passes
 pub none_passes : (holds : List ℤ → Bool) (ranges : List Range) (targets : List ℤ) → ((values : List ℤ) → IsPointOf ranges values → holds values ≡ false) → first_solution holds ranges targets ≡ None
-unfolding first_solution
+unfolding first_solution first_among
 none_passes holds [] targets h = ap (λ b. if b then Some [] else None) (h [] tt)
 none_passes holds (r ∷ rs) [] h = refl
 none_passes holds (r ∷ rs) (t ∷ ts) h =
@@ -24,7 +24,7 @@ none_passes holds (r ∷ rs) (t ∷ ts) h =
 -- narrower ranges with each point that passes
 pub narrow_solution : (holds : List ℤ → Bool) (ranges new : List Range) (targets : List ℤ) → IsNarrower ranges new → ((values : List ℤ) → IsPointOf ranges values → holds values ≡ true → IsPointOf new values)
     → first_solution holds ranges targets ≡ first_solution holds new targets
-unfolding first_solution
+unfolding first_solution first_among
 narrow_solution holds [] [] targets n k = refl
 narrow_solution holds [] (s ∷ ss) targets n k = absurd n
 narrow_solution holds (r ∷ rs) [] targets n k = absurd n
@@ -58,7 +58,7 @@ with_first-or v (Some vs) b = refl
 pub split_solution : (holds : List ℤ → Bool) (ranges : List Range) (targets : List ℤ) (i : ℕ) (first second : Range) → AreFixed i ranges → i < length ranges → length targets ≡ length ranges
     → raws_from (get_or targets i (pos 0)) (range_at ranges i) ≡ raws_from (get_or targets i (pos 0)) first ++ raws_from (get_or targets i (pos 0)) second
     → first_solution holds ranges targets ≡ or_else (first_solution holds (set ranges i first) targets) (first_solution holds (set ranges i second) targets)
-unfolding first_solution
+unfolding first_solution first_among
 split_solution holds [] targets i first second f l e parts = absurd (omega (arith, l))
 split_solution holds (r ∷ rs) [] i first second f l e parts = absurd (omega (arith, e))
 split_solution holds (r ∷ rs) (t ∷ ts) zero first second f l e parts =
@@ -112,7 +112,7 @@ first_within t low high some = by_over (int_lt high t) refl
 
 -- every point passes
 pub all_pass : (holds : List ℤ → Bool) (ranges : List Range) (targets : List ℤ) → AreSome ranges → length targets ≡ length ranges → ((values : List ℤ) → IsPointOf ranges values → holds values ≡ true) → first_solution holds ranges targets ≡ Some (first_point targets ranges)
-unfolding first_solution
+unfolding first_solution first_among
 all_pass holds [] [] s e h = ap (λ b. if b then Some [] else None) (h [] tt)
 all_pass holds [] (t ∷ ts) s e h = absurd (omega (arith, e))
 all_pass holds (r ∷ rs) [] s e h = absurd (omega (arith, e))

@@ -1,7 +1,7 @@
 -- What is fixed first.
 use Rattle.std.proofs.Common.{◌≡◌, zero, suc, List, [], ◌∷◌, set, Some, None, ℤ, refl, ap, sym, ◌∙◌, arith}
 use Rattle.std.specs.declared.option.Option.{Option}
-use Rattle.lt_formula.specs.Solution.{behind, first_solution, first_some, or_else, with_first}
+use Rattle.lt_formula.specs.Solution.{behind, first_among, first_solution, first_some, or_else, with_first}
 use Rattle.lt_num.specs.declared.range.Range.{Range}
 use Rattle.lt_solver.specs.inner.Lead.{FirstNumberLeads}
 use Rattle.lt_solver.proofs.Firsts.{first_is, fixed_raws}
@@ -15,7 +15,7 @@ with_lead v None b x k e = absurd (cc)
 with_lead v (Some y) b x k e = ap (with_first v) (k y refl) ∙ e
 
 pub leads : FirstNumberLeads
-unfolding first_solution
+unfolding first_solution first_among
 leads holds [] targets i v x f l e some is h = absurd (omega (arith, l))
 leads holds (r ∷ rs) [] i v x f l e some is h = absurd (omega (arith, e))
 leads holds (r ∷ rs) (t ∷ ts) zero v x f l e some is h =

@@ -11,7 +11,7 @@ use Rattle.lt_num.specs.Bounds.{most_raw}
 use Rattle.lt_propagation.specs.Domains.{AreDomains}
 use Rattle.lt_solver.specs.inner.Levels.{AreBoxes, boxes_of, level_of, levels_of, target_inside, work_of}
 use Rattle.lt_solver.specs.inner.Split.{IsSplit}
-use Rattle.lt_solver.specs.inner.Points.{AreFixed, first_among}
+use Rattle.lt_solver.specs.inner.Points.{AreFixed, first_of_boxes}
 use Rattle.lt_num.specs.declared.range.Range.{Range}
 use Rattle.lt_solver.proofs.Boxes.{boxes_push, boxes_pop, domains_narrower, top_narrower, boxes_narrowed, boxes_split, boxes_room, work_narrowed, work_split}
 use Rattle.lt_solver.proofs.Firsts.{split_solution}
@@ -112,12 +112,12 @@ module _ (targets : List ℤ) (whole : List Range) (most : ℕ) (d : AreDomains 
       rw (p.split_is, push.0) (omega arith)
 
   -- .. and the first solution is that of the parts.
-  pub turn_left : (holds : List ℤ → Bool) (answer : Option (List ℤ)) → answer ≡ or_else (first_solution holds box targets) (first_among holds targets (boxes_of (length whole) height cells)) → first_solution holds box targets ≡ first_solution holds new targets → AreFixed i new
-      → answer ≡ or_else (first_solution holds parted targets) (first_among holds targets (boxes_of (length whole) (height + 1) grown))
+  pub turn_left : (holds : List ℤ → Bool) (answer : Option (List ℤ)) → answer ≡ or_else (first_solution holds box targets) (first_of_boxes holds targets (boxes_of (length whole) height cells)) → first_solution holds box targets ≡ first_solution holds new targets → AreFixed i new
+      → answer ≡ or_else (first_solution holds parted targets) (first_of_boxes holds targets (boxes_of (length whole) (height + 1) grown))
   turn_left holds answer left sees fixed =
       rw (p.split_is, push.0)
-      (left ∙ ap (λ o. or_else o (first_among holds targets (boxes_of (length whole) height cells))) (sees ∙ split_solution holds new targets i p.first p.second fixed l e p.are.in_order)
-      ∙ sym (or_else-assoc (first_solution holds (set new i p.first) targets) (first_solution holds (set new i p.second) targets) (first_among holds targets (boxes_of (length whole) height cells))))
+      (left ∙ ap (λ o. or_else o (first_of_boxes holds targets (boxes_of (length whole) height cells))) (sees ∙ split_solution holds new targets i p.first p.second fixed l e p.are.in_order)
+      ∙ sym (or_else-assoc (first_solution holds (set new i p.first) targets) (first_solution holds (set new i p.second) targets) (first_of_boxes holds targets (boxes_of (length whole) height cells))))
 
 -- the top box is taken off the stack
 pub popped : (width height len n : ℕ) (cells copied below : List Range) → 0 < height → length cells ≡ height * width → len ≡ height * width → n ≡ width → copied ≡ drop (len - n) cells → below ≡ take (len - n) cells

@@ -4,7 +4,7 @@ use Rattle.lt_bounds.proofs.Public.{narrower_length}
 use Rattle.lt_formula.specs.Solution.{first_solution, or_else}
 use Rattle.lt_num.specs.declared.range.Range.{Range}
 use Rattle.lt_solver.specs.inner.Levels.{AreBoxes, boxes_of, levels_of, work_of}
-use Rattle.lt_solver.specs.inner.Points.{first_among}
+use Rattle.lt_solver.specs.inner.Points.{first_of_boxes}
 use Rattle.lt_solver.specs.inner.Classified.{passes}
 use Rattle.lt_solver.proofs.Boxes.{boxes_none, boxes_height, boxes_start, boxes_below, top_narrower, domains_narrower, work_popped}
 use Rattle.lt_solver.proofs.Levels.{levels_most}
@@ -46,7 +46,7 @@ returns-in-Solved-clause-found c =
     let whole = c.args.current.now in
     let boxes = boxes_of (length whole) c.boxes.height c.boxes.stack.items in
     let long : length targets ≡ length c.boxes.current = c.requires.targets ∙ sym (narrower_length _ _ (top_narrower targets whole _ c.requires.domains c.boxes.current boxes c.boxes.invariant.boxes)) in
-    c.boxes.invariant.left ∙ ap (λ o. or_else o (first_among (passes c.args.space.now) targets boxes)) (c.in-Solved.ensures.sees)
+    c.boxes.invariant.left ∙ ap (λ o. or_else o (first_of_boxes (passes c.args.space.now) targets boxes)) (c.in-Solved.ensures.sees)
 
 pub returns-in-Solved-clause-narrower : goal.returns-in-Solved-clause-narrower
 returns-in-Solved-clause-narrower c = turn_narrower c.args.targets.now c.args.current.now _ c.requires.domains c.boxes.current c.classify.new.current _ c.boxes.invariant.boxes c.classify.ensures.narrower
@@ -127,8 +127,8 @@ returns-then-height-eq0-clause-found c =
     let boxes = boxes_of (length whole) c.boxes.height c.boxes.stack.items in
     let long : length targets ≡ length c.boxes.current = c.requires.targets ∙ sym (narrower_length _ _ (top_narrower targets whole _ c.requires.domains c.boxes.current boxes c.boxes.invariant.boxes)) in
     c.boxes.invariant.left
-    ∙ ap (λ o. or_else o (first_among (passes c.args.space.now) targets boxes)) (c.in-Infeasible.ensures.sees)
-    ∙ ap (first_among (passes c.args.space.now) targets) (boxes_none (length whole) c.boxes.height c.boxes.stack.items c.if-height-eq0.true)
+    ∙ ap (λ o. or_else o (first_of_boxes (passes c.args.space.now) targets boxes)) (c.in-Infeasible.ensures.sees)
+    ∙ ap (first_of_boxes (passes c.args.space.now) targets) (boxes_none (length whole) c.boxes.height c.boxes.stack.items c.if-height-eq0.true)
 
 pub take_box-requires : goal.take_box-requires
 take_box-requires c =
@@ -160,8 +160,8 @@ boxes-preserved c =
     let pop = popped (length whole) c.boxes.height _ _ c.boxes.stack.items c.take_box.new.current c.take_box.new.stack.items (omega arith) c.boxes.invariant.len c.boxes.invariant.count (narrower_length whole c.classify.new.current narrower) c.take_box.ensures.current c.take_box.ensures.stack in
     record {
       left = c.boxes.invariant.left
-          ∙ ap (λ o. or_else o (first_among holds targets boxes)) (c.in-Infeasible.ensures.sees)
-          ∙ ap (first_among holds targets) pop.0;
+          ∙ ap (λ o. or_else o (first_of_boxes holds targets boxes)) (c.in-Infeasible.ensures.sees)
+          ∙ ap (first_of_boxes holds targets) pop.0;
       boxes = subst (AreBoxes targets whole most) pop.0 (boxes_below targets whole most c.requires.domains c.boxes.current boxes c.boxes.invariant.boxes);
       len = pop.1;
       count = c.take_box.ensures.len ∙ pop.2;

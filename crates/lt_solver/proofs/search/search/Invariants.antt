@@ -1,7 +1,7 @@
 use Rattle.std.proofs.Common.{◌≡◌, ◌*◌, ◌≤◌, ◌∷◌, length, vec_len, vec_capacity}
 use Rattle.lt_formula.specs.Solution.{first_solution, or_else}
 use Rattle.lt_solver.specs.inner.Levels.{AreBoxes, boxes_of, levels_of, work_of}
-use Rattle.lt_solver.specs.inner.Points.{first_among}
+use Rattle.lt_solver.specs.inner.Points.{first_of_boxes}
 use Rattle.lt_solver.specs.inner.Classified.{passes}
 use Rattle.lt_solver.proofs.search.search.Given as goal
 
@@ -9,7 +9,7 @@ use Rattle.lt_solver.proofs.search.search.Given as goal
 abbrev pub invariant-boxes : goal.invariant-boxes
 invariant-boxes l = record {
   left : first_solution (passes l.space) l.fn.current l.targets
-      ≡ or_else (first_solution (passes l.space) l.current l.targets) (first_among (passes l.space) l.targets (boxes_of (length l.fn.current) l.height l.stack.items));
+      ≡ or_else (first_solution (passes l.space) l.current l.targets) (first_of_boxes (passes l.space) l.targets (boxes_of (length l.fn.current) l.height l.stack.items));
   boxes : AreBoxes l.targets l.fn.current (levels_of l.targets l.fn.current) (l.current ∷ boxes_of (length l.fn.current) l.height l.stack.items);
   len : length l.stack.items ≡ l.height * length l.fn.current;
   count : vec_len l.stack ≡ l.height * length l.fn.current;
