@@ -5,5 +5,6 @@ pub mod DigitLemmas
 pub mod NumberLemmas
 pub mod TextLemmas
 pub mod RoundTripLemmas
-pub mod RangeLemmas
+pub mod IntervalLemmas
+pub mod PointLemmas
 pub mod QuotientLemmas

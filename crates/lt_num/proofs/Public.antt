@@ -3,25 +3,35 @@ use Rattle.std.specs.Prelude.{◌≡◌, ◌≢◌, ℕ, ◌^◌, Bool, List, []
 use Rattle.std.specs.declared.result.Result.{Result}
 use Rattle.lt_num.specs.Answer.{bounded, IsRounded}
 use Rattle.lt_num.specs.Literal.{IsNumber, IsLiteral, signed_text}
-use Rattle.lt_num.specs.Range.{raws_of, RawsAreWithin}
+use Rattle.lt_num.specs.Interval.{raws_of, RawsAreWithin}
+use Rattle.lt_num.specs.Range.{PointsAreThose, PointsOfStepOne}
 use Rattle.lt_num.specs.Rounding.{nearest}
 use Rattle.lt_num.specs.declared.fault.Arith.{Arith}
 use Rattle.lt_num.specs.declared.fixed.Fixed.{Fixed}
 use Rattle.lt_num.proofs.AnswerLemmas as answers
 use Rattle.lt_num.proofs.NumberLemmas as numbers
-use Rattle.lt_num.proofs.RangeLemmas as ranges
+use Rattle.lt_num.proofs.IntervalLemmas as intervals
+use Rattle.lt_num.proofs.PointLemmas as points
 
--- the raw numbers of a range are exactly those within it, in rising order
+-- the raw numbers of an interval are exactly those within it, in rising order
 pub raws_are_within : RawsAreWithin
-raws_are_within = ranges.raws_are_within
+raws_are_within = intervals.raws_are_within
 
 -- the raw numbers from one that isn't over the greatest: that one, and those from the next one on
 pub raws_of-more : (low high : ℤ) → low ≤ℤ high → raws_of (record { low = low; high = high }) ≡ low ∷ raws_of (record { low = low +ℤ pos 1; high = high })
-raws_of-more = ranges.raws_of-more
+raws_of-more = intervals.raws_of-more
 
 -- there are none from one on that is over the greatest
 pub raws_of-none : (low high : ℤ) → high <ℤ low → raws_of (record { low = low; high = high }) ≡ []
-raws_of-none = ranges.raws_of-none
+raws_of-none = intervals.raws_of-none
+
+-- the points of a range are exactly those that stand at a place and aren't over the high end, in rising order ..
+pub points_are_those : PointsAreThose
+points_are_those = points.points_are_those
+
+-- .. and those of one with the step 1 are the raw numbers of an interval
+pub points_of_step_one : PointsOfStepOne
+points_of_step_one = points.points_of_step_one
 
 -- ten to a power isn't zero
 pub ten-not_zero : (k : ℕ) → pos (10 ^ k) ≢ pos 0
