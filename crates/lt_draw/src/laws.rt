@@ -1,5 +1,6 @@
 //! Laws of the definitions that the contracts cite. The functions do nothing: their contracts say it.
 
+ghost use Rattle.lt_draw.specs.Direction.{SlotsAreApart};
 ghost use Rattle.lt_draw.specs.Pick.{PicksByWeight, PicksTheFirstOver};
 ghost use Rattle.lt_draw.specs.Target.{EachIsATarget};
 ghost use Rattle.lt_draw.specs.Word.{PlacesAreApart, WordsAreAnswers};
@@ -24,7 +25,12 @@ pub fn picks_by_weight()
     ensures { PicksByWeight }
 {}
 
-/// Each number of a range is the target of exactly the words of one remainder.
+/// Each point of a range is the target of exactly the words of one remainder.
 pub fn each_is_a_target()
     ensures { EachIsATarget }
+{}
+
+/// No target and no direction have one slot, and each has a slot of the step.
+pub fn slots_are_apart()
+    ensures { SlotsAreApart }
 {}

@@ -1,22 +1,31 @@
 //! Targets in ranges.
 
-ghost use Rattle.std.specs.Prelude.{◌≡◌, ◌≤ℤ◌};
-ghost use Rattle.lt_num.specs.Range.{IsWithin};
+ghost use Rattle.std.specs.Prelude.{◌≡◌, ◌%◌};
+ghost use Rattle.lt_num.specs.Range.{HasPoints, IsPoint, count_of};
 ghost use Rattle.lt_draw.specs.Target.{target_of};
 
 use lt_num::Range;
 
-/// The number of a range that a word aims at: as far above the low end as the remainder of the word by the count
-/// of the range's numbers.
+/// The point of a range that a word aims at: as many steps above the low end as the remainder of the word by the
+/// count of the range's points.
 pub fn target(range: Range, word: u64) -> i64
-    requires { range.low ≤ℤ range.high }
+    requires { HasPoints range }
     ensures target { result ≡ target_of range word }
-    ensures within { IsWithin range result }
+    ensures point { IsPoint range result }
 {
+    let above = place(range, word) * range.step.unsigned_abs();
+    (i128::from(range.low) + i128::from(above)) as i64
+}
+
+// The place of that point.
+fn place(range: Range, word: u64) -> u64
+    requires { HasPoints range }
+    ensures { result ≡ word % count_of range }
+{
+    let last = range.high.abs_diff(range.low) / range.step.unsigned_abs();
     // All the 64-bit numbers are one more than a word can count, and then the word is its own remainder.
-    let above = match range.high.abs_diff(range.low).checked_add(1) {
+    match last.checked_add(1) {
         Some(count) => word % count,
         None => word,
-    };
-    (i128::from(range.low) + i128::from(above)) as i64
+    }
 }

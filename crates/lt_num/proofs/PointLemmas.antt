@@ -4,7 +4,7 @@ use Rattle.std.specs.Prelude.{ℤ, pos, ◌+ℤ◌, ◌-ℤ◌, ◌*ℤ◌, ◌�
 use Rattle.std.specs.Int.{int_gap}
 use Rattle.std.proofs.lemmas.Int.{ints}
 use Rattle.std.proofs.Math.IntN.{pos-*ℤ-pos}
-use Rattle.std.proofs.Math.Nat.{div-one, le-div_iff_mul-le, mul_comm, mul-lt-mul_of_pos_right}
+use Rattle.std.proofs.Math.Nat.{div-one, le-div_iff_mul-le, mul_comm, mul-div_left, mul-lt-mul_of_pos_right}
 use Rattle.lt_num.proofs.IntervalLemmas.{add_pos, gap_above}
 use Rattle.lt_num.specs.Interval.{counted_up}
 use Rattle.lt_num.specs.Range.{HasPoints, IsPoint, PointsAreThose, PointsOfStepOne, count_of, point_at, points_of}
@@ -40,7 +40,7 @@ module _ (range : Range) (has : HasPoints range) where
   gap = int_gap range.low range.high
 
   -- the point at a place
-  point_is : (k : ℕ) → point_at range (pos k) ≡ range.low +ℤ pos (k * stride)
+  pub point_is : (k : ℕ) → point_at range (pos k) ≡ range.low +ℤ pos (k * stride)
   point_is k = ap (λ z. range.low +ℤ z) (steps range.step k has.step)
 
   there : (k : ℕ) (d : ℤ) → k < length (points_of range) → slice_index_or (points_of range) k d ≡ point_at range (pos k)
@@ -49,14 +49,14 @@ module _ (range : Range) (has : HasPoints range) where
       ∙ ap (point_at range) (omega (arith, ints))
 
   -- a place of a point is that many steps below the high end
-  inside : (k : ℕ) → k < count_of range → point_at range (pos k) ≤ℤ range.high
+  pub inside : (k : ℕ) → k < count_of range → point_at range (pos k) ≤ℤ range.high
   inside k h =
       let steps_fit : k * stride ≤ gap = (le-div_iff_mul-le {k = stride} {x = k} {y = gap} positive).0 (omega (arith, h)) in
       let far = gap_above range.low range.high has.some in
       let is = point_is k in
       omega (arith, ints, steps_fit, far, is)
 
-  outside : (k : ℕ) → point_at range (pos k) ≤ℤ range.high → k < count_of range
+  pub outside : (k : ℕ) → point_at range (pos k) ≤ℤ range.high → k < count_of range
   outside k h =
       let far = gap_above range.low range.high has.some in
       let is = point_is k in
@@ -84,6 +84,11 @@ module _ (range : Range) (has : HasPoints range) where
       let low_is = point_is i in
       let high_is = point_is j in
       omega (arith, ints, low, high, far, low_is, high_is)
+
+  pub apart : (i j : ℕ) → point_at range (pos i) ≡ point_at range (pos j) → i ≡ j
+  apart i j e =
+      let same : i * stride ≡ j * stride = let here = point_is i in let there = point_is j in omega (arith, ints, e, here, there) in
+      sym (mul-div_left i positive) ∙ ap (λ (n : ℕ). n / stride) same ∙ mul-div_left j positive
 
 pub points_are_those : PointsAreThose
 points_are_those range has = (λ raw. (only_points range has raw, all_points range has raw), rising range has)

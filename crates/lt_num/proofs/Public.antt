@@ -1,13 +1,14 @@
 -- What the proofs of other crates may cite of this one.
-use Rattle.std.specs.Prelude.{◌≡◌, ◌≢◌, ℕ, ◌^◌, Bool, List, [], ◌∷◌, ℤ, pos, ◌+ℤ◌, ◌≤ℤ◌, ◌<ℤ◌}
+use Rattle.std.specs.Prelude.{◌≡◌, ◌≢◌, ◌↔◌, ℕ, ◌*◌, ◌^◌, ◌<◌, Bool, List, [], ◌∷◌, ℤ, pos, ◌+ℤ◌, ◌≤ℤ◌, ◌<ℤ◌, unsigned_abs}
 use Rattle.std.specs.declared.result.Result.{Result}
 use Rattle.lt_num.specs.Answer.{bounded, IsRounded}
 use Rattle.lt_num.specs.Literal.{IsNumber, IsLiteral, signed_text}
 use Rattle.lt_num.specs.Interval.{raws_of, RawsAreWithin}
-use Rattle.lt_num.specs.Range.{PointsAreThose, PointsOfStepOne}
+use Rattle.lt_num.specs.Range.{HasPoints, PointsAreThose, PointsOfStepOne, count_of, point_at}
 use Rattle.lt_num.specs.Rounding.{nearest}
 use Rattle.lt_num.specs.declared.fault.Arith.{Arith}
 use Rattle.lt_num.specs.declared.fixed.Fixed.{Fixed}
+use Rattle.lt_num.specs.declared.range.Range.{Range}
 use Rattle.lt_num.proofs.AnswerLemmas as answers
 use Rattle.lt_num.proofs.NumberLemmas as numbers
 use Rattle.lt_num.proofs.IntervalLemmas as intervals
@@ -32,6 +33,17 @@ points_are_those = points.points_are_those
 -- .. and those of one with the step 1 are the raw numbers of an interval
 pub points_of_step_one : PointsOfStepOne
 points_of_step_one = points.points_of_step_one
+
+-- a point stands at a place that is under the count of the points, and at one alone
+pub place_fits : (range : Range) → HasPoints range → (k : ℕ) → (k < count_of range) ↔ (point_at range (pos k) ≤ℤ range.high)
+place_fits range has k = (points.inside range has k, points.outside range has k)
+
+pub places_are_apart : (range : Range) → HasPoints range → (i j : ℕ) → point_at range (pos i) ≡ point_at range (pos j) → i ≡ j
+places_are_apart = points.apart
+
+-- so many steps above the low end
+pub point_is : (range : Range) → HasPoints range → (k : ℕ) → point_at range (pos k) ≡ range.low +ℤ pos (k * unsigned_abs range.step)
+point_is = points.point_is
 
 -- ten to a power isn't zero
 pub ten-not_zero : (k : ℕ) → pos (10 ^ k) ≢ pos 0
