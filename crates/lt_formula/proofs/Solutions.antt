@@ -1,25 +1,14 @@
 -- First solutions are first, and solutions.
-use Rattle.std.proofs.Common.{◌≡◌, inl, inr, Bool, true, false, IsTrue, List, [], ◌∷◌, ◌++◌, length, Some, None, ℤ, pos, ◌-ℤ◌, ◌≤ℤ◌, refl, ap, ◌∙◌, arith}
+use Rattle.std.proofs.Common.{◌≡◌, inl, inr, suc, Bool, true, false, not, IsTrue, List, [], ◌∷◌, ◌++◌, length, reverse, Some, None, ℤ, refl, ap, sym, subst, arith}
 use Rattle.std.specs.Prelude.{Contains, MatchOption, if◌then◌else◌}
-use Rattle.std.specs.Int.{int_min, int_max}
+use Rattle.std.specs.List.{AllByRecursion, filter}
 use Rattle.std.specs.declared.option.Option.{Option}
-use Rattle.std.proofs.lemmas.Int.{ints, clamps, by_lt_z}
-use Rattle.std.proofs.lemmas.List.Elements.{All-contains, All-contains_itself, All-from_recursion, All-weaker, recursion_from_All}
-use Rattle.std.specs.List.{AllByRecursion}
-use Rattle.lt_num.specs.Range.{IsWithin, RawsAreWithin, raws_of}
+use Rattle.std.proofs.lemmas.List.{reverse-append}
+use Rattle.std.proofs.lemmas.List.Elements.{All-contains, All-contains_itself, All-from_recursion, recursion_from_All}
+use Rattle.lt_num.specs.Range.{points_of}
 use Rattle.lt_num.specs.declared.range.Range.{Range}
-use Rattle.lt_formula.specs.Solution.{IsPointOf, raws_from, IsSatisfiable, or_else, first_some, with_first, behind, first_among, first_solution, IsFirstAmong, IsFirst, FirstSolutionIsFirst, RawsFromTarget}
-
--- a range by its ends
-abbrev range_of : ℤ → ℤ → Range
-range_of low high = record { low = low; high = high }
-
-pub raws_from_target : RawsFromTarget
-raws_from_target low high t h k =
-    let start : int_max low t ≡ t = omega (arith, ints, clamps) in
-    let end : int_min high (t -ℤ pos 1) ≡ t -ℤ pos 1 = omega (arith, ints, clamps) in
-    ap (λ z. raws_of (range_of z high) ++ raws_of (range_of low (int_min high (t -ℤ pos 1)))) start
-    ∙ ap (λ z. raws_of (range_of t high) ++ raws_of (range_of low z)) end
+use Rattle.lt_formula.specs.First.{behind, first_among, first_some, or_else, with_first}
+use Rattle.lt_formula.specs.Solution.{FirstSolutionIsFirst, IsFirst, IsFirstAmong, IsPointOf, IsSatisfiable, comes_before, first_solution, orders_from, points_from, points_in}
 
 -- a fact of each number
 abbrev Each : (ℤ → Type 0) → List ℤ → Type 0
@@ -37,69 +26,104 @@ each_right : (P : ℤ → Type 0) (xs ys : List ℤ) → Each P (xs ++ ys) → E
 each_right P [] ys h = h
 each_right P (x ∷ xs) ys h = each_right P xs ys h.1
 
--- a fact of each number between two is one of each raw number of the range
-each_raws : RawsAreWithin → (P : ℤ → Type 0) (low high : ℤ) → ((v : ℤ) → low ≤ℤ v → v ≤ℤ high → P v) → Each P (raws_of (range_of low high))
-each_raws law P low high h =
-    let r = range_of low high in
-    recursion_from_All P (raws_of r)
-    (All-weaker (λ v. Contains (raws_of r) v) P (λ v c. let w = ((law r).0 v).0 c in h v w.0 w.1) (raws_of r) (All-contains_itself (raws_of r)))
+-- those that pass a test, and those that don't, are all
+each_kept : (P : ℤ → Type 0) (p : ℤ → Bool) (xs : List ℤ) → Each P xs → Each P (filter p xs)
+each_kept P p [] h = tt
+each_kept P p (x ∷ xs) h = by_test (p x) (each_kept P p xs h.1)
+  where
+    by_test : (b : Bool) → Each P (filter p xs) → Each P (if b then x ∷ filter p xs else filter p xs)
+    by_test true k = (h.0, k)
+    by_test false k = k
 
-raws_at : RawsAreWithin → (P : ℤ → Type 0) (low high v : ℤ) → Each P (raws_of (range_of low high)) → low ≤ℤ v → v ≤ℤ high → P v
-raws_at law P low high v h l u =
-    let r = range_of low high in
-    All-contains P (raws_of r) v (All-from_recursion P (raws_of r) h) (((law r).0 v).1 (l, u))
+each_parted : (P : ℤ → Type 0) (p : ℤ → Bool) (xs : List ℤ) → Each P (filter (λ x. not (p x)) xs) → Each P (filter p xs) → Each P xs
+each_parted P p [] h k = tt
+each_parted P p (x ∷ xs) h k = by_test (p x) (each_parted P p xs) h k
+  where
+    by_test : (b : Bool) → (Each P (filter (λ x. not (p x)) xs) → Each P (filter p xs) → Each P xs) → Each P (if not b then x ∷ filter (λ x. not (p x)) xs else filter (λ x. not (p x)) xs) → Each P (if b then x ∷ filter p xs else filter p xs) → Each P (x ∷ xs)
+    by_test true rest h k = (k.0, rest h k.1)
+    by_test false rest h k = (h.0, rest h.1 k)
 
--- the numbers from a target are those of the range
-each_from : RawsAreWithin → (t low high : ℤ) → Each (IsWithin (range_of low high)) (raws_from t (range_of low high))
-each_from law t low high =
-    each_both (IsWithin (range_of low high)) (raws_of (range_of (int_max low t) high)) (raws_of (range_of low (int_min high (t -ℤ pos 1))))
-    (each_raws law (IsWithin (range_of low high)) (int_max low t) high (λ v l u. (omega (arith, ints, clamps), u)))
-    (each_raws law (IsWithin (range_of low high)) low (int_min high (t -ℤ pos 1)) (λ v l u. (l, omega (arith, ints, clamps))))
+each_back : (P : ℤ → Type 0) (xs : List ℤ) → Each P xs → Each P (reverse xs)
+each_back P [] h = tt
+each_back P (x ∷ xs) h = subst (Each P) (sym (reverse-append (x ∷ []) xs)) (each_both P (reverse xs) (x ∷ []) (each_back P xs h.1) (h.0, tt))
 
--- all of them
-from_at : RawsAreWithin → (P : ℤ → Type 0) (t low high v : ℤ) → Each P (raws_from t (range_of low high)) → low ≤ℤ v → v ≤ℤ high → P v
-from_at law P t low high v h l u =
-    by_lt_z v t
-    (λ below. raws_at law P low (int_min high (t -ℤ pos 1)) v (each_right P (raws_of (range_of (int_max low t) high)) (raws_of (range_of low (int_min high (t -ℤ pos 1)))) h) l (omega (arith, ints, clamps)))
-    (λ from. raws_at law P (int_max low t) high v (each_left P (raws_of (range_of (int_max low t) high)) (raws_of (range_of low (int_min high (t -ℤ pos 1)))) h) (omega (arith, ints, clamps)) u)
+each_forth : (P : ℤ → Type 0) (xs : List ℤ) → Each P (reverse xs) → Each P xs
+each_forth P [] h = tt
+each_forth P (x ∷ xs) h =
+    let both = subst (Each P) (reverse-append (x ∷ []) xs) h in
+    ((each_right P (reverse xs) (x ∷ []) both).0, each_forth P xs (each_left P (reverse xs) (x ∷ []) both))
+
+-- the points in a direction are those of the range ..
+each_in : (P : ℤ → Type 0) (down : Bool) (r : Range) → Each P (points_of r) → Each P (points_in down r)
+each_in P false r h = h
+each_in P true r h = each_back P (points_of r) h
+
+in_each : (P : ℤ → Type 0) (down : Bool) (r : Range) → Each P (points_in down r) → Each P (points_of r)
+in_each P false r h = h
+in_each P true r h = each_forth P (points_of r) h
+
+-- .. and so are those from a target
+each_from : (down : Bool) (t : ℤ) (r : Range) → Each (Contains (points_of r)) (points_from down t r)
+each_from down t r =
+    let P = Contains (points_of r) in
+    let all = each_in P down r (recursion_from_All P (points_of r) (All-contains_itself (points_of r))) in
+    let before : ℤ → Bool = λ p. comes_before down p t in
+    each_both P (filter (λ p. not (before p)) (points_in down r)) (filter before (points_in down r))
+    (each_kept P (λ p. not (before p)) (points_in down r) all)
+    (each_kept P before (points_in down r) all)
+
+at_from : (down : Bool) (t : ℤ) (r : Range) (v : ℤ) → Contains (points_of r) v → Contains (points_from down t r) v
+at_from down t r v c =
+    let P = Contains (points_from down t r) in
+    let before : ℤ → Bool = λ p. comes_before down p t in
+    let ps = points_in down r in
+    let h = recursion_from_All P (points_from down t r) (All-contains_itself (points_from down t r)) in
+    let all = in_each P down r (each_parted P before ps (each_left P (filter (λ p. not (before p)) ps) (filter before ps) h) (each_right P (filter (λ p. not (before p)) ps) (filter before ps) h)) in
+    All-contains P (points_of r) v (All-from_recursion P (points_of r) all) c
+
+-- each number of each order is a point, and each point is in its order
+abbrev AreOrders : List Range → List (List ℤ) → Type 0
+AreOrders [] orders = Unit {0}
+AreOrders (r ∷ rs) [] = ⊥
+AreOrders (r ∷ rs) (order ∷ orders) = (Each (Contains (points_of r)) order × ((v : ℤ) → Contains (points_of r) v → Contains order v)) × AreOrders rs orders
 
 -- what a first solution tells
-abbrev Says : (List ℤ → Bool) → List Range → List ℤ → Option (List ℤ) → Type 0
-Says holds ranges targets o = MatchOption o (IsSatisfiable holds ranges → ⊥) (λ values. IsPointOf ranges values × IsTrue (holds values) × IsFirst holds ranges targets values)
+abbrev Says : (List ℤ → Bool) → List Range → List (List ℤ) → Option (List ℤ) → Type 0
+Says holds ranges orders o = MatchOption o (IsSatisfiable holds ranges → ⊥) (λ values. IsPointOf ranges values × IsTrue (holds values) × IsFirst holds ranges orders values)
 
 -- what one that begins with one of some numbers tells
-abbrev SaysAmong : (List ℤ → Bool) → Range → List Range → List ℤ → List ℤ → Option (List ℤ) → Type 0
-SaysAmong holds r rs ts xs None = Each (λ x. IsSatisfiable (behind holds x) rs → ⊥) xs
-SaysAmong holds r rs ts xs (Some []) = ⊥
-SaysAmong holds r rs ts xs (Some (v ∷ vs)) = IsWithin r v × IsFirstAmong (λ u. IsSatisfiable (behind holds u) rs) xs v × (IsPointOf rs vs × IsTrue (behind holds v vs) × IsFirst (behind holds v) rs ts vs)
+abbrev SaysAmong : (List ℤ → Bool) → Range → List Range → List (List ℤ) → List ℤ → Option (List ℤ) → Type 0
+SaysAmong holds r rs os xs None = Each (λ x. IsSatisfiable (behind holds x) rs → ⊥) xs
+SaysAmong holds r rs os xs (Some []) = ⊥
+SaysAmong holds r rs os xs (Some (v ∷ vs)) = Contains (points_of r) v × IsFirstAmong (λ u. IsSatisfiable (behind holds u) rs) xs v × (IsPointOf rs vs × IsTrue (behind holds v vs) × IsFirst (behind holds v) rs os vs)
 
 -- one more number before others
-among_more : (holds : List ℤ → Bool) (r : Range) (rs : List Range) (ts : List ℤ) (x : ℤ) (xs : List ℤ) (one other : Option (List ℤ)) → IsWithin r x → Says (behind holds x) rs ts one → SaysAmong holds r rs ts xs other → SaysAmong holds r rs ts (x ∷ xs) (or_else (with_first x one) other)
-among_more holds r rs ts x xs (Some vs) other w h k = (w, inl refl, h)
-among_more holds r rs ts x xs None (Some []) w h k = absurd k
-among_more holds r rs ts x xs None (Some (v ∷ vs)) w h k = (k.0, inr (h, k.1), k.2)
-among_more holds r rs ts x xs None None w h k = (h, k)
+among_more : (holds : List ℤ → Bool) (r : Range) (rs : List Range) (os : List (List ℤ)) (x : ℤ) (xs : List ℤ) (one other : Option (List ℤ)) → Contains (points_of r) x → Says (behind holds x) rs os one → SaysAmong holds r rs os xs other → SaysAmong holds r rs os (x ∷ xs) (or_else (with_first x one) other)
+among_more holds r rs os x xs (Some vs) other w h k = (w, inl refl, h)
+among_more holds r rs os x xs None (Some []) w h k = absurd k
+among_more holds r rs os x xs None (Some (v ∷ vs)) w h k = (k.0, inr (h, k.1), k.2)
+among_more holds r rs os x xs None None w h k = (h, k)
 
-among : (holds : List ℤ → Bool) (r : Range) (rs : List Range) (ts xs : List ℤ) → Each (IsWithin r) xs → ((x : ℤ) → Says (behind holds x) rs ts (first_solution (behind holds x) rs ts)) → SaysAmong holds r rs ts xs (first_some (λ v. with_first v (first_solution (behind holds v) rs ts)) xs)
-among holds r rs ts [] w h = tt
-among holds r rs ts (x ∷ xs) w h = among_more holds r rs ts x xs (first_solution (behind holds x) rs ts) (first_some (λ v. with_first v (first_solution (behind holds v) rs ts)) xs) w.0 (h x) (among holds r rs ts xs w.1 h)
+among : (holds : List ℤ → Bool) (r : Range) (rs : List Range) (os : List (List ℤ)) (xs : List ℤ) → Each (Contains (points_of r)) xs → ((x : ℤ) → Says (behind holds x) rs os (first_among (behind holds x) os)) → SaysAmong holds r rs os xs (first_some (λ v. with_first v (first_among (behind holds v) os)) xs)
+among holds r rs os [] w h = tt
+among holds r rs os (x ∷ xs) w h = among_more holds r rs os x xs (first_among (behind holds x) os) (first_some (λ v. with_first v (first_among (behind holds v) os)) xs) w.0 (h x) (among holds r rs os xs w.1 h)
 
 -- the numbers of one more range
-one_more : RawsAreWithin → (holds : List ℤ → Bool) (r : Range) (rs : List Range) (t : ℤ) (ts : List ℤ) (o : Option (List ℤ)) → SaysAmong holds r rs ts (raws_from t r) o → Says holds (r ∷ rs) (t ∷ ts) o
-one_more law holds r rs t ts (Some []) h = absurd h
-one_more law holds r rs t ts (Some (v ∷ vs)) h = ((h.0, h.2.0), h.2.1, (h.1, h.2.2))
-one_more law holds r rs t ts None h = none
+one_more : (holds : List ℤ → Bool) (r : Range) (rs : List Range) (xs : List ℤ) (os : List (List ℤ)) (o : Option (List ℤ)) → ((v : ℤ) → Contains (points_of r) v → Contains xs v) → SaysAmong holds r rs os xs o → Says holds (r ∷ rs) (xs ∷ os) o
+one_more holds r rs xs os (Some []) all h = absurd h
+one_more holds r rs xs os (Some (v ∷ vs)) all h = ((h.0, h.2.0), h.2.1, (h.1, h.2.2))
+one_more holds r rs xs os None all h = none
   where
     none : IsSatisfiable holds (r ∷ rs) → ⊥
     none s = by s.0 s.1 s.2
       where
         by : (values : List ℤ) → IsPointOf (r ∷ rs) values → IsTrue (holds values) → ⊥
         by [] p k = p
-        by (v ∷ vs) p k = from_at law (λ x. IsSatisfiable (behind holds x) rs → ⊥) t r.low r.high v h p.0.0 p.0.1 (vs, p.1, k)
+        by (v ∷ vs) p k = All-contains (λ x. IsSatisfiable (behind holds x) rs → ⊥) xs v (All-from_recursion (λ x. IsSatisfiable (behind holds x) rs → ⊥) xs h) (all v p.0) (vs, p.1, k)
 
-at_end : (holds : List ℤ → Bool) (targets : List ℤ) (b : Bool) → holds [] ≡ b → Says holds [] targets (if b then Some [] else None)
-at_end holds targets true e = (tt, e, e)
-at_end holds targets false e = none
+at_end : (holds : List ℤ → Bool) (orders : List (List ℤ)) (b : Bool) → holds [] ≡ b → Says holds [] orders (if b then Some [] else None)
+at_end holds orders true e = (tt, e, e)
+at_end holds orders false e = none
   where
     none : IsSatisfiable holds [] → ⊥
     none s = by s.0 s.1 s.2
@@ -108,11 +132,29 @@ at_end holds targets false e = none
         by [] p k = absurd (cc)
         by (v ∷ vs) p k = p
 
-says : RawsAreWithin → (holds : List ℤ → Bool) (ranges : List Range) (targets : List ℤ) → length targets ≡ length ranges → Says holds ranges targets (first_solution holds ranges targets)
-unfolding first_solution first_among
-says law holds [] targets e = at_end holds targets (holds []) refl
-says law holds (r ∷ rs) [] e = absurd (omega (arith, e))
-says law holds (r ∷ rs) (t ∷ ts) e = one_more law holds r rs t ts _ (among holds r rs ts (raws_from t r) (each_from law t r.low r.high) (λ x. says law (behind holds x) rs ts (omega (arith, e))))
+-- as many orders as ranges
+abbrev AreAsMany : List Range → List (List ℤ) → Type 0
+AreAsMany ranges orders = length orders ≡ length ranges
 
-pub first_solution_is_first : RawsAreWithin → FirstSolutionIsFirst
-first_solution_is_first law holds ranges targets e = says law holds ranges targets e
+says : (holds : List ℤ → Bool) (ranges : List Range) (orders : List (List ℤ)) → AreAsMany ranges orders → AreOrders ranges orders → Says holds ranges orders (first_among holds orders)
+unfolding first_among
+says holds [] [] e a = at_end holds [] (holds []) refl
+says holds [] (order ∷ orders) e a = absurd (omega (arith, e))
+says holds (r ∷ rs) [] e a = absurd a
+says holds (r ∷ rs) (order ∷ orders) e a = one_more holds r rs order orders _ a.0.1 (among holds r rs orders order a.0.0 (λ x. says (behind holds x) rs orders (omega (arith, e)) a.1))
+
+many : (ranges : List Range) (targets : List ℤ) (down : List Bool) → length targets ≡ length ranges → AreAsMany ranges (orders_from ranges targets down)
+many [] targets down e = refl
+many (r ∷ rs) [] down e = absurd (omega (arith, e))
+many (r ∷ rs) (t ∷ ts) [] e = ap suc (many rs ts [] (omega (arith, e)))
+many (r ∷ rs) (t ∷ ts) (d ∷ ds) e = ap suc (many rs ts ds (omega (arith, e)))
+
+are_orders : (ranges : List Range) (targets : List ℤ) (down : List Bool) → length targets ≡ length ranges → AreOrders ranges (orders_from ranges targets down)
+are_orders [] targets down e = tt
+are_orders (r ∷ rs) [] down e = absurd (omega (arith, e))
+are_orders (r ∷ rs) (t ∷ ts) [] e = ((each_from false t r, λ v c. at_from false t r v c), are_orders rs ts [] (omega (arith, e)))
+are_orders (r ∷ rs) (t ∷ ts) (d ∷ ds) e = ((each_from d t r, λ v c. at_from d t r v c), are_orders rs ts ds (omega (arith, e)))
+
+pub first_solution_is_first : FirstSolutionIsFirst
+unfolding first_solution
+first_solution_is_first holds ranges targets down e = says holds ranges (orders_from ranges targets down) (many ranges targets down e) (are_orders ranges targets down e)

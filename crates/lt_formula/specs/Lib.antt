@@ -16,9 +16,13 @@ pub mod Table
 pub mod View
 -- The values that a variable may take.
 pub mod Domain
--- The first values that pass a test.
+-- The first values that pass a test, in any orders.
+pub mod First
+-- Boxes of raw numbers, and their first values.
+pub mod Box
+-- Points of ranges, and the first of them that passes a test.
 pub mod Solution
--- First values that are told by others.
+-- First values that are told by others, as points by their places.
 pub mod Translation
 -- How large a scenario may be.
 pub mod Limits

@@ -1,20 +1,17 @@
 //! Laws of the definitions that the contracts cite. The functions do nothing: their contracts say it.
 
-ghost use Rattle.lt_formula.specs.Solution.{FirstSolutionIsFirst, RawsFromTarget};
-ghost use Rattle.lt_formula.specs.Translation.{TranslationKeepsTheFirst};
-
-use lt_num::raws_are_within;
+ghost use Rattle.lt_formula.specs.Box.{RawsFromTarget};
+ghost use Rattle.lt_formula.specs.Solution.{FirstSolutionIsFirst};
+ghost use Rattle.lt_formula.specs.Translation.{FirstSolutionByPlaces, OnePointStandsAlone, PlacesGiveTheOrder, PlacesStandForPoints, TranslationKeepsTheFirst};
 
 /// The first solution of a test is a point at which it holds, each of its numbers is the first in the order
-/// from its target with which the numbers before it extend to such a point, and where there is no first
-/// solution there is no such point at all.
+/// from its target, upward or downward, with which the numbers before it extend to such a point, and where there
+/// is no first solution there is no such point at all.
 pub fn first_solution_is_first()
     ensures { FirstSolutionIsFirst }
-{
-    raws_are_within();
-}
+{}
 
-/// From a target inside a range, its numbers come from the target up, and then from the low end up to the one
+/// From a target inside an interval, its numbers come from the target up, and then from the low end up to the one
 /// below the target.
 pub fn raws_from_target()
     ensures { RawsFromTarget }
@@ -24,4 +21,27 @@ pub fn raws_from_target()
 #[tactic(auto, using(crate::proofs::Translations::translation_keeps_the_first))]
 pub fn translation_keeps_the_first()
     ensures { TranslationKeepsTheFirst }
+{}
+
+/// The order of the points of a range from a target is that of their places, upward as downward.
+#[tactic(auto, using(crate::proofs::Places::places_give_the_order))]
+pub fn places_give_the_order()
+    ensures { PlacesGiveTheOrder }
+{}
+
+/// The place of a point stands for it, counted from the last point where the direction is down.
+pub fn places_stand_for_points()
+    ensures { PlacesStandForPoints }
+{}
+
+/// Where a range has one point alone, each place stands for each target.
+#[tactic(auto, using(crate::proofs::Places::one_point_stands_alone))]
+pub fn one_point_stands_alone()
+    ensures { OnePointStandsAlone }
+{}
+
+/// The first solution is told by the first places of a box with which the test holds, whatever steps and directions are.
+#[tactic(auto, using(crate::proofs::Places::first_solution_by_places))]
+pub fn first_solution_by_places()
+    ensures { FirstSolutionByPlaces }
 {}

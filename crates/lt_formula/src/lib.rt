@@ -6,8 +6,9 @@
 //!
 //! Contracts see an expression as an `Expression` of `specs/Expression.antt`, in which operators are data.
 //! `specs/Shape.antt` has the one row for each node that the code has; all else is by six shapes.
-//! `specs/Valuation.antt` says what an expression is worth, and `specs/Solution.antt` which values are the
-//! first that pass a test.
+//! `specs/Valuation.antt` says what an expression is worth, and `specs/Solution.antt` which points of ranges are
+//! the first that pass a test. `specs/First.antt` says it for any orders of numbers, and `specs/Translation.antt`
+//! how the points of ranges, in each direction, are told by their places: a search goes over boxes of those.
 #![tactic(auto)]
 
 mod facts;
@@ -24,7 +25,10 @@ mod values;
 
 pub use facts::Facts;
 pub use known::{Known, known_value};
-pub use laws::{first_solution_is_first, raws_from_target, translation_keeps_the_first};
+pub use laws::{
+    first_solution_by_places, first_solution_is_first, one_point_stands_alone,
+    places_give_the_order, places_stand_for_points, raws_from_target, translation_keeps_the_first,
+};
 pub use memory::Memory;
 pub use node::ExpNode;
 pub use operator::{BinaryOperator, UnaryOperator};
