@@ -4,7 +4,7 @@ use Rattle.lt_num.specs.declared.range.Range.{Range}
 
 -- the range of a variable that is out of scope: 0 alone
 abbrev pub zero_alone : Range
-zero_alone = record { low = pos 0; high = pos 0 }
+zero_alone = record { low = pos 0; high = pos 0; step = pos 1 }
 
 -- the range of a variable, by whether it is in scope
 abbrev pub range_in : Bool → Range → Range
