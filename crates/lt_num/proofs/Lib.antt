@@ -1,4 +1,5 @@
 pub mod Public
+pub mod Products
 pub mod RoundingLemmas
 pub mod AnswerLemmas
 pub mod DigitLemmas

@@ -13,6 +13,10 @@ use Rattle.lt_num.proofs.AnswerLemmas as answers
 use Rattle.lt_num.proofs.NumberLemmas as numbers
 use Rattle.lt_num.proofs.IntervalLemmas as intervals
 use Rattle.lt_num.proofs.PointLemmas as points
+-- how far a number is under another one
+pub use Rattle.lt_num.proofs.IntervalLemmas.{gap_above, gap_none}
+-- products and sums of whole numbers
+pub use Rattle.lt_num.proofs.Products.{difference_times, sum_times, times_difference, times_sum}
 
 -- the raw numbers of an interval are exactly those within it, in rising order
 pub raws_are_within : RawsAreWithin
