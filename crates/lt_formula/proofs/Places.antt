@@ -1,25 +1,35 @@
 -- The order of points is that of their places.
 use Rattle.std.proofs.Common.{◌≡◌, ℕ, zero, suc, ◌+◌, ◌*◌, ◌-◌, ◌<◌, ◌≤◌, Bool, true, false, not, List, [], ◌∷◌, ◌++◌, map, reverse, ℤ, pos, ◌+ℤ◌, ◌-ℤ◌, ◌≤ℤ◌, ◌<ℤ◌, refl, ap, sym, subst, ◌∙◌, arith}
-use Rattle.std.specs.Prelude.{if◌then◌else◌, int_lt, negsuc, unsigned_abs}
-use Rattle.std.specs.Int.{int_min, int_max}
+use Rattle.std.specs.Prelude.{if◌then◌else◌, int_lt, neg_ℤ, negsuc, unsigned_abs, ◌*ℤ◌}
+use Rattle.std.proofs.Math.IntN.{*ℤ-zero, *ℤ_comm, zero-*ℤ}
+use Rattle.std.specs.Int.{int_gap, int_min, int_max}
 use Rattle.std.specs.List.{filter}
 use Rattle.std.proofs.lemmas.Int.{ints, clamps, by_lt_z}
 use Rattle.std.proofs.Math.Nat.{mul-le-mul_right, suc-mul}
 use Rattle.lt_formula.specs.First.{first_among}
 use Rattle.std.proofs.lemmas.List.{map-append, reverse-append}
-use Rattle.lt_num.proofs.Public.{point_is, raws_of-more, raws_of-none}
+use Rattle.lt_num.proofs.Public.{difference_times, gap_above, gap_none, point_is, raws_of-more, raws_of-none, times_sum}
 use Rattle.lt_num.specs.Interval.{counted_up, raws_of}
 use Rattle.lt_num.specs.Range.{HasPoints, count_of, point_at}
 use Rattle.lt_num.specs.declared.interval.Interval.{Interval}
 use Rattle.lt_num.specs.declared.range.Range.{Range}
 use Rattle.lt_formula.proofs.Translations.{translation_keeps_the_first}
 use Rattle.lt_formula.specs.Box.{first_in_box, orders_in_box, raws_from}
-use Rattle.lt_formula.specs.Solution.{comes_before, first_solution, orders_from, points_in}
-use Rattle.lt_formula.specs.Translation.{EachStandsFor, FirstSolutionByPlaces, OnePointStandsAlone, PlacesGiveTheOrder, PlacesStandForPoints, StandsFor, box_of, orders_by, value_at, values_by}
+use Rattle.lt_formula.specs.Solution.{comes_before, first_solution, orders_from, other_marks, points_from, points_in}
+use Rattle.lt_formula.specs.Translation.{AllTellPoints, FirstSolutionByPlaces, OnePlaceTellsOnePoint, Places, PlacesTellPoints, box_of, orders_by, places_down, places_up, starts_of, value_by, values_by}
 
 -- an interval by its ends
 abbrev interval_of : ℤ → ℤ → Interval
 interval_of low high = record { low = low; high = high }
+
+-- the point at a place in a direction: so many steps over the low end, or under the last point
+abbrev value_at : Bool → Range → ℤ → ℤ
+value_at false range place = point_at range place
+value_at true range place = point_at range ((pos (count_of range) -ℤ pos 1) -ℤ place)
+
+-- a place from which the places of a range, the first of which is 0, give its points in the order from a target
+abbrev IsOrdered : Bool → Range → ℤ → ℤ → Type 0
+IsOrdered down range target place = points_from down target range ≡ map (value_at down range) (raws_from place (interval_of (pos 0) (pos (count_of range) -ℤ pos 1)))
 
 -- Those that pass a test, of numbers that are told by counted ones.
 kept_step : (f : ℤ → ℤ) (a : ℤ) (b c : Bool) (xs ys : List ℤ) → b ≡ c → xs ≡ map f ys → (if b then f a ∷ xs else xs) ≡ map f (if c then a ∷ ys else ys)
@@ -110,7 +120,9 @@ points_told true range =
     ∙ ap (map (point_at range)) (reversed (pos 0) (last -ℤ pos 0) n (omega (arith, ints)) ∙ sym (mirrored last (pos 0) n))
     ∙ told_twice (point_at range) (λ k. last -ℤ k) (counted_up (pos 0) n)
 
-pub places_give_the_order : PlacesGiveTheOrder
+-- The place under which exactly the points stand that come before the target is the one to begin at.
+places_give_the_order : (down : Bool) (range : Range) (target place : ℤ) → ((k : ℤ) → pos 0 ≤ℤ k → k <ℤ pos (count_of range) → comes_before down (value_at down range k) target ≡ int_lt k place)
+    → IsOrdered down range target place
 places_give_the_order down range target place stands =
     let n = count_of range in
     let last = pos n -ℤ pos 1 in
@@ -169,46 +181,114 @@ module _ (range : Range) (has : HasPoints range) where
       ∙ lt_same _ _ (pos j) (pos n -ℤ pos 1 -ℤ pos place) (λ h. climbs place (n - 1 - j) (omega (arith, ints, h, u, few))) (λ h. rises (n - 1 - j) place (omega (arith, ints, h, u, few)))
   down_stands place few (negsuc j) l u = absurd (omega (arith, ints, l))
 
-pub places_stand_for_points : PlacesStandForPoints
-places_stand_for_points range place has few = (
-  places_give_the_order false range (point_at range (pos place)) (pos place) (λ k l u. up_stands range has place k l),
-  places_give_the_order true range (point_at range (pos place)) (pos (count_of range) -ℤ pos 1 -ℤ pos place) (λ k l u. down_stands range has place few k l u),
+up_ordered : (range : Range) (place : ℕ) → HasPoints range → IsOrdered false range (point_at range (pos place)) (pos place)
+up_ordered range place has = places_give_the_order false range (point_at range (pos place)) (pos place) (λ k l u. up_stands range has place k l)
+
+down_ordered : (range : Range) (place : ℕ) → HasPoints range → place < count_of range → IsOrdered true range (point_at range (pos place)) ((pos (count_of range) -ℤ pos 1) -ℤ pos place)
+down_ordered range place has few = places_give_the_order true range (point_at range (pos place)) ((pos (count_of range) -ℤ pos 1) -ℤ pos place) (λ k l u. down_stands range has place few k l u)
+
+-- Places from another number on.
+told_further : (f g : ℤ → ℤ) (a b : ℤ) (n : ℕ) → ((k : ℤ) → f k ≡ g (k +ℤ (b -ℤ a))) → map f (counted_up a n) ≡ map g (counted_up b n)
+unfolding counted_up
+told_further f g a b zero same = refl
+told_further f g a b (suc n) same =
+    (λ i. (same a ∙ ap g {x = a +ℤ (b -ℤ a)} {y = b} (omega (arith, ints))) i
+    ∷ told_further f g (a +ℤ pos 1) (b +ℤ pos 1) n (λ k. same k ∙ ap g {x = k +ℤ (b -ℤ a)} {y = k +ℤ ((b +ℤ pos 1) -ℤ (a +ℤ pos 1))} (omega (arith, ints))) i)
+
+gap_same : (a b c d : ℤ) → b -ℤ a ≡ d -ℤ c → int_gap a b ≡ int_gap c d
+gap_same a b c d e =
+    by_lt_z a b
+    (λ h. let one = gap_above a b (omega (arith, ints)) in let two = gap_above c d (omega (arith, ints)) in omega (arith, ints))
+    (λ h. let one = gap_none a b h in let two = gap_none c d (omega (arith, ints)) in omega (arith, ints))
+
+raws_further : (f g : ℤ → ℤ) (c low high : ℤ) → ((k : ℤ) → f k ≡ g (k +ℤ c)) → map f (raws_of (interval_of low high)) ≡ map g (raws_of (interval_of (low +ℤ c) (high +ℤ c)))
+raws_further f g c low high same =
+    told_further f g low (low +ℤ c) (int_gap low (high +ℤ pos 1)) (λ k. same k ∙ ap g {x = k +ℤ c} {y = k +ℤ ((low +ℤ c) -ℤ low)} (omega (arith, ints)))
+    ∙ ap (λ n. map g (counted_up (low +ℤ c) n)) (gap_same low (high +ℤ pos 1) (low +ℤ c) ((high +ℤ c) +ℤ pos 1) (omega (arith, ints)))
+
+order_further : (f g : ℤ → ℤ) (c t low high t' low' high' : ℤ) → ((k : ℤ) → f k ≡ g (k +ℤ c)) → t' ≡ t +ℤ c → low' ≡ low +ℤ c → high' ≡ high +ℤ c
+    → map f (raws_from t (interval_of low high)) ≡ map g (raws_from t' (interval_of low' high'))
+order_further f g c t low high t' low' high' same et el eh =
+    map-append f (raws_of (interval_of (int_max low t) high)) (raws_of (interval_of low (int_min high (t -ℤ pos 1))))
+    ∙ (λ i. raws_further f g c (int_max low t) high same i ++ raws_further f g c low (int_min high (t -ℤ pos 1)) same i)
+    ∙ (λ i. map g (raws_of (interval_of (start i) (sym eh i))) ++ map g (raws_of (interval_of (sym el i) (end i))))
+    ∙ sym (map-append g (raws_of (interval_of (int_max low' t') high')) (raws_of (interval_of low' (int_min high' (t' -ℤ pos 1)))))
+  where
+    start : int_max low t +ℤ c ≡ int_max low' t'
+    start = omega (arith, ints, clamps, et, el)
+
+    end : int_min high (t -ℤ pos 1) +ℤ c ≡ int_min high' (t' -ℤ pos 1)
+    end = omega (arith, ints, clamps, et, eh)
+
+neg_times : (m k : ℤ) → neg_ℤ m *ℤ k ≡ neg_ℤ (m *ℤ k)
+neg_times m k =
+    let is : neg_ℤ m ≡ pos 0 -ℤ m = omega (arith, ints) in
+    let all = ap (λ z. z *ℤ k) is ∙ difference_times (pos 0) m k in
+    omega (arith, ints, all, zero-*ℤ k)
+
+pub places_tell_points : PlacesTellPoints
+places_tell_points base first range place has few e = (
+  up_ordered range place has
+      ∙ order_further (value_at false range) (value_by (places_up base first range (pos place)).scale) first (pos place) (pos 0) (pos (count_of range) -ℤ pos 1) (first +ℤ pos place) first ((first +ℤ pos (count_of range)) -ℤ pos 1) up (omega (arith, ints)) (omega (arith, ints)) (omega (arith, ints)),
+  down_ordered range place has few
+      ∙ order_further (value_at true range) (value_by (places_down base first range (pos place)).scale) (pos 1 -ℤ (first +ℤ pos (count_of range))) ((pos (count_of range) -ℤ pos 1) -ℤ pos place) (pos 0) (pos (count_of range) -ℤ pos 1) (neg_ℤ (first +ℤ pos place)) (pos 1 -ℤ (first +ℤ pos (count_of range))) (neg_ℤ first) down (omega (arith, ints)) (omega (arith, ints)) (omega (arith, ints)),
 )
+  where
+    up : (k : ℤ) → point_at range k ≡ base +ℤ range.step *ℤ (k +ℤ first)
+    up k = let all = times_sum range.step k first in omega (arith, ints, all, e)
+
+    down : (k : ℤ) → point_at range ((pos (count_of range) -ℤ pos 1) -ℤ k) ≡ base +ℤ neg_ℤ range.step *ℤ (k +ℤ (pos 1 -ℤ (first +ℤ pos (count_of range))))
+    down k =
+        let turn = neg_times range.step (k +ℤ (pos 1 -ℤ (first +ℤ pos (count_of range)))) in
+        let inner : k +ℤ (pos 1 -ℤ (first +ℤ pos (count_of range))) ≡ neg_ℤ (((pos (count_of range) -ℤ pos 1) -ℤ k) +ℤ first) = omega (arith, ints) in
+        let back = ap (λ z. range.step *ℤ z) inner ∙ *ℤ_comm range.step (neg_ℤ (((pos (count_of range) -ℤ pos 1) -ℤ k) +ℤ first)) ∙ neg_times (((pos (count_of range) -ℤ pos 1) -ℤ k) +ℤ first) range.step in
+        let all = *ℤ_comm (((pos (count_of range) -ℤ pos 1) -ℤ k) +ℤ first) range.step ∙ times_sum range.step ((pos (count_of range) -ℤ pos 1) -ℤ k) first in
+        omega (arith, ints, turn, back, all, e)
 
 -- from each target, an interval of one number has that one
-one_raw : (t h : ℤ) → h ≡ pos 0 → raws_from t (interval_of (pos 0) h) ≡ pos 0 ∷ []
-one_raw t h e =
-    by_lt_z (pos 0) t
-    (λ over. ap (λ zs. zs ++ raws_of (interval_of (pos 0) (int_min h (t -ℤ pos 1)))) (raws_of-none (int_max (pos 0) t) h (omega (arith, ints, clamps))) ∙ raws_of-more (pos 0) (int_min h (t -ℤ pos 1)) (omega (arith, ints, clamps)) ∙ ap (λ zs. pos 0 ∷ zs) (raws_of-none (pos 1) (int_min h (t -ℤ pos 1)) (omega (arith, ints, clamps))))
-    (λ under. ap (λ z. raws_of (interval_of z h) ++ raws_of (interval_of (pos 0) (int_min h (t -ℤ pos 1)))) {x = int_max (pos 0) t} {y = pos 0} (omega (arith, ints, clamps))
-    ∙ ap (λ zs. zs ++ raws_of (interval_of (pos 0) (int_min h (t -ℤ pos 1)))) (raws_of-more (pos 0) h (omega (arith, ints)) ∙ ap (λ zs. pos 0 ∷ zs) (raws_of-none (pos 1) h (omega (arith, ints))))
-    ∙ ap (λ zs. pos 0 ∷ zs) (raws_of-none (pos 0) (int_min h (t -ℤ pos 1)) (omega (arith, ints, clamps))))
+one_raw : (t low high : ℤ) → low ≡ high → raws_from t (interval_of low high) ≡ low ∷ []
+one_raw t low high e =
+    by_lt_z low t
+    (λ over. ap (λ zs. zs ++ raws_of (interval_of low (int_min high (t -ℤ pos 1)))) (raws_of-none (int_max low t) high (omega (arith, ints, clamps))) ∙ raws_of-more low (int_min high (t -ℤ pos 1)) (omega (arith, ints, clamps)) ∙ ap (λ zs. low ∷ zs) (raws_of-none (low +ℤ pos 1) (int_min high (t -ℤ pos 1)) (omega (arith, ints, clamps))))
+    (λ under. ap (λ z. raws_of (interval_of z high) ++ raws_of (interval_of low (int_min high (t -ℤ pos 1)))) {x = int_max low t} {y = low} (omega (arith, ints, clamps))
+    ∙ ap (λ zs. zs ++ raws_of (interval_of low (int_min high (t -ℤ pos 1)))) (raws_of-more low high (omega (arith, ints)) ∙ ap (λ zs. low ∷ zs) (raws_of-none (low +ℤ pos 1) high (omega (arith, ints))))
+    ∙ ap (λ zs. low ∷ zs) (raws_of-none low (int_min high (t -ℤ pos 1)) (omega (arith, ints, clamps))))
 
-pub one_point_stands_alone : OnePointStandsAlone
-one_point_stands_alone down range target place one = by_test (comes_before down (value_at down range (pos 0)) target) refl
+one_point : (down : Bool) (range : Range) (target : ℤ) → count_of range ≡ 1 → points_from down target range ≡ value_at down range (pos 0) ∷ []
+one_point down range target one = by_test (comes_before down (value_at down range (pos 0)) target) refl
   where
-    last : pos (count_of range) -ℤ pos 1 ≡ pos 0
-    last = omega (arith, ints, one)
-
-    at : (b : Bool) (k : ℤ) → comes_before down (value_at down range (pos 0)) target ≡ b → int_lt (pos 0) k ≡ b → StandsFor down range target place
+    at : (b : Bool) (k : ℤ) → comes_before down (value_at down range (pos 0)) target ≡ b → int_lt (pos 0) k ≡ b → points_from down target range ≡ value_at down range (pos 0) ∷ []
     at b k e is =
         places_give_the_order down range target k (λ j l u. subst (λ (z : ℤ). comes_before down (value_at down range z) target ≡ int_lt z k) {x = pos 0} {y = j} (omega (arith, ints, l, u, one)) (e ∙ sym is))
-        ∙ ap (map (value_at down range)) (one_raw k (pos (count_of range) -ℤ pos 1) last ∙ sym (one_raw place (pos (count_of range) -ℤ pos 1) last))
+        ∙ ap (map (value_at down range)) (one_raw k (pos 0) (pos (count_of range) -ℤ pos 1) (omega (arith, ints, one)))
 
-    by_test : (b : Bool) → comes_before down (value_at down range (pos 0)) target ≡ b → StandsFor down range target place
+    by_test : (b : Bool) → comes_before down (value_at down range (pos 0)) target ≡ b → points_from down target range ≡ value_at down range (pos 0) ∷ []
     by_test true e = at true (pos 1) e refl
     by_test false e = at false (pos 0) e refl
 
+first_is_low : (range : Range) → point_at range (pos 0) ≡ range.low
+first_is_low range = let none = *ℤ-zero range.step in omega (arith, ints, none)
+
+low_end : (down : Bool) (range : Range) → count_of range ≡ 1 → value_at down range (pos 0) ≡ range.low
+low_end false range one = first_is_low range
+low_end true range one = ap (point_at range) {x = (pos (count_of range) -ℤ pos 1) -ℤ pos 0} {y = pos 0} (omega (arith, ints, one)) ∙ first_is_low range
+
+pub one_place_tells_one_point : OnePlaceTellsOnePoint
+one_place_tells_one_point places down range target one same is =
+    one_point down range target one
+    ∙ ap (λ z. z ∷ []) (low_end down range one ∙ sym is)
+    ∙ ap (map (value_by places.scale)) (sym (one_raw places.start places.interval.low places.interval.high same))
+
 -- the orders of all ranges
-orders_are : (ranges : List Range) (targets : List ℤ) (down : List Bool) (places : List ℤ) → EachStandsFor ranges targets down places → orders_from ranges targets down ≡ orders_by (values_by ranges down) (orders_in_box (box_of ranges) places)
-orders_are [] targets down places each = refl
-orders_are (r ∷ rs) [] down places each = absurd each
-orders_are (r ∷ rs) (t ∷ ts) down [] each = absurd each
-orders_are (r ∷ rs) (t ∷ ts) [] (k ∷ ks) each = (λ i. each.0 i ∷ orders_are rs ts [] ks each.1 i)
-orders_are (r ∷ rs) (t ∷ ts) (d ∷ ds) (k ∷ ks) each = (λ i. each.0 i ∷ orders_are rs ts ds ks each.1 i)
+orders_are : (places : List Places) (ranges : List Range) (targets : List ℤ) (down : List Bool) → AllTellPoints places ranges targets down → orders_from ranges targets down ≡ orders_by (values_by places) (orders_in_box (box_of places) (starts_of places))
+orders_are [] [] targets down each = refl
+orders_are (p ∷ ps) [] targets down each = absurd each
+orders_are [] (r ∷ rs) targets down each = absurd each
+orders_are (p ∷ ps) (r ∷ rs) [] down each = absurd each
+orders_are (p ∷ ps) (r ∷ rs) (t ∷ ts) down each = (λ i. each.0 i ∷ orders_are ps rs ts (other_marks down) each.1 i)
 
 pub first_solution_by_places : FirstSolutionByPlaces
 unfolding first_solution first_in_box
-first_solution_by_places holds ranges targets down places each =
-    ap (first_among holds) (orders_are ranges targets down places each)
-    ∙ translation_keeps_the_first (values_by ranges down) holds (orders_in_box (box_of ranges) places)
+first_solution_by_places holds places ranges targets down each =
+    ap (first_among holds) (orders_are places ranges targets down each)
+    ∙ translation_keeps_the_first (values_by places) holds (orders_in_box (box_of places) (starts_of places))

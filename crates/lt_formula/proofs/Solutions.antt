@@ -8,7 +8,7 @@ use Rattle.std.proofs.lemmas.List.Elements.{All-contains, All-contains_itself, A
 use Rattle.lt_num.specs.Range.{points_of}
 use Rattle.lt_num.specs.declared.range.Range.{Range}
 use Rattle.lt_formula.specs.First.{behind, first_among, first_some, or_else, with_first}
-use Rattle.lt_formula.specs.Solution.{FirstSolutionIsFirst, IsFirst, IsFirstAmong, IsPointOf, IsSatisfiable, comes_before, first_solution, orders_from, points_from, points_in}
+use Rattle.lt_formula.specs.Solution.{FirstSolutionIsFirst, IsFirst, IsFirstAmong, IsPointOf, IsSatisfiable, comes_before, first_mark, first_solution, orders_from, other_marks, points_from, points_in}
 
 -- a fact of each number
 abbrev Each : (ℤ → Type 0) → List ℤ → Type 0
@@ -146,14 +146,12 @@ says holds (r ∷ rs) (order ∷ orders) e a = one_more holds r rs order orders 
 many : (ranges : List Range) (targets : List ℤ) (down : List Bool) → length targets ≡ length ranges → AreAsMany ranges (orders_from ranges targets down)
 many [] targets down e = refl
 many (r ∷ rs) [] down e = absurd (omega (arith, e))
-many (r ∷ rs) (t ∷ ts) [] e = ap suc (many rs ts [] (omega (arith, e)))
-many (r ∷ rs) (t ∷ ts) (d ∷ ds) e = ap suc (many rs ts ds (omega (arith, e)))
+many (r ∷ rs) (t ∷ ts) down e = ap suc (many rs ts (other_marks down) (omega (arith, e)))
 
 are_orders : (ranges : List Range) (targets : List ℤ) (down : List Bool) → length targets ≡ length ranges → AreOrders ranges (orders_from ranges targets down)
 are_orders [] targets down e = tt
 are_orders (r ∷ rs) [] down e = absurd (omega (arith, e))
-are_orders (r ∷ rs) (t ∷ ts) [] e = ((each_from false t r, λ v c. at_from false t r v c), are_orders rs ts [] (omega (arith, e)))
-are_orders (r ∷ rs) (t ∷ ts) (d ∷ ds) e = ((each_from d t r, λ v c. at_from d t r v c), are_orders rs ts ds (omega (arith, e)))
+are_orders (r ∷ rs) (t ∷ ts) down e = ((each_from (first_mark down) t r, λ v c. at_from (first_mark down) t r v c), are_orders rs ts (other_marks down) (omega (arith, e)))
 
 pub first_solution_is_first : FirstSolutionIsFirst
 unfolding first_solution

@@ -1,11 +1,11 @@
--- First points of numbers that are told by others, by a function for each variable, as points by their places.
-use Rattle.std.specs.Prelude.{◌≡◌, ℕ, ◌<◌, Bool, true, false, List, [], ◌∷◌, map, option_map, int_lt, ℤ, pos, ◌-ℤ◌, ◌≤ℤ◌, ◌<ℤ◌}
+-- First points by their places: a search goes over boxes of places, whatever steps and directions are.
+use Rattle.std.specs.Prelude.{◌≡◌, ℕ, ◌<◌, Bool, true, false, List, [], ◌∷◌, map, option_map, ℤ, pos, neg_ℤ, ◌+ℤ◌, ◌-ℤ◌, ◌*ℤ◌}
 use Rattle.lt_num.specs.Range.{HasPoints, count_of, point_at}
 use Rattle.lt_num.specs.declared.interval.Interval.{Interval}
 use Rattle.lt_num.specs.declared.range.Range.{Range}
 use Rattle.lt_formula.specs.Box.{first_in_box, raws_from}
 use Rattle.lt_formula.specs.First.{first_among}
-use Rattle.lt_formula.specs.Solution.{comes_before, first_solution, points_from}
+use Rattle.lt_formula.specs.Solution.{first_mark, first_solution, other_marks, points_from}
 
 -- each number by the function of its variable; those of further variables stay
 abbrev pub each_by : List (ℤ → ℤ) → List ℤ → List ℤ
@@ -25,60 +25,76 @@ TranslationKeepsTheFirst =
     (fs : List (ℤ → ℤ)) (holds : List ℤ → Bool) (orders : List (List ℤ)) →
     first_among holds (orders_by fs orders) ≡ option_map (each_by fs) (first_among (λ values. holds (each_by fs values)) orders)
 
--- the point that stands at a place in a direction: so many steps over the low end, or under the last point
-abbrev pub value_at : Bool → Range → ℤ → ℤ
-value_at false range place = point_at range place
-value_at true range place = point_at range (pos (count_of range) -ℤ pos 1 -ℤ place)
+-- how places tell values: each is a slope further than the one before
+pub record Scale : Type 0 where
+  pub base : ℤ
+  pub slope : ℤ
 
--- the places of a range's points
-abbrev pub places_of : Range → Interval
-places_of range = record { low = pos 0; high = pos (count_of range) -ℤ pos 1 }
+-- the value at a place
+abbrev pub value_by : Scale → ℤ → ℤ
+value_by scale place = scale.base +ℤ scale.slope *ℤ place
 
--- A place stands for a target: the points in the order from the target are those at the places in the order from the place.
-abbrev pub StandsFor : Bool → Range → ℤ → ℤ → Type 0
-StandsFor down range target place = points_from down target range ≡ map (value_at down range) (raws_from place (places_of range))
+-- the places of a variable: how they tell its values, which there are, and the one to begin at
+pub record Places : Type 0 where
+  pub scale : Scale
+  pub interval : Interval
+  pub start : ℤ
 
--- The place under which exactly the points stand that come before the target stands for it.
-abbrev pub PlacesGiveTheOrder : Type 0
-PlacesGiveTheOrder =
-    (down : Bool) (range : Range) (target place : ℤ) →
-    ((k : ℤ) → pos 0 ≤ℤ k → k <ℤ pos (count_of range) → comes_before down (value_at down range k) target ≡ int_lt k place) →
-    StandsFor down range target place
+-- The places tell the points of a range in the order from a target: as many, and in the order from the start.
+abbrev pub TellPoints : Places → Bool → Range → ℤ → Type 0
+TellPoints places down range target = points_from down target range ≡ map (value_by places.scale) (raws_from places.start places.interval)
 
--- So a point's own place stands for it, counted from the last point where the direction is down.
-abbrev pub PlacesStandForPoints : Type 0
-PlacesStandForPoints =
-    (range : Range) (place : ℕ) → HasPoints range → place < count_of range →
-    StandsFor false range (point_at range (pos place)) (pos place)
-    × StandsFor true range (point_at range (pos place)) (pos (count_of range) -ℤ pos 1 -ℤ pos place)
+-- The places of a range that goes upward, the first of which is this: the slope is the step.
+abbrev pub places_up : ℤ → ℤ → Range → ℤ → Places
+places_up base first range place = record {
+  scale = record { base = base; slope = range.step };
+  interval = record { low = first; high = (first +ℤ pos (count_of range)) -ℤ pos 1 };
+  start = first +ℤ place;
+}
 
--- Where there is one point alone, each place stands for each target.
-abbrev pub OnePointStandsAlone : Type 0
-OnePointStandsAlone = (down : Bool) (range : Range) (target place : ℤ) → count_of range ≡ 1 → StandsFor down range target place
+-- those of one that goes downward: all is mirrored
+abbrev pub places_down : ℤ → ℤ → Range → ℤ → Places
+places_down base first range place = record {
+  scale = record { base = base; slope = neg_ℤ range.step };
+  interval = record { low = pos 1 -ℤ (first +ℤ pos (count_of range)); high = neg_ℤ first };
+  start = neg_ℤ (first +ℤ place);
+}
 
--- the points of ranges by their places, in the directions of marks; without a mark upward
-abbrev pub values_by : List Range → List Bool → List (ℤ → ℤ)
-values_by [] down = []
-values_by (r ∷ rs) [] = value_at false r ∷ values_by rs []
-values_by (r ∷ rs) (d ∷ ds) = value_at d r ∷ values_by rs ds
+-- They tell the points, from one at a place on, where the first place has the low end.
+abbrev pub PlacesTellPoints : Type 0
+PlacesTellPoints =
+    (base first : ℤ) (range : Range) (place : ℕ) → HasPoints range → place < count_of range → base +ℤ range.step *ℤ first ≡ range.low →
+    TellPoints (places_up base first range (pos place)) false range (point_at range (pos place))
+    × TellPoints (places_down base first range (pos place)) true range (point_at range (pos place))
 
--- the box of all places
-abbrev pub box_of : List Range → List Interval
-box_of [] = []
-box_of (r ∷ rs) = places_of r ∷ box_of rs
+-- Where a range has one point alone, one place tells it, from whatever start and whatever target.
+abbrev pub OnePlaceTellsOnePoint : Type 0
+OnePlaceTellsOnePoint =
+    (places : Places) (down : Bool) (range : Range) (target : ℤ) → count_of range ≡ 1 → places.interval.low ≡ places.interval.high →
+    value_by places.scale places.interval.low ≡ range.low → TellPoints places down range target
 
--- there is a place for each range, which stands for its target
-abbrev pub EachStandsFor : List Range → List ℤ → List Bool → List ℤ → Type 0
-EachStandsFor [] targets down places = Unit {0}
-EachStandsFor (r ∷ rs) [] down places = ⊥
-EachStandsFor (r ∷ rs) (t ∷ ts) down [] = ⊥
-EachStandsFor (r ∷ rs) (t ∷ ts) [] (k ∷ ks) = StandsFor false r t k × EachStandsFor rs ts [] ks
-EachStandsFor (r ∷ rs) (t ∷ ts) (d ∷ ds) (k ∷ ks) = StandsFor d r t k × EachStandsFor rs ts ds ks
+-- the functions, the box and the starts of the places of all variables
+abbrev pub values_by : List Places → List (ℤ → ℤ)
+values_by places = map (λ p. value_by p.scale) places
+
+abbrev pub box_of : List Places → List Interval
+box_of places = map (λ p. p.interval) places
+
+abbrev pub starts_of : List Places → List ℤ
+starts_of places = map (λ p. p.start) places
+
+-- the places of each variable tell its points
+abbrev pub AllTellPoints : List Places → List Range → List ℤ → List Bool → Type 0
+AllTellPoints [] [] targets down = Unit {0}
+AllTellPoints (p ∷ ps) [] targets down = ⊥
+AllTellPoints [] (r ∷ rs) targets down = ⊥
+AllTellPoints (p ∷ ps) (r ∷ rs) [] down = ⊥
+AllTellPoints (p ∷ ps) (r ∷ rs) (t ∷ ts) down = TellPoints p (first_mark down) r t × AllTellPoints ps rs ts (other_marks down)
 
 -- The first solution is told by the first places of a box with which the test holds: one search over boxes of places serves
 -- each step and each direction.
 abbrev pub FirstSolutionByPlaces : Type 0
 FirstSolutionByPlaces =
-    (holds : List ℤ → Bool) (ranges : List Range) (targets : List ℤ) (down : List Bool) (places : List ℤ) → EachStandsFor ranges targets down places →
+    (holds : List ℤ → Bool) (places : List Places) (ranges : List Range) (targets : List ℤ) (down : List Bool) → AllTellPoints places ranges targets down →
     first_solution holds ranges targets down
-    ≡ option_map (each_by (values_by ranges down)) (first_in_box (λ ks. holds (each_by (values_by ranges down) ks)) (box_of ranges) places)
+    ≡ option_map (each_by (values_by places)) (first_in_box (λ ks. holds (each_by (values_by places) ks)) (box_of places) (starts_of places))

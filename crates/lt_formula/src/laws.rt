@@ -2,7 +2,7 @@
 
 ghost use Rattle.lt_formula.specs.Box.{RawsFromTarget};
 ghost use Rattle.lt_formula.specs.Solution.{FirstSolutionIsFirst};
-ghost use Rattle.lt_formula.specs.Translation.{FirstSolutionByPlaces, OnePointStandsAlone, PlacesGiveTheOrder, PlacesStandForPoints, TranslationKeepsTheFirst};
+ghost use Rattle.lt_formula.specs.Translation.{FirstSolutionByPlaces, OnePlaceTellsOnePoint, PlacesTellPoints, TranslationKeepsTheFirst};
 
 /// The first solution of a test is a point at which it holds, each of its numbers is the first in the order
 /// from its target, upward or downward, with which the numbers before it extend to such a point, and where there
@@ -23,25 +23,17 @@ pub fn translation_keeps_the_first()
     ensures { TranslationKeepsTheFirst }
 {}
 
-/// The order of the points of a range from a target is that of their places, upward as downward.
-#[tactic(auto, using(crate::proofs::Places::places_give_the_order))]
-pub fn places_give_the_order()
-    ensures { PlacesGiveTheOrder }
+/// The places of a range tell its points in the order from one of them, upward as downward.
+pub fn places_tell_points()
+    ensures { PlacesTellPoints }
 {}
 
-/// The place of a point stands for it, counted from the last point where the direction is down.
-pub fn places_stand_for_points()
-    ensures { PlacesStandForPoints }
-{}
-
-/// Where a range has one point alone, each place stands for each target.
-#[tactic(auto, using(crate::proofs::Places::one_point_stands_alone))]
-pub fn one_point_stands_alone()
-    ensures { OnePointStandsAlone }
+/// Where a range has one point alone, one place tells it, from whatever start and whatever target.
+pub fn one_place_tells_one_point()
+    ensures { OnePlaceTellsOnePoint }
 {}
 
 /// The first solution is told by the first places of a box with which the test holds, whatever steps and directions are.
-#[tactic(auto, using(crate::proofs::Places::first_solution_by_places))]
 pub fn first_solution_by_places()
     ensures { FirstSolutionByPlaces }
 {}

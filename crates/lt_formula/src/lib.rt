@@ -26,8 +26,8 @@ mod values;
 pub use facts::Facts;
 pub use known::{Known, known_value};
 pub use laws::{
-    first_solution_by_places, first_solution_is_first, one_point_stands_alone,
-    places_give_the_order, places_stand_for_points, raws_from_target, translation_keeps_the_first,
+    first_solution_by_places, first_solution_is_first, one_place_tells_one_point,
+    places_tell_points, raws_from_target, translation_keeps_the_first,
 };
 pub use memory::Memory;
 pub use node::ExpNode;
