@@ -5,7 +5,7 @@ use Rattle.std.specs.Int.{w128, int_min, int_max, int_div_euclid}
 use Rattle.std.proofs.lemmas.Nat.{mul-le}
 use Rattle.std.proofs.lemmas.Int.{ints, to_z-of_z, unsigned_abs-mul, fits_signed_mul}
 use Rattle.lt_bounds.specs.Tightening.{least_of, greatest_of, cut, where_some}
-use Rattle.lt_num.specs.declared.range.Range.{Range}
+use Rattle.lt_num.specs.declared.interval.Interval.{Interval}
 
 lt_true : (a b : ℤ) → a <ℤ b → int_lt a b ≡ true
 lt_true a b h = grind (arith, ints)
@@ -111,13 +111,13 @@ pub quotient_is : (q x y m a : ℤ) → q ≡ int_div_euclid (neg_ℤ x) y → x
 quotient_is q x y m a e f g = e ∙ ap (λ z. int_div_euclid (neg_ℤ z) y) f ∙ ap (λ z. int_div_euclid (neg_ℤ m) z) g
 
 -- a cut leaves its term the least value
-pub cut_least : (a m : ℤ) (range : Range) → least_of a (cut a m range) ≡ least_of a range
+pub cut_least : (a m : ℤ) (range : Interval) → least_of a (cut a m range) ≡ least_of a range
 cut_least (pos zero) m range = refl
 cut_least (pos (suc a)) m range = refl
 cut_least (negsuc a) m range = refl
 
 -- a range that has a number is itself
-pub where_is : (range r : Range) → where_some range ≡ Some r → range ≡ r
+pub where_is : (range r : Interval) → where_some range ≡ Some r → range ≡ r
 where_is range r e = by_lt (int_lt range.high range.low) e
   where
     by_lt : (b : Bool) → (if b then None else Some range) ≡ Some r → range ≡ r

@@ -1,8 +1,8 @@
 -- What the proofs of other crates may cite of this one.
 use Rattle.std.specs.Prelude.{◌≡◌, ◌*◌, ◌++◌, ◌<◌, ℕ, suc, List, [], ◌∷◌, length, slice_set, ℤ, pos, ◌*ℤ◌, ◌+ℤ◌, ◌≤ℤ◌}
 use Rattle.std.specs.Int.{int_div_euclid}
-use Rattle.lt_num.specs.Range.{IsWithin}
-use Rattle.lt_num.specs.declared.range.Range.{Range}
+use Rattle.lt_num.specs.Interval.{IsWithin}
+use Rattle.lt_num.specs.declared.interval.Interval.{Interval}
 use Rattle.lt_bounds.specs.Ranges.{range_at, AreSome, IsNarrower}
 use Rattle.lt_bounds.specs.Rows.{AreWhole, ReachesAll, rows_in}
 use Rattle.lt_bounds.specs.Tightening.{cut, least_of, greatest_of, NoPointIsLost}
@@ -15,39 +15,39 @@ pub no_point_is_lost : NoPointIsLost
 no_point_is_lost = points.no_point_is_lost
 
 -- a term is at least its least value ..
-pub term_least : (a v : ℤ) (range : Range) → IsWithin range v → least_of a range ≤ℤ (a *ℤ v)
+pub term_least : (a v : ℤ) (range : Interval) → IsWithin range v → least_of a range ≤ℤ (a *ℤ v)
 term_least = points.term_least
 
 -- .. and at most its greatest one
-pub term_greatest : (a v : ℤ) (range : Range) → IsWithin range v → (a *ℤ v) ≤ℤ greatest_of a range
+pub term_greatest : (a v : ℤ) (range : Interval) → IsWithin range v → (a *ℤ v) ≤ℤ greatest_of a range
 term_greatest = points.term_greatest
 
 -- ranges with numbers are narrower than themselves
-pub narrower_same : (ranges : List Range) → AreSome ranges → IsNarrower ranges ranges
+pub narrower_same : (ranges : List Interval) → AreSome ranges → IsNarrower ranges ranges
 narrower_same = steps.narrower_same
 
 -- so are narrower ones with one more part of a range
-pub narrower_set : (old ranges : List Range) (i : ℕ) (r : Range) → IsNarrower old ranges → ((range_at ranges i).low ≤ℤ r.low) × (r.low ≤ℤ r.high) × (r.high ≤ℤ (range_at ranges i).high) → IsNarrower old (slice_set ranges i r)
+pub narrower_set : (old ranges : List Interval) (i : ℕ) (r : Interval) → IsNarrower old ranges → ((range_at ranges i).low ≤ℤ r.low) × (r.low ≤ℤ r.high) × (r.high ≤ℤ (range_at ranges i).high) → IsNarrower old (slice_set ranges i r)
 narrower_set = steps.narrower_set
 
 -- narrower than narrower ones
-pub narrower_more : (a b c : List Range) → IsNarrower a b → IsNarrower b c → IsNarrower a c
+pub narrower_more : (a b c : List Interval) → IsNarrower a b → IsNarrower b c → IsNarrower a c
 narrower_more = steps.narrower_more
 
 -- they are as many
-pub narrower_length : (a b : List Range) → IsNarrower a b → length b ≡ length a
+pub narrower_length : (a b : List Interval) → IsNarrower a b → length b ≡ length a
 narrower_length = steps.narrower_length
 
 -- and have numbers
-pub narrower_some : (a b : List Range) → IsNarrower a b → AreSome b
+pub narrower_some : (a b : List Interval) → IsNarrower a b → AreSome b
 narrower_some = steps.narrower_some
 
 -- rows reach no farther over narrower ranges
-pub reaches_less : (rows : List (List ℤ)) (a b : List Range) → IsNarrower a b → ReachesAll rows a → ReachesAll rows b
+pub reaches_less : (rows : List (List ℤ)) (a b : List Interval) → IsNarrower a b → ReachesAll rows a → ReachesAll rows b
 reaches_less = steps.reaches_less
 
 -- rows are whole over as many other ranges
-pub whole_same : (width : ℕ) (cells : List ℤ) (ranges new : List Range) → AreWhole width cells ranges → length new ≡ length ranges → AreWhole width cells new
+pub whole_same : (width : ℕ) (cells : List ℤ) (ranges new : List Interval) → AreWhole width cells ranges → length new ≡ length ranges → AreWhole width cells new
 whole_same = passes.whole_same
 
 -- no cells are no rows
@@ -59,7 +59,7 @@ pub rows_pushed : (width count : ℕ) (cells row : List ℤ) → 0 < width → l
 rows_pushed = passes.rows_pushed
 
 -- a value stays inside where a term leaves it
-pub inside_cut : (a m v : ℤ) (range : Range) → IsWithin range v → ((a *ℤ v) +ℤ m) ≤ℤ pos 0 → IsWithin (cut a m range) v
+pub inside_cut : (a m v : ℤ) (range : Interval) → IsWithin range v → ((a *ℤ v) +ℤ m) ≤ℤ pos 0 → IsWithin (cut a m range) v
 inside_cut = points.inside_cut
 
 -- a value under a quotient that is rounded down

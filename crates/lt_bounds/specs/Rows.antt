@@ -2,7 +2,7 @@
 use Rattle.std.specs.Prelude.{◌≡◌, ◌*◌, ◌+◌, ◌/◌, ◌<◌, ◌^◌, ℕ, zero, suc, List, [], ◌∷◌, length, take, drop, ℤ, pos, ◌+ℤ◌, ◌*ℤ◌, ◌≤ℤ◌, unsigned_abs}
 use Rattle.lt_bounds.specs.Ranges.{size_of}
 use Rattle.lt_bounds.specs.declared.rows.Rows.{Rows}
-use Rattle.lt_num.specs.declared.range.Range.{Range}
+use Rattle.lt_num.specs.declared.interval.Interval.{Interval}
 
 -- the first rows of some cells, so many
 abbrev pub rows_from : ℕ → ℕ → List ℤ → List (List ℤ)
@@ -29,18 +29,18 @@ SatisfyAll [] point = Unit {0}
 SatisfyAll (row ∷ rows) point = (row_at row point ≤ℤ pos 0) × SatisfyAll rows point
 
 -- how far a row reaches over some ranges: the sizes of its coefficients times those of the ranges, and the constant's
-abbrev pub reach : List ℤ → List Range → ℕ
+abbrev pub reach : List ℤ → List Interval → ℕ
 reach [] ranges = 0
 reach (c ∷ cs) [] = unsigned_abs c
 reach (a ∷ cs) (r ∷ rs) = unsigned_abs a * size_of r + reach cs rs
 
 -- no sum over a row passes 2^126 in size
-abbrev pub ReachesAll : List (List ℤ) → List Range → Type 0
+abbrev pub ReachesAll : List (List ℤ) → List Interval → Type 0
 ReachesAll [] ranges = Unit {0}
 ReachesAll (row ∷ rows) ranges = (reach row ranges < 2 ^ 126) × ReachesAll rows ranges
 
 -- whole rows, each with a coefficient for each range and a constant
-pub record AreWhole (width : ℕ) (cells : List ℤ) (ranges : List Range) : Type 0 where
+pub record AreWhole (width : ℕ) (cells : List ℤ) (ranges : List Interval) : Type 0 where
   pub width_is : width ≡ suc (length ranges)
   pub count : ℕ
   pub cells_are : length cells ≡ count * width

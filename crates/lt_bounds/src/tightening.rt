@@ -9,7 +9,7 @@ ghost use Rattle.lt_bounds.specs.inner.Passed.{passed, IsKept};
 
 use crate::rows::Rows;
 use crate::sums::{least_of, least_sum};
-use lt_num::Range;
+use lt_num::Interval;
 
 /// What tightening finds.
 #[derive(Clone, Copy, Debug, PartialEq, Eq)]
@@ -40,7 +40,7 @@ enum Passed {
 ///
 /// For each row, the sizes of its coefficients times those of the ranges, and that of its constant, are below 2^126
 /// in sum.
-pub fn tighten(ranges: &mut [Range], rows: &Rows) -> Tight
+pub fn tighten(ranges: &mut [Interval], rows: &Rows) -> Tight
     requires whole { AreWhole rows.now.width rows.now.cells.items ranges.old }
     requires some { AreSome ranges.old }
     requires reaches { ReachesAll (rows_of rows.now) ranges.old }
@@ -58,7 +58,7 @@ pub fn tighten(ranges: &mut [Range], rows: &Rows) -> Tight
 }
 
 // One pass over the rows.
-fn pass(ranges: &mut [Range], rows: &Rows) -> Passed
+fn pass(ranges: &mut [Interval], rows: &Rows) -> Passed
     requires whole { AreWhole rows.now.width rows.now.cells.items ranges.old }
     requires some { AreSome ranges.old }
     requires reaches { ReachesAll (rows_of rows.now) ranges.old }
@@ -85,7 +85,7 @@ fn pass(ranges: &mut [Range], rows: &Rows) -> Passed
 }
 
 // Takes the variables of a row, in order.
-fn take_row(ranges: &mut [Range], row: &[i128]) -> Passed
+fn take_row(ranges: &mut [Interval], row: &[i128]) -> Passed
     requires width { length row.now ≡ suc (length ranges.old) }
     requires some { AreSome ranges.old }
     requires reach { reach row.now ranges.old < 2 ^ 126 }
@@ -131,7 +131,7 @@ fn is_broken(row: &[i128]) -> bool
 
 /// The range that a term of a row leaves to its variable, where `least` is the row's least value; none where it has no
 /// number.
-pub fn cut_in_row(coefficient: i128, least: i128, range: Range) -> Option<Range>
+pub fn cut_in_row(coefficient: i128, least: i128, range: Interval) -> Option<Interval>
     requires some { range.low ≤ℤ range.high }
     requires reach { unsigned_abs coefficient * size_of range < 2 ^ 126 }
     requires least { unsigned_abs least < 2 ^ 126 }
@@ -146,7 +146,7 @@ pub fn cut_in_row(coefficient: i128, least: i128, range: Range) -> Option<Range>
 
 // The range that a term leaves to its variable where the others are at least `others`; none where it has
 // no number.
-fn cut(coefficient: i128, others: i128, range: Range) -> Option<Range>
+fn cut(coefficient: i128, others: i128, range: Interval) -> Option<Interval>
     requires some { range.low ≤ℤ range.high }
     requires others { unsigned_abs others < 2 ^ 127 }
     ensures value { result ≡ where_some (cut coefficient others range) }
@@ -162,7 +162,7 @@ fn cut(coefficient: i128, others: i128, range: Range) -> Option<Range>
         if bound < low {
             None
         } else if bound < high {
-            Some(Range {
+            Some(Interval {
                 low: range.low,
                 high: bound as i64,
             })
@@ -172,7 +172,7 @@ fn cut(coefficient: i128, others: i128, range: Range) -> Option<Range>
     } else if bound > high {
         None
     } else if bound > low {
-        Some(Range {
+        Some(Interval {
             low: bound as i64,
             high: range.high,
         })

@@ -2,7 +2,7 @@ use Rattle.std.proofs.Common.{rules, ℕ, ◌≡◌, ◌<◌, ◌-◌, suc, leng
 use Rattle.std.specs.Int.{w128}
 use Rattle.lt_bounds.specs.Tightening.{least_of, least_sum, others_least, cut, where_some, variables_taken}
 use Rattle.lt_bounds.specs.Ranges.{range_at}
-use Rattle.lt_num.specs.declared.range.Range.{Range}
+use Rattle.lt_num.specs.declared.interval.Interval.{Interval}
 use Rattle.lt_bounds.proofs.Cuts.{cut_least, where_is}
 use Rattle.lt_bounds.proofs.SumLemmas.{term_reach, least_kept}
 use Rattle.lt_bounds.proofs.Steps.{taken_none, taken_some, taken_all, narrower_same, narrower_set, narrower_some, reach_less, some_at, row_broken, row_walked, set_same, same_range, cut_is}
@@ -44,7 +44,7 @@ returns-in_default-clause-outcome c =
     ∙ taken_none c.args.row.now c.loop-i.i _ (length c.args.ranges.now - suc c.loop-i.i) c.loop-i.ranges _ (omega arith) refl
     (cut_is c.args.row.now c.loop-i.ranges c.loop-i.i _ _ None cell least (sym c.cut_in_row.ensures.value ∙ c.in_default.is)))
 
-step : (row : List ℤ) (old ranges new : List Range) (i n k : ℕ) (r : Range) → i < length ranges → n ≡ suc k → new ≡ set ranges i r → where_some (cut (get_or row i (pos 0)) (others_least row ranges i) (range_at ranges i)) ≡ Some r
+step : (row : List ℤ) (old ranges new : List Interval) (i n k : ℕ) (r : Interval) → i < length ranges → n ≡ suc k → new ≡ set ranges i r → where_some (cut (get_or row i (pos 0)) (others_least row ranges i) (range_at ranges i)) ≡ Some r
     → (variables_taken row i n ranges ≡ variables_taken row (suc i) k new) × (least_sum row new ≡ least_sum row ranges)
 step row old ranges new i n k r l e is some = (
   taken_some row i n k ranges (others_least row ranges i) r e refl some ∙ ap (λ rs. variables_taken row (suc i) k rs) (sym is),
