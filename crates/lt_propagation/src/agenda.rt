@@ -4,7 +4,7 @@
 ghost use Rattle.std.specs.Prelude.{◌≡◌, ◌<◌, ◌≤◌};
 ghost use Rattle.lt_space.specs.CircuitView.{circuit_len};
 
-use lt_num::Range;
+use lt_num::Interval;
 use lt_space::{Circuit, Gate};
 use std::alloc::{AllocError, Global};
 
@@ -182,7 +182,7 @@ impl Agenda {
 
     /// Notes what says something of a box of whose gates nothing is known: truths, comparisons, and variables that have one
     /// number each.
-    pub fn note_start(&mut self, ranges: &[Range]) {
+    pub fn note_start(&mut self, ranges: &[Interval]) {
         for i in 0..self.atoms.len() {
             if let Some(number) = self.atoms.get(i).copied() {
                 self.want(number as usize);

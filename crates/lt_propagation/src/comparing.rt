@@ -3,7 +3,7 @@
 ghost use Rattle.std.specs.Prelude.{◌≡◌, ◌<◌, ◌≤◌, ◌+◌, ◌+ℤ◌, ◌-ℤ◌, ◌≤ℤ◌, ◌*ℤ◌, ◌^◌, List, ℤ, IsTrue, length, pos, slice_index_or, take, unsigned_abs};
 ghost use Rattle.lt_bounds.specs.Ranges.{IsNarrower, AreSome, range_at};
 ghost use Rattle.lt_bounds.specs.Tightening.{cut, least_of, where_some};
-ghost use Rattle.lt_formula.specs.Solution.{IsPointOf};
+ghost use Rattle.lt_formula.specs.Box.{IsInBox};
 ghost use Rattle.lt_linear.specs.Form.{Term};
 ghost use Rattle.lt_num.specs.Bounds.{most_decimals, most_raw};
 ghost use Rattle.lt_space.specs.Circuit.{are_terms, formula_at, most_coefficient};
@@ -19,7 +19,7 @@ use crate::agenda::Agenda;
 use crate::evaluation::{scaled, span_of, terms_between};
 use crate::narrowing::narrow;
 use lt_bounds::cut_in_row;
-use lt_num::Range;
+use lt_num::Interval;
 use lt_space::{Circuit, Gate};
 
 /// Between which signs a comparison lies by the ranges of its variables; another gate by its own range.
@@ -28,13 +28,13 @@ pub(crate) fn signs_by_variables(
     number: u32,
     decimals: u32,
     count: usize,
-    ranges: &[Range],
-) -> Range
+    ranges: &[Interval],
+) -> Interval
     requires within { number < circuit_len circuit.now }
     requires decimals { decimals ≤ most_decimals }
     requires long { length ranges.now ≡ count + circuit_len circuit.now }
     requires domains { AreDomains ranges.now }
-    ensures { (values : List ℤ) → IsPointOf ranges.now (wide decimals circuit.now values) →
+    ensures { (values : List ℤ) → IsInBox ranges.now (wide decimals circuit.now values) →
         (result.low ≤ℤ
         slice_index_or (wide decimals circuit.now values) (count + number) (pos 0)) ×
         (slice_index_or (wide decimals circuit.now values) (count + number) (pos 0) ≤ℤ
@@ -54,7 +54,7 @@ pub(crate) fn signs_by_variables(
         &ranges[..count],
     );
     let constant = scaled(constant, decimals);
-    Range {
+    Interval {
         low: sign_of(span.least + constant),
         high: sign_of(span.greatest + constant),
     }
@@ -79,7 +79,7 @@ pub(crate) fn lower_comparison(
     number: u32,
     decimals: u32,
     count: usize,
-    ranges: &mut [Range],
+    ranges: &mut [Interval],
     agenda: &mut Agenda,
 ) -> bool
     requires within { number < circuit_len circuit.now }
@@ -114,7 +114,7 @@ fn cut_above(
     constant: i128,
     high: i64,
     count: usize,
-    ranges: &mut [Range],
+    ranges: &mut [Interval],
     agenda: &mut Agenda,
 ) -> bool
     requires exact { IsTrue (are_terms terms.now) }
@@ -123,9 +123,9 @@ fn cut_above(
     requires high { unsigned_abs high ≤ most_raw }
     requires count { count ≤ length ranges.old }
     requires domains { AreDomains ranges.old }
-    ensures keeps { (values : List ℤ) → IsPointOf ranges.old values →
+    ensures keeps { (values : List ℤ) → IsInBox ranges.old values →
         (high ≤ℤ pos 0 → (sum_at terms.now (take count values) +ℤ constant) ≤ℤ high) →
-        Where result (IsPointOf ranges.new values) }
+        Where result (IsInBox ranges.new values) }
     ensures narrower { IsNarrower ranges.old ranges.new }
     ensures domains { AreDomains ranges.new }
 {
@@ -148,7 +148,7 @@ fn cut_below(
     constant: i128,
     low: i64,
     count: usize,
-    ranges: &mut [Range],
+    ranges: &mut [Interval],
     agenda: &mut Agenda,
 ) -> bool
     requires exact { IsTrue (are_terms terms.now) }
@@ -157,9 +157,9 @@ fn cut_below(
     requires low { unsigned_abs low ≤ most_raw }
     requires count { count ≤ length ranges.old }
     requires domains { AreDomains ranges.old }
-    ensures keeps { (values : List ℤ) → IsPointOf ranges.old values →
+    ensures keeps { (values : List ℤ) → IsInBox ranges.old values →
         (pos 0 ≤ℤ low → low ≤ℤ (sum_at terms.now (take count values) +ℤ constant)) →
-        Where result (IsPointOf ranges.new values) }
+        Where result (IsInBox ranges.new values) }
     ensures narrower { IsNarrower ranges.old ranges.new }
     ensures domains { AreDomains ranges.new }
 {
@@ -182,7 +182,7 @@ fn cut_sum(
     negated: bool,
     constant: i128,
     count: usize,
-    ranges: &mut [Range],
+    ranges: &mut [Interval],
     agenda: &mut Agenda,
 ) -> bool
     requires exact { IsTrue (are_terms terms.now) }
@@ -190,9 +190,9 @@ fn cut_sum(
     requires constant { unsigned_abs constant ≤ 2 ^ 96 }
     requires count { count ≤ length ranges.old }
     requires domains { AreDomains ranges.old }
-    ensures keeps { (values : List ℤ) → IsPointOf ranges.old values →
+    ensures keeps { (values : List ℤ) → IsInBox ranges.old values →
         (signed negated (sum_at terms.now (take count values)) +ℤ constant) ≤ℤ pos 0 →
-        Where result (IsPointOf ranges.new values) }
+        Where result (IsInBox ranges.new values) }
     ensures narrower { IsNarrower ranges.old ranges.new }
     ensures domains { AreDomains ranges.new }
 {
@@ -211,7 +211,7 @@ fn cut_sum(
 }
 
 // The least value of a sum of terms, or of its negative.
-fn least_signed(terms: &[(u32, i64)], negated: bool, ranges: &[Range]) -> i128
+fn least_signed(terms: &[(u32, i64)], negated: bool, ranges: &[Interval]) -> i128
     requires exact { IsTrue (are_terms terms.now) }
     requires few { length terms.now ≤ most_terms }
     requires domains { AreDomains ranges.now }
@@ -228,17 +228,17 @@ fn cut_term(
     negated: bool,
     least: i128,
     count: usize,
-    ranges: &mut [Range],
+    ranges: &mut [Interval],
     agenda: &mut Agenda,
 ) -> bool
     requires coefficient { unsigned_abs term.1 ≤ most_coefficient }
     requires least { unsigned_abs least ≤ 2 ^ 109 }
     requires count { count ≤ length ranges.old }
     requires domains { AreDomains ranges.old }
-    ensures keeps { (values : List ℤ) → IsPointOf ranges.old values →
+    ensures keeps { (values : List ℤ) → IsInBox ranges.old values →
         ((signed negated term.1 *ℤ slice_index_or (take count values) term.0 (pos 0)) +ℤ
         (least -ℤ least_of (signed negated term.1) (range_at (take count ranges.old) term.0))) ≤ℤ
-        pos 0 → Where result (IsPointOf ranges.new values) }
+        pos 0 → Where result (IsInBox ranges.new values) }
     ensures narrower { IsNarrower ranges.old ranges.new }
     ensures domains { AreDomains ranges.new }
 {
@@ -253,7 +253,7 @@ fn cut_term(
 }
 
 // The range that such a term leaves to its variable; none where it has no number.
-fn cut_range(coefficient: i64, negated: bool, least: i128, range: Range) -> Option<Range>
+fn cut_range(coefficient: i64, negated: bool, least: i128, range: Interval) -> Option<Interval>
     requires some { range.low ≤ℤ range.high }
     requires coefficient { unsigned_abs coefficient ≤ most_coefficient }
     requires least { unsigned_abs least ≤ 2 ^ 109 }

@@ -7,7 +7,7 @@ ghost use Rattle.lt_diff.specs.Bounds.{IsSolution};
 ghost use Rattle.lt_diff.specs.Closing.{AreStated, IsClosed};
 ghost use Rattle.lt_diff.specs.Limits.{most_bound};
 ghost use Rattle.lt_diff.specs.MatrixView.{matrix_cell, matrix_size};
-ghost use Rattle.lt_formula.specs.Solution.{IsPointOf};
+ghost use Rattle.lt_formula.specs.Box.{IsInBox};
 ghost use Rattle.lt_num.specs.Bounds.{most_decimals, most_raw};
 ghost use Rattle.lt_space.specs.Circuit.{are_terms};
 ghost use Rattle.lt_space.specs.CircuitView.{circuit_len};
@@ -21,7 +21,7 @@ use crate::agenda::Agenda;
 use crate::evaluation::{scaled, terms_between};
 use crate::narrowing::narrow;
 use lt_diff::{Matrix, bound_adds_its_own, negative_cycle_unsolved, unstated_allows_all};
-use lt_num::Range;
+use lt_num::Interval;
 use lt_space::{Circuit, Gate};
 
 // How large a bound may be that a matrix takes: no difference of two numbers of a scenario is larger.
@@ -47,7 +47,7 @@ pub(crate) fn narrow_by_differences(
     root: u32,
     decimals: u32,
     count: usize,
-    ranges: &mut [Range],
+    ranges: &mut [Interval],
     matrix: &mut Matrix,
     agenda: &mut Agenda,
 ) -> bool
@@ -75,12 +75,12 @@ pub(crate) fn narrow_by_differences(
 }
 
 // States the ranges of variables.
-fn state_ranges(count: usize, ranges: &[Range], matrix: &mut Matrix)
+fn state_ranges(count: usize, ranges: &[Interval], matrix: &mut Matrix)
     requires count { count ≤ length ranges.now }
     requires size { count < matrix_size matrix.old }
     requires domains { AreDomains ranges.now }
     requires stated { AreStated (matrix_size matrix.old) (matrix_cell matrix.old) }
-    ensures admits { (point : List ℤ) → IsPointOf ranges.now point →
+    ensures admits { (point : List ℤ) → IsInBox ranges.now point →
         Admits matrix.old matrix.new (number_in point) }
     ensures size { matrix_size matrix.new ≡ matrix_size matrix.old }
     ensures stated { AreStated (matrix_size matrix.new) (matrix_cell matrix.new) }
@@ -98,7 +98,7 @@ fn state_comparisons(
     root: u32,
     decimals: u32,
     count: usize,
-    ranges: &[Range],
+    ranges: &[Interval],
     matrix: &mut Matrix,
 )
     requires root { root < circuit_len circuit.now }
@@ -107,7 +107,7 @@ fn state_comparisons(
     requires domains { AreDomains ranges.now }
     requires size { count < matrix_size matrix.old }
     requires stated { AreStated (matrix_size matrix.old) (matrix_cell matrix.old) }
-    ensures admits { (values : List ℤ) → IsPointOf ranges.now (wide decimals circuit.now values) →
+    ensures admits { (values : List ℤ) → IsInBox ranges.now (wide decimals circuit.now values) →
         Admits matrix.old matrix.new (number_in (wide decimals circuit.now values)) }
     ensures size { matrix_size matrix.new ≡ matrix_size matrix.old }
     ensures stated { AreStated (matrix_size matrix.new) (matrix_cell matrix.new) }
@@ -124,7 +124,7 @@ fn state_comparison(
     number: u32,
     decimals: u32,
     count: usize,
-    ranges: &[Range],
+    ranges: &[Interval],
     matrix: &mut Matrix,
 )
     requires within { number < circuit_len circuit.now }
@@ -133,7 +133,7 @@ fn state_comparison(
     requires domains { AreDomains ranges.now }
     requires size { count < matrix_size matrix.old }
     requires stated { AreStated (matrix_size matrix.old) (matrix_cell matrix.old) }
-    ensures admits { (values : List ℤ) → IsPointOf ranges.now (wide decimals circuit.now values) →
+    ensures admits { (values : List ℤ) → IsInBox ranges.now (wide decimals circuit.now values) →
         Admits matrix.old matrix.new (number_in (wide decimals circuit.now values)) }
     ensures size { matrix_size matrix.new ≡ matrix_size matrix.old }
     ensures stated { AreStated (matrix_size matrix.new) (matrix_cell matrix.new) }
@@ -196,7 +196,7 @@ fn state_signs(
     difference: Difference,
     count: usize,
     constant: i128,
-    signs: Range,
+    signs: Interval,
     matrix: &mut Matrix,
 )
     requires over { difference.over < count }
@@ -337,7 +337,7 @@ fn narrow_variables(
     circuit: &Circuit,
     decimals: u32,
     count: usize,
-    ranges: &mut [Range],
+    ranges: &mut [Interval],
     matrix: &Matrix,
     agenda: &mut Agenda,
 ) -> bool
@@ -346,7 +346,7 @@ fn narrow_variables(
     requires size { count < matrix_size matrix.now }
     requires closed { IsClosed (matrix_size matrix.now) (matrix_cell matrix.now) }
     requires solutions { (values : List ℤ) →
-        IsPointOf ranges.old (wide decimals circuit.now values) →
+        IsInBox ranges.old (wide decimals circuit.now values) →
         IsSolution (matrix_size matrix.now) (matrix_cell matrix.now)
         (number_in (wide decimals circuit.now values)) }
     ensures keeps { Keeps decimals circuit.now result ranges.old ranges.new }
@@ -360,7 +360,7 @@ fn narrow_variables(
         let Some(less) = matrix.most(0, variable + 1) else {
             return true;
         };
-        let range = Range { low: -less, high };
+        let range = Interval { low: -less, high };
         if !narrow(ranges, variable, range, agenda) {
             return false;
         }

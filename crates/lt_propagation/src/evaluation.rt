@@ -13,7 +13,7 @@ ghost use Rattle.lt_propagation.specs.Domains.{AreDomains};
 
 use crate::kleene::Kleene;
 use lt_bounds::{greatest_of, least_of};
-use lt_num::Range;
+use lt_num::Interval;
 use lt_space::{Circuit, Gate, Relation};
 
 /// Between which values something lies.
@@ -32,7 +32,7 @@ pub fn evaluate(
     circuit: &Circuit,
     root: u32,
     decimals: u32,
-    ranges: &[Range],
+    ranges: &[Interval],
     kleenes: &mut Vec<Kleene>,
 ) -> Kleene
     requires root { root < circuit_len circuit.now }
@@ -56,7 +56,7 @@ fn evaluate_number(
     circuit: &Circuit,
     number: u32,
     decimals: u32,
-    ranges: &[Range],
+    ranges: &[Interval],
     earlier: &[Kleene],
 ) -> Kleene
     requires within { number < circuit_len circuit.now }
@@ -81,7 +81,7 @@ fn evaluate_gate(
     gate: Gate,
     terms: &[(u32, i64)],
     decimals: u32,
-    ranges: &[Range],
+    ranges: &[Interval],
     earlier: &[Kleene],
 ) -> Kleene
     requires gate { IsGate (length terms.now) (length earlier.now) gate }
@@ -113,7 +113,7 @@ fn evaluate_gate(
 }
 
 /// What is known of a variable as a flag.
-pub(crate) fn evaluate_flag(range: Range) -> Kleene
+pub(crate) fn evaluate_flag(range: Interval) -> Kleene
     ensures { result ≡ kleene_of_flag range }
 {
     if range.low > 0 || range.high < 0 {
@@ -174,7 +174,7 @@ pub(crate) fn terms_between(terms: &[(u32, i64)], first: u32, after: u32) -> &[(
 }
 
 /// Between which values a sum of terms lies within ranges.
-pub(crate) fn span_of(terms: &[(u32, i64)], ranges: &[Range]) -> Span
+pub(crate) fn span_of(terms: &[(u32, i64)], ranges: &[Interval]) -> Span
     requires exact { IsTrue (are_terms terms.now) }
     requires few { length terms.now ≤ most_terms }
     requires domains { AreDomains ranges.now }
@@ -196,7 +196,7 @@ pub(crate) fn span_of(terms: &[(u32, i64)], ranges: &[Range]) -> Span
 }
 
 // Between which values a term lies.
-fn term_span(coefficient: i64, range: Range) -> Span
+fn term_span(coefficient: i64, range: Interval) -> Span
     requires coefficient { unsigned_abs coefficient ≤ most_coefficient }
     requires low { unsigned_abs range.low ≤ most_raw }
     requires high { unsigned_abs range.high ≤ most_raw }
@@ -213,11 +213,11 @@ fn term_span(coefficient: i64, range: Range) -> Span
 }
 
 // The range of a variable; where there is none, it has 0 alone.
-fn range_at(ranges: &[Range], variable: u32) -> Range
+fn range_at(ranges: &[Interval], variable: u32) -> Interval
     ensures { result ≡ range_at ranges.now variable }
 {
     match ranges.get(variable as usize) {
         Some(range) => *range,
-        None => Range { low: 0, high: 0 },
+        None => Interval { low: 0, high: 0 },
     }
 }

@@ -2,7 +2,7 @@
 
 ghost use Rattle.std.specs.Prelude.{◌≡◌, ◌<◌, ◌≤◌, ◌+◌, ◌≤ℤ◌, ℕ, List, ℤ, length, pos, slice_index_or};
 ghost use Rattle.lt_bounds.specs.Ranges.{IsNarrower, AreSome, range_at};
-ghost use Rattle.lt_formula.specs.Solution.{IsPointOf};
+ghost use Rattle.lt_formula.specs.Box.{IsInBox};
 ghost use Rattle.lt_num.specs.Bounds.{most_decimals};
 ghost use Rattle.lt_space.specs.Circuit.{formula_at};
 ghost use Rattle.lt_space.specs.CircuitView.{circuit_formulas, circuit_len};
@@ -16,18 +16,18 @@ ghost use Rattle.lt_propagation.specs.inner.Demands.{Knows, signs_compared, sign
 use crate::agenda::Agenda;
 use crate::evaluation::evaluate_flag;
 use crate::kleene::Kleene;
-use lt_num::Range;
+use lt_num::Interval;
 use lt_space::{Circuit, Gate, Relation};
 
 /// Narrows a range of a box to what it has of another one, and says whether there is anything left. Where there is nothing,
 /// the box stays. The place is marked where its range was narrowed.
-pub(crate) fn narrow(ranges: &mut [Range], place: usize, to: Range, agenda: &mut Agenda) -> bool
+pub(crate) fn narrow(ranges: &mut [Interval], place: usize, to: Interval, agenda: &mut Agenda) -> bool
     requires within { place < length ranges.old }
     requires domains { AreDomains ranges.old }
-    ensures keeps { (values : List ℤ) → IsPointOf ranges.old values →
+    ensures keeps { (values : List ℤ) → IsInBox ranges.old values →
         to.low ≤ℤ slice_index_or values place (pos 0) →
         slice_index_or values place (pos 0) ≤ℤ to.high →
-        Where result (IsPointOf ranges.new values) }
+        Where result (IsInBox ranges.new values) }
     ensures narrower { IsNarrower ranges.old ranges.new }
     ensures domains { AreDomains ranges.new }
 {
@@ -39,13 +39,13 @@ pub(crate) fn narrow(ranges: &mut [Range], place: usize, to: Range, agenda: &mut
     }
     if range.low < low || high < range.high {
         agenda.note(place);
-        ranges[place] = Range { low, high };
+        ranges[place] = Interval { low, high };
     }
     true
 }
 
 /// What is known of a gate by the range of its sign.
-pub(crate) fn kleene_at(circuit: &Circuit, number: u32, count: usize, ranges: &[Range]) -> Kleene
+pub(crate) fn kleene_at(circuit: &Circuit, number: u32, count: usize, ranges: &[Interval]) -> Kleene
     requires within { number < circuit_len circuit.now }
     requires long { length ranges.now ≡ count + circuit_len circuit.now }
     ensures { Knows circuit.now ranges.now result number }
@@ -54,7 +54,7 @@ pub(crate) fn kleene_at(circuit: &Circuit, number: u32, count: usize, ranges: &[
 }
 
 // What is known of a gate by the range of its sign.
-fn kleene_by(gate: Gate, signs: Range) -> Kleene
+fn kleene_by(gate: Gate, signs: Interval) -> Kleene
     ensures { result ≡ kleene_by gate signs }
 {
     match gate {
@@ -71,16 +71,16 @@ pub(crate) fn demand(
     number: u32,
     kleene: Kleene,
     count: usize,
-    ranges: &mut [Range],
+    ranges: &mut [Interval],
     agenda: &mut Agenda,
 ) -> bool
     requires within { number < circuit_len circuit.now }
     requires long { length ranges.old ≡ count + circuit_len circuit.now }
     requires domains { AreDomains ranges.old }
     ensures keeps { (decimals : ℕ) (values : List ℤ) →
-        IsPointOf ranges.old (wide decimals circuit.now values) →
+        IsInBox ranges.old (wide decimals circuit.now values) →
         Agrees kleene (holds decimals values (formula_at (circuit_formulas circuit.now) number)) →
-        Where result (IsPointOf ranges.new (wide decimals circuit.now values)) }
+        Where result (IsInBox ranges.new (wide decimals circuit.now values)) }
     ensures narrower { IsNarrower ranges.old ranges.new }
     ensures domains { AreDomains ranges.new }
 {
@@ -97,16 +97,16 @@ pub fn demand_truth(
     number: u32,
     so: bool,
     count: usize,
-    ranges: &mut [Range],
+    ranges: &mut [Interval],
     agenda: &mut Agenda,
 ) -> bool
     requires within { number < circuit_len circuit.now }
     requires long { length ranges.old ≡ count + circuit_len circuit.now }
     requires domains { AreDomains ranges.old }
     ensures keeps { (decimals : ℕ) (values : List ℤ) →
-        IsPointOf ranges.old (wide decimals circuit.now values) →
+        IsInBox ranges.old (wide decimals circuit.now values) →
         holds decimals values (formula_at (circuit_formulas circuit.now) number) ≡ so →
-        Where result (IsPointOf ranges.new (wide decimals circuit.now values)) }
+        Where result (IsInBox ranges.new (wide decimals circuit.now values)) }
     ensures narrower { IsNarrower ranges.old ranges.new }
     ensures domains { AreDomains ranges.new }
 {
@@ -116,39 +116,39 @@ pub fn demand_truth(
 }
 
 // The signs of a gate that holds, or doesn't, by the range that its sign has.
-fn signs_of(gate: Gate, so: bool, range: Range) -> Range
+fn signs_of(gate: Gate, so: bool, range: Interval) -> Interval
     ensures { result ≡ signs_of gate so range }
 {
     match gate {
         Gate::Compare { relation, .. } => signs_compared(relation, so, range),
-        _ if so => Range { low: 1, high: 1 },
-        _ => Range { low: 0, high: 0 },
+        _ if so => Interval { low: 1, high: 1 },
+        _ => Interval { low: 0, high: 0 },
     }
 }
 
 // The signs of a comparison that holds, or doesn't.
-fn signs_compared(relation: Relation, so: bool, range: Range) -> Range
+fn signs_compared(relation: Relation, so: bool, range: Interval) -> Interval
     ensures { result ≡ signs_compared relation so range }
 {
     match relation {
-        Relation::Below if so => Range { low: -1, high: -1 },
-        Relation::Below => Range { low: 0, high: 1 },
-        Relation::NotAbove if so => Range { low: -1, high: 0 },
-        Relation::NotAbove => Range { low: 1, high: 1 },
-        Relation::Equal if so => Range { low: 0, high: 0 },
+        Relation::Below if so => Interval { low: -1, high: -1 },
+        Relation::Below => Interval { low: 0, high: 1 },
+        Relation::NotAbove if so => Interval { low: -1, high: 0 },
+        Relation::NotAbove => Interval { low: 1, high: 1 },
+        Relation::Equal if so => Interval { low: 0, high: 0 },
         Relation::Equal => without_zero(range),
     }
 }
 
 // The signs but 0, where that is one of the ends of a range.
-fn without_zero(range: Range) -> Range
+fn without_zero(range: Interval) -> Interval
     ensures { result ≡ without_zero range }
 {
     if range.low == 0 {
-        Range { low: 1, high: 1 }
+        Interval { low: 1, high: 1 }
     } else if range.high == 0 {
-        Range { low: -1, high: -1 }
+        Interval { low: -1, high: -1 }
     } else {
-        Range { low: -1, high: 1 }
+        Interval { low: -1, high: 1 }
     }
 }

@@ -3,7 +3,7 @@
 ghost use Rattle.std.specs.Prelude.{◌≡◌, ◌≢◌, ◌<◌, ◌≤◌, ◌+◌, ◌≤ℤ◌, ℕ, List, ℤ, length, not, pos, slice_index_or, take};
 ghost use Rattle.std.specs.Ordering.{int_eq};
 ghost use Rattle.lt_bounds.specs.Ranges.{IsNarrower, AreSome, range_at};
-ghost use Rattle.lt_formula.specs.Solution.{IsPointOf};
+ghost use Rattle.lt_formula.specs.Box.{IsInBox};
 ghost use Rattle.lt_num.specs.Bounds.{most_decimals};
 ghost use Rattle.lt_space.specs.Circuit.{are_terms, formula_at};
 ghost use Rattle.lt_space.specs.CircuitView.{circuit_formulas, circuit_len, circuit_terms};
@@ -23,7 +23,7 @@ use crate::kleene::Kleene;
 use crate::narrowing::{demand, kleene_at, narrow};
 use crate::propagator::Propagator;
 use crate::tying::tie_gate;
-use lt_num::Range;
+use lt_num::Interval;
 use lt_space::{Circuit, Gate};
 
 // How often each gate is looked at, at most, on average.
@@ -38,7 +38,7 @@ pub fn propagate(
     root: u32,
     decimals: u32,
     count: usize,
-    ranges: &mut [Range],
+    ranges: &mut [Interval],
     propagator: &mut Propagator,
 ) -> bool
     requires ties { AreTies circuit.now same.now }
@@ -89,7 +89,7 @@ fn look_within(
     number: u32,
     decimals: u32,
     count: usize,
-    ranges: &mut [Range],
+    ranges: &mut [Interval],
     agenda: &mut Agenda,
 ) -> bool
     requires ties { AreTies circuit.now same.now }
@@ -115,7 +115,7 @@ fn look(
     number: u32,
     decimals: u32,
     count: usize,
-    ranges: &mut [Range],
+    ranges: &mut [Interval],
     agenda: &mut Agenda,
 ) -> bool
     requires ties { AreTies circuit.now same.now }
@@ -137,12 +137,12 @@ fn look(
 }
 
 // Whether nothing is known of a sign.
-fn is_open(signs: Range) -> bool {
+fn is_open(signs: Interval) -> bool {
     signs.low < 0 && signs.high > 0
 }
 
 // Whether two ranges are the same.
-fn is_same(one: Range, other: Range) -> bool {
+fn is_same(one: Interval, other: Interval) -> bool {
     one.low == other.low && one.high == other.high
 }
 
@@ -154,7 +154,7 @@ fn look_comparison(
     number: u32,
     decimals: u32,
     count: usize,
-    ranges: &mut [Range],
+    ranges: &mut [Interval],
     agenda: &mut Agenda,
 ) -> bool
     requires ties { AreTies circuit.now same.now }
@@ -187,7 +187,7 @@ fn raise_gate(
     number: u32,
     decimals: u32,
     count: usize,
-    ranges: &mut [Range],
+    ranges: &mut [Interval],
     agenda: &mut Agenda,
 ) -> bool
     requires within { number < circuit_len circuit.now }
@@ -203,7 +203,7 @@ fn raise_gate(
 }
 
 // What is known of a gate by what is known of its parts, but for a comparison.
-fn evaluate_parts(circuit: &Circuit, number: u32, count: usize, ranges: &[Range]) -> Kleene
+fn evaluate_parts(circuit: &Circuit, number: u32, count: usize, ranges: &[Interval]) -> Kleene
     requires within { number < circuit_len circuit.now }
     requires long { length ranges.now ≡ count + circuit_len circuit.now }
     ensures { Knows circuit.now ranges.now result number }
@@ -239,7 +239,7 @@ fn lower_gate(
     number: u32,
     decimals: u32,
     count: usize,
-    ranges: &mut [Range],
+    ranges: &mut [Interval],
     agenda: &mut Agenda,
 ) -> bool
     requires within { number < circuit_len circuit.now }
@@ -287,7 +287,7 @@ fn lower_choice(
     first: u32,
     second: u32,
     count: usize,
-    ranges: &mut [Range],
+    ranges: &mut [Interval],
     agenda: &mut Agenda,
 ) -> bool
     requires condition { condition < circuit_len circuit.now }
@@ -296,12 +296,12 @@ fn lower_choice(
     requires long { length ranges.old ≡ count + circuit_len circuit.now }
     requires domains { AreDomains ranges.old }
     ensures keeps { (decimals : ℕ) (values : List ℤ) →
-        IsPointOf ranges.old (wide decimals circuit.now values) →
+        IsInBox ranges.old (wide decimals circuit.now values) →
         Agrees whole (holds decimals values (choice
         (formula_at (circuit_formulas circuit.now) condition)
         (formula_at (circuit_formulas circuit.now) first)
         (formula_at (circuit_formulas circuit.now) second))) →
-        Where result (IsPointOf ranges.new (wide decimals circuit.now values)) }
+        Where result (IsInBox ranges.new (wide decimals circuit.now values)) }
     ensures narrower { IsNarrower ranges.old ranges.new }
     ensures domains { AreDomains ranges.new }
 {
@@ -338,7 +338,7 @@ fn demand_two(
     right: u32,
     second: Kleene,
     count: usize,
-    ranges: &mut [Range],
+    ranges: &mut [Interval],
     agenda: &mut Agenda,
 ) -> bool
     requires left { left < circuit_len circuit.now }
@@ -346,10 +346,10 @@ fn demand_two(
     requires long { length ranges.old ≡ count + circuit_len circuit.now }
     requires domains { AreDomains ranges.old }
     ensures keeps { (decimals : ℕ) (values : List ℤ) →
-        IsPointOf ranges.old (wide decimals circuit.now values) →
+        IsInBox ranges.old (wide decimals circuit.now values) →
         Agrees first (holds decimals values (formula_at (circuit_formulas circuit.now) left)) →
         Agrees second (holds decimals values (formula_at (circuit_formulas circuit.now) right)) →
-        Where result (IsPointOf ranges.new (wide decimals circuit.now values)) }
+        Where result (IsInBox ranges.new (wide decimals circuit.now values)) }
     ensures narrower { IsNarrower ranges.old ranges.new }
     ensures domains { AreDomains ranges.new }
 {
@@ -364,15 +364,15 @@ fn lower_flag(
     variable: u32,
     whole: Kleene,
     count: usize,
-    ranges: &mut [Range],
+    ranges: &mut [Interval],
     agenda: &mut Agenda,
 ) -> bool
     requires count { count ≤ length ranges.old }
     requires domains { AreDomains ranges.old }
-    ensures keeps { (values : List ℤ) → IsPointOf ranges.old values →
+    ensures keeps { (values : List ℤ) → IsInBox ranges.old values →
         (variable < count →
         Agrees whole (not (int_eq (slice_index_or values variable (pos 0)) (pos 0)))) →
-        Where result (IsPointOf ranges.new values) }
+        Where result (IsInBox ranges.new values) }
     ensures narrower { IsNarrower ranges.old ranges.new }
     ensures domains { AreDomains ranges.new }
 {
@@ -383,23 +383,23 @@ fn lower_flag(
     let range = ranges[place];
     match whole {
         Kleene::True => narrow(ranges, place, not_zero(range), agenda),
-        Kleene::False => narrow(ranges, place, Range { low: 0, high: 0 }, agenda),
+        Kleene::False => narrow(ranges, place, Interval { low: 0, high: 0 }, agenda),
         Kleene::Unknown => true,
     }
 }
 
 // A range without 0, where that is one of its ends.
-fn not_zero(range: Range) -> Range
+fn not_zero(range: Interval) -> Interval
     ensures { (value : ℤ) → range.low ≤ℤ value → value ≤ℤ range.high → value ≢ pos 0 →
         (result.low ≤ℤ value) × (value ≤ℤ result.high) }
 {
     if range.low == 0 {
-        Range {
+        Interval {
             low: 1,
             high: range.high,
         }
     } else if range.high == 0 {
-        Range {
+        Interval {
             low: range.low,
             high: -1,
         }
@@ -409,13 +409,13 @@ fn not_zero(range: Range) -> Range
 }
 
 /// The range of a variable; where there is none, it has 0 alone.
-pub(crate) fn range_within(ranges: &[Range], count: usize, variable: u32) -> Range
+pub(crate) fn range_within(ranges: &[Interval], count: usize, variable: u32) -> Interval
     requires { count ≤ length ranges.now }
     ensures { result ≡ range_at (take count ranges.now) variable }
 {
     if (variable as usize) < count {
         ranges[variable as usize]
     } else {
-        Range { low: 0, high: 0 }
+        Interval { low: 0, high: 0 }
     }
 }

@@ -6,7 +6,7 @@ ghost use Rattle.lt_space.specs.CircuitView.{circuit_len};
 use crate::agenda::Agenda;
 use lt_diff::Matrix;
 use lt_formula::Memory;
-use lt_num::Range;
+use lt_num::Interval;
 use lt_space::Circuit;
 use std::alloc::Global;
 
@@ -45,7 +45,7 @@ impl Propagator {
     }
 
     /// Notes what says something of a box of whose gates nothing is known.
-    pub fn note_start(&mut self, ranges: &[Range]) {
+    pub fn note_start(&mut self, ranges: &[Interval]) {
         self.agenda.note_start(ranges);
     }
 

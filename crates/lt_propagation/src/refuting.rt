@@ -2,9 +2,9 @@
 
 ghost use Rattle.std.specs.Prelude.{◌≡◌, ◌<◌, ◌≤◌, ◌+◌, ◌-◌, ◌*◌, ◌++◌, ◌+ℤ◌, ◌≤ℤ◌, ◌<ℤ◌, ℕ, Bool, List, ℤ, drop, take, length, pos, true, false, slice_set, vec_len, vec_capacity};
 ghost use Rattle.lt_bounds.specs.Ranges.{IsNarrower, range_at};
-ghost use Rattle.lt_formula.specs.Solution.{IsPointOf};
+ghost use Rattle.lt_formula.specs.Box.{IsInBox};
 ghost use Rattle.lt_num.specs.Bounds.{most_decimals};
-ghost use Rattle.lt_num.specs.declared.range.Range.{Range};
+ghost use Rattle.lt_num.specs.declared.interval.Interval.{Interval};
 ghost use Rattle.lt_space.specs.CircuitView.{circuit_len};
 ghost use Rattle.lt_propagation.specs.Domains.{AreDomains};
 ghost use Rattle.lt_propagation.specs.Ties.{AreTies};
@@ -15,17 +15,17 @@ use crate::choosing::{Choice, choose};
 use crate::kleene::Kleene;
 use crate::propagating::propagate;
 use crate::propagator::Propagator;
-use lt_num::Range;
+use lt_num::Interval;
 use lt_space::Circuit;
 
 /// Room for a search for a reason.
 #[derive(Drop)]
 pub struct Room {
     /// The box at hand.
-    pub current: Vec<Range>,
+    pub current: Vec<Interval>,
 
     /// The boxes that are left.
-    pub stack: Vec<Range>,
+    pub stack: Vec<Interval>,
 
     /// A truth value of each gate.
     pub kleenes: Vec<Kleene>,
@@ -54,7 +54,7 @@ pub fn refute(
     requires domains { AreDomains room.old.current.items }
     requires kleenes { circuit_len circuit.now ≤ vec_capacity room.old.kleenes }
     ensures refuted { result ≡ true → (values : List ℤ) →
-        IsPointOf room.old.current.items (wide decimals circuit.now values) → ⊥ }
+        IsInBox room.old.current.items (wide decimals circuit.now values) → ⊥ }
     ensures stack { vec_capacity room.old.stack ≤ vec_capacity room.new.stack }
     ensures current { length room.new.current.items ≡ length room.old.current.items }
     ensures capacity { vec_capacity room.new.current ≡ vec_capacity room.old.current }
@@ -82,8 +82,8 @@ fn search(
     root: u32,
     decimals: u32,
     hard: &[bool],
-    current: &mut [Range],
-    stack: &mut Vec<Range>,
+    current: &mut [Interval],
+    stack: &mut Vec<Interval>,
     places: &mut Vec<usize>,
     kleenes: &mut Vec<Kleene>,
     propagator: &mut Propagator,
@@ -96,7 +96,7 @@ fn search(
     requires domains { AreDomains current.old }
     requires kleenes { circuit_len circuit.now ≤ vec_capacity kleenes.old }
     ensures refuted { result ≡ true → (values : List ℤ) →
-        IsPointOf current.old (wide decimals circuit.now values) → ⊥ }
+        IsInBox current.old (wide decimals circuit.now values) → ⊥ }
     ensures stack { vec_capacity stack.old ≤ vec_capacity stack.new }
     ensures kleenes { vec_capacity kleenes.new ≡ vec_capacity kleenes.old }
 {
@@ -143,7 +143,7 @@ fn search(
 }
 
 // Splits a box at a place: the numbers up to one, and those behind it, which are put on a stack in reserved room.
-fn split_at(choice: Choice, current: &mut [Range], stack: &mut Vec<Range>)
+fn split_at(choice: Choice, current: &mut [Interval], stack: &mut Vec<Interval>)
     requires choice { IsChoice current.old choice }
     requires domains { AreDomains current.old }
     requires room { vec_len stack.old + length current.old ≤ vec_capacity stack.old }
@@ -152,19 +152,19 @@ fn split_at(choice: Choice, current: &mut [Range], stack: &mut Vec<Range>)
     ensures capacity { vec_capacity stack.old ≤ vec_capacity stack.new }
 {
     let range = current[choice.place];
-    current[choice.place] = Range {
+    current[choice.place] = Interval {
         low: choice.last + 1,
         high: range.high,
     };
     stack.extend_from_slice(current).unwrap();
-    current[choice.place] = Range {
+    current[choice.place] = Interval {
         low: range.low,
         high: choice.last,
     };
 }
 
 // Takes the box that is on top of a stack.
-fn take_box(current: &mut [Range], stack: &mut Vec<Range>)
+fn take_box(current: &mut [Interval], stack: &mut Vec<Interval>)
     requires { length current.old ≤ vec_len stack.old }
     ensures current { current.new ≡ drop (vec_len stack.old - length current.old) stack.old.items }
     ensures stack { stack.new.items ≡

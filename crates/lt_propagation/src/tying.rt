@@ -2,7 +2,7 @@
 
 ghost use Rattle.std.specs.Prelude.{◌≡◌, ◌<◌, ◌≤◌, ◌+◌, List, ℤ, length, pos, slice_index_or, true, vec_capacity};
 ghost use Rattle.lt_bounds.specs.Ranges.{IsNarrower};
-ghost use Rattle.lt_formula.specs.Solution.{IsPointOf};
+ghost use Rattle.lt_formula.specs.Box.{IsInBox};
 ghost use Rattle.lt_num.specs.Bounds.{most_decimals};
 ghost use Rattle.lt_space.specs.CircuitView.{circuit_len};
 ghost use Rattle.lt_space.specs.Evaluated.{Where};
@@ -13,7 +13,7 @@ ghost use Rattle.lt_propagation.specs.Wide.{Keeps};
 use crate::agenda::Agenda;
 use crate::evaluation::terms_between;
 use crate::narrowing::narrow;
-use lt_num::Range;
+use lt_num::Interval;
 use lt_space::{Circuit, Gate};
 
 /// Narrows the sign of a gate, and that of another gate of the same sign, by each other.
@@ -23,7 +23,7 @@ pub(crate) fn tie_gate(
     number: u32,
     decimals: u32,
     count: usize,
-    ranges: &mut [Range],
+    ranges: &mut [Interval],
     agenda: &mut Agenda,
 ) -> bool
     requires ties { AreTies circuit.now same.now }
@@ -48,13 +48,13 @@ pub(crate) fn tie_gate(
 }
 
 // Narrows two ranges by each other.
-fn narrow_both(ranges: &mut [Range], place: usize, other: usize, agenda: &mut Agenda) -> bool
+fn narrow_both(ranges: &mut [Interval], place: usize, other: usize, agenda: &mut Agenda) -> bool
     requires place { place < length ranges.old }
     requires other { other < length ranges.old }
     requires domains { AreDomains ranges.old }
-    ensures keeps { (values : List ℤ) → IsPointOf ranges.old values →
+    ensures keeps { (values : List ℤ) → IsInBox ranges.old values →
         slice_index_or values place (pos 0) ≡ slice_index_or values other (pos 0) →
-        Where result (IsPointOf ranges.new values) }
+        Where result (IsInBox ranges.new values) }
     ensures narrower { IsNarrower ranges.old ranges.new }
     ensures domains { AreDomains ranges.new }
 {

@@ -4,7 +4,7 @@ use Rattle.std.proofs.lemmas.Int.{to_z-of_z}
 use Rattle.std.proofs.lemmas.List.{get_or-take}
 use Rattle.lt_bounds.specs.Ranges.{range_at}
 use Rattle.lt_bounds.specs.Tightening.{least_of}
-use Rattle.lt_num.specs.declared.range.Range.{Range}
+use Rattle.lt_num.specs.declared.interval.Interval.{Interval}
 use Rattle.lt_propagation.specs.inner.Sums.{signed}
 use Rattle.lt_propagation.proofs.Boxes.{domains_some, narrower_here, point_within, sizes_at, some_at}
 use Rattle.lt_propagation.proofs.SumLemmas.{left_inside, none_left}
@@ -23,10 +23,10 @@ pub cut_range-requires-clause-high : goal.cut_range-requires-clause-high
 cut_range-requires-clause-high c = (sizes_at c.args.ranges.now c.args.term.0 c.requires.domains).1
 
 -- a bound over the first so many is one over all
-over_all : (a least : ℤ) (count i : ℕ) (ranges : List Range) (values : List ℤ) → i < count → ((a *ℤ get_or (take count values) i (pos 0)) +ℤ (least -ℤ least_of a (range_at (take count ranges) i))) ≤ℤ pos 0
+over_all : (a least : ℤ) (count i : ℕ) (ranges : List Interval) (values : List ℤ) → i < count → ((a *ℤ get_or (take count values) i (pos 0)) +ℤ (least -ℤ least_of a (range_at (take count ranges) i))) ≤ℤ pos 0
     → ((a *ℤ get_or values i (pos 0)) +ℤ (least -ℤ least_of a (range_at ranges i))) ≤ℤ pos 0
 over_all a least count i ranges values l h =
-    subst (λ (r : Range). ((a *ℤ get_or values i (pos 0)) +ℤ (least -ℤ least_of a r)) ≤ℤ pos 0) (get_or-take count ranges i (record { low = pos 0; high = pos 0 }) l)
+    subst (λ (r : Interval). ((a *ℤ get_or values i (pos 0)) +ℤ (least -ℤ least_of a r)) ≤ℤ pos 0) (get_or-take count ranges i (record { low = pos 0; high = pos 0 }) l)
     (subst (λ (z : ℤ). ((a *ℤ z) +ℤ (least -ℤ least_of a (range_at (take count ranges) i))) ≤ℤ pos 0) (get_or-take count values i (pos 0) l) h)
 
 pub returns-in-Some-clause-keeps : goal.returns-in-Some-clause-keeps

@@ -1,7 +1,7 @@
 use Rattle.std.proofs.Common.{◌≡◌, ◌+◌, Bool, suc, subst, arith}
 use Rattle.std.proofs.lemmas.Int.{ints}
 use Rattle.lt_bounds.proofs.Public.{narrower_more}
-use Rattle.lt_formula.specs.Solution.{IsPointOf}
+use Rattle.lt_formula.specs.Box.{IsInBox}
 use Rattle.lt_space.specs.Evaluated.{Where}
 use Rattle.lt_propagation.specs.Wide.{wide}
 use Rattle.lt_propagation.proofs.Boxes.{narrower_here}
@@ -23,7 +23,7 @@ returns-then-not-narrow-clause-keeps c = λ values p.
     let least = s.1 0 (suc v) (omega (arith, c.requires.size)) (omega (arith, c.requires.size)) below.1 in
     let high = size (suc v) 0 (omega (arith, c.requires.size)) (omega (arith, c.requires.size)) above.1 in
     let low = size 0 (suc v) (omega (arith, c.requires.size)) (omega (arith, c.requires.size)) below.1 in
-    subst (λ (b : Bool). Where b (IsPointOf c.narrow.new.ranges w)) c.if-not-narrow.true
+    subst (λ (b : Bool). Where b (IsInBox c.narrow.new.ranges w)) c.if-not-narrow.true
     (c.narrow.ensures.keeps w (c.loop-variable.invariant.keeps values p) (omega (arith, ints, least, low, below.0)) (omega (arith, ints, most, high, above.0)))
 
 pub returns-then-not-narrow-clause-narrower : goal.returns-then-not-narrow-clause-narrower
@@ -43,7 +43,7 @@ loop-variable-preserved c = record {
       let least = s.1 0 (suc v) (omega (arith, c.requires.size)) (omega (arith, c.requires.size)) below.1 in
       let high = size (suc v) 0 (omega (arith, c.requires.size)) (omega (arith, c.requires.size)) above.1 in
       let low = size 0 (suc v) (omega (arith, c.requires.size)) (omega (arith, c.requires.size)) below.1 in
-      subst (λ (b : Bool). Where b (IsPointOf c.narrow.new.ranges w)) c.if-not-narrow.false
+      subst (λ (b : Bool). Where b (IsInBox c.narrow.new.ranges w)) c.if-not-narrow.false
       (c.narrow.ensures.keeps w (c.loop-variable.invariant.keeps values p) (omega (arith, ints, least, low, below.0)) (omega (arith, ints, most, high, above.0)));
   narrower = narrower_more c.args.ranges.now c.loop-variable.ranges c.narrow.new.ranges c.loop-variable.invariant.narrower c.narrow.ensures.narrower;
   domains = c.narrow.ensures.domains;

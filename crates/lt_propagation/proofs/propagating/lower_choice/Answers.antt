@@ -1,6 +1,6 @@
 use Rattle.std.proofs.Common.{◌≡◌, ◌∙◌, Bool, List, ℤ, ap, sym, subst}
 use Rattle.lt_bounds.proofs.Public.{narrower_more}
-use Rattle.lt_formula.specs.Solution.{IsPointOf}
+use Rattle.lt_formula.specs.Box.{IsInBox}
 use Rattle.lt_space.specs.Circuit.{formula_at}
 use Rattle.lt_space.specs.CircuitView.{circuit_formulas}
 use Rattle.lt_space.specs.Evaluated.{Where}
@@ -26,7 +26,7 @@ returns-then-not-demand-clause-keeps c = λ d values p whole.
     let k = holds d values (formula_at fs c.args.condition) in
     let a = holds d values (formula_at fs c.args.first) in
     let b = holds d values (formula_at fs c.args.second) in
-    subst (λ (x : Bool). Where x (IsPointOf c.demand.new.ranges (wide d circuit values))) c.if-not-demand.true
+    subst (λ (x : Bool). Where x (IsInBox c.demand.new.ranges (wide d circuit values))) c.if-not-demand.true
     (c.demand.ensures.keeps d values p
     (named _ c.condition.result k (c.condition.ensures ∙ (λ i. condition_by (c.xor-first_differs.ensures i) (c.xor-second_differs.ensures i)))
     (condition_of c.args.whole c.kleene_at.result c.kleene_at-2.result k a b whole (c.kleene_at.ensures d values p) (c.kleene_at-2.ensures d values p))))
@@ -38,7 +38,7 @@ returns-clause-keeps c = λ d values p whole.
     let k = holds d values (formula_at fs c.args.condition) in
     let a = holds d values (formula_at fs c.args.first) in
     let b = holds d values (formula_at fs c.args.second) in
-    let kept = subst (λ (x : Bool). Where x (IsPointOf c.demand.new.ranges (wide d circuit values))) c.if-not-demand.false
+    let kept = subst (λ (x : Bool). Where x (IsInBox c.demand.new.ranges (wide d circuit values))) c.if-not-demand.false
     (c.demand.ensures.keeps d values p
     (named _ c.condition.result k (c.condition.ensures ∙ (λ i. condition_by (c.xor-first_differs.ensures i) (c.xor-second_differs.ensures i)))
     (condition_of c.args.whole c.kleene_at.result c.kleene_at-2.result k a b whole (c.kleene_at.ensures d values p) (c.kleene_at-2.ensures d values p)))) in

@@ -1,5 +1,5 @@
 use Rattle.std.proofs.Common.{◌≡◌, Bool, List, ℤ, ap, sym, subst}
-use Rattle.lt_formula.specs.Solution.{IsPointOf}
+use Rattle.lt_formula.specs.Box.{IsInBox}
 use Rattle.lt_space.specs.Circuit.{formula_at}
 use Rattle.lt_space.specs.CircuitView.{circuit_formulas}
 use Rattle.lt_space.specs.Evaluated.{Where}

@@ -1,6 +1,6 @@
 use Rattle.std.proofs.Common.{Bool, subst}
 use Rattle.lt_bounds.proofs.Public.{narrower_more}
-use Rattle.lt_formula.specs.Solution.{IsPointOf}
+use Rattle.lt_formula.specs.Box.{IsInBox}
 use Rattle.lt_space.specs.Evaluated.{Where}
 use Rattle.lt_propagation.specs.Wide.{wide}
 use Rattle.lt_propagation.proofs.Boxes.{narrower_here}
@@ -15,7 +15,7 @@ returns-then-not-look_within-clause-narrower c = narrower_more c.args.ranges.now
 pub loop-preserved : goal.loop-preserved
 loop-preserved c =
     record {
-      keeps = λ values p. subst (λ (b : Bool). Where b (IsPointOf c.look_within.new.ranges (wide c.args.decimals c.args.circuit.now values))) c.if-not-look_within.false (c.look_within.ensures.keeps values (c.loop.invariant.keeps values p));
+      keeps = λ values p. subst (λ (b : Bool). Where b (IsInBox c.look_within.new.ranges (wide c.args.decimals c.args.circuit.now values))) c.if-not-look_within.false (c.look_within.ensures.keeps values (c.loop.invariant.keeps values p));
       narrower = narrower_more c.args.ranges.now c.loop.ranges c.look_within.new.ranges c.loop.invariant.narrower c.look_within.ensures.narrower;
       domains = c.look_within.ensures.domains;
     }

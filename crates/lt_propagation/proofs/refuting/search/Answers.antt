@@ -2,8 +2,8 @@ use Rattle.std.proofs.Common.{◌≡◌, ◌∷◌, Bool, List, length, subst, s
 use Rattle.std.proofs.lemmas.List.{length-set}
 use Rattle.lt_bounds.proofs.Public.{narrower_length, narrower_more}
 use Rattle.lt_bounds.specs.Ranges.{IsNarrower}
-use Rattle.lt_formula.specs.Solution.{IsPointOf}
-use Rattle.lt_num.specs.declared.range.Range.{Range}
+use Rattle.lt_formula.specs.Box.{IsInBox}
+use Rattle.lt_num.specs.declared.interval.Interval.{Interval}
 use Rattle.lt_space.specs.Evaluated.{Where}
 use Rattle.lt_propagation.specs.Wide.{wide}
 use Rattle.lt_propagation.specs.inner.Stacks.{AreWithin, IsInSome, boxes_of}
@@ -27,7 +27,7 @@ propagate-requires-clause-domains c = domains_narrower c.args.current.now c.boxe
 pub returns-then-height-eq0-clause-refuted : goal.returns-then-height-eq0-clause-refuted
 returns-then-height-eq0-clause-refuted c = λ so values p.
     let x = wide c.args.decimals c.args.circuit.now values in
-    let dead = λ (h : IsPointOf c.boxes.current x). subst (λ (b : Bool). Where b (IsPointOf c.propagate.new.ranges x)) c.if-propagate.false (c.propagate.ensures.keeps values h) in
+    let dead = λ (h : IsInBox c.boxes.current x). subst (λ (b : Bool). Where b (IsInBox c.propagate.new.ranges x)) c.if-propagate.false (c.propagate.ensures.keeps values h) in
     none_covered (length c.args.current.now) c.boxes.height c.boxes.stack.items x c.if-height-eq0.true
     (emptied_cover c.boxes.current (boxes_of (length c.args.current.now) c.boxes.height c.boxes.stack.items) x dead (c.boxes.invariant.covered values p))
 
@@ -47,12 +47,12 @@ boxes-preserved-then-propagate c =
     record {
       covered = λ values p.
           let x = wide c.args.decimals c.args.circuit.now values in
-          let kept = narrowed_cover c.boxes.current narrowed boxes x (λ h. subst (λ (b : Bool). Where b (IsPointOf narrowed x)) c.if-propagate.true (c.propagate.ensures.keeps values h)) (s.covered values p) in
+          let kept = narrowed_cover c.boxes.current narrowed boxes x (λ h. subst (λ (b : Bool). Where b (IsInBox narrowed x)) c.if-propagate.true (c.propagate.ensures.keeps values h)) (s.covered values p) in
           let two = parted_cover narrowed (first_of choice narrowed) (second_of choice narrowed) boxes x (part_covers choice narrowed x is) kept in
-          subst (λ (bs : List (List Range)). IsInSome (c.split_at.new.current ∷ bs) x) (sym push.0) (subst (λ (b : List Range). IsInSome (b ∷ second_of choice narrowed ∷ boxes) x) (sym parted.parted_is) two);
+          subst (λ (bs : List (List Interval)). IsInSome (c.split_at.new.current ∷ bs) x) (sym push.0) (subst (λ (b : List Interval). IsInSome (b ∷ second_of choice narrowed ∷ boxes) x) (sym parted.parted_is) two);
       within = (
-        subst (λ (b : List Range). IsNarrower whole b) (sym parted.parted_is) (first_narrower choice whole narrowed is n),
-        subst (λ (bs : List (List Range)). AreWithin whole bs) (sym push.0) (second_narrower choice whole narrowed is n, s.within.1),
+        subst (λ (b : List Interval). IsNarrower whole b) (sym parted.parted_is) (first_narrower choice whole narrowed is n),
+        subst (λ (bs : List (List Interval)). AreWithin whole bs) (sym push.0) (second_narrower choice whole narrowed is n, s.within.1),
       );
       len = push.1;
       count = omega (arith, c.split_at.ensures.len, long, s.count);
@@ -73,9 +73,9 @@ boxes-preserved c =
     record {
       covered = λ values p.
           let x = wide c.args.decimals c.args.circuit.now values in
-          let dead = λ (h : IsPointOf c.boxes.current x). subst (λ (b : Bool). Where b (IsPointOf narrowed x)) c.if-propagate.false (c.propagate.ensures.keeps values h) in
-          subst (λ (bs : List (List Range)). IsInSome bs x) pop.0 (emptied_cover c.boxes.current boxes x dead (s.covered values p));
-      within = subst (λ (bs : List (List Range)). AreWithin whole bs) pop.0 s.within.1;
+          let dead = λ (h : IsInBox c.boxes.current x). subst (λ (b : Bool). Where b (IsInBox narrowed x)) c.if-propagate.false (c.propagate.ensures.keeps values h) in
+          subst (λ (bs : List (List Interval)). IsInSome bs x) pop.0 (emptied_cover c.boxes.current boxes x dead (s.covered values p));
+      within = subst (λ (bs : List (List Interval)). AreWithin whole bs) pop.0 s.within.1;
       len = pop.1;
       count = c.take_box.ensures.len ∙ pop.2;
       room = omega (arith, s.room, c.take_box.ensures.capacity);
