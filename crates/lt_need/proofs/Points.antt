@@ -15,39 +15,39 @@ use Rattle.lt_need.specs.inner.Points.{marked_points, points_in}
 use Rattle.lt_need.proofs.Counting.{any_alike}
 use Rattle.lt_need.proofs.Powers.{choices_stop, one_factor}
 
-module _ (xs ys : List Atom) (same : HaveSame xs ys) where
-  hard_alike : (a : Atom) → is_hard xs a ≡ is_hard ys a
+module _ (all : List Range) (xs ys : List Atom) (same : HaveSame xs ys) where
+  hard_alike : (a : Atom) → is_hard all xs a ≡ is_hard all ys a
   hard_alike a =
-      ap (λ b. not (is_difference (several_terms a)) && (is_equation a || b))
+      ap (λ b. not (is_difference all (several_terms a)) && (is_equation a || b))
       (same (λ b. not (same_atom a b) && list_any (λ t. has_variable (several_terms b) t.0) (several_terms a)))
 
-  pub hard_same : (i : ℕ) → is_hard_variable xs i ≡ is_hard_variable ys i
+  pub hard_same : (i : ℕ) → is_hard_variable all xs i ≡ is_hard_variable all ys i
   hard_same i =
-      same (λ a. is_hard xs a && has_variable (several_terms a) i)
-      ∙ any_alike (λ a. is_hard xs a && has_variable (several_terms a) i) (λ a. is_hard ys a && has_variable (several_terms a) i) ys (λ a. ap (λ b. b && has_variable (several_terms a) i) (hard_alike a))
+      same (λ a. is_hard all xs a && has_variable (several_terms a) i)
+      ∙ any_alike (λ a. is_hard all xs a && has_variable (several_terms a) i) (λ a. is_hard all ys a && has_variable (several_terms a) i) ys (λ a. ap (λ b. b && has_variable (several_terms a) i) (hard_alike a))
 
-  pub points_same : (i : ℕ) (ranges : List Range) → hard_points xs i ranges ≡ hard_points ys i ranges
+  pub points_same : (i : ℕ) (ranges : List Range) → hard_points all xs i ranges ≡ hard_points all ys i ranges
   points_same i [] = refl
   points_same i (range ∷ ranges) =
-      ap (λ b. (if b then count_of range else 1) * hard_points xs (suc i) ranges) (hard_same i)
-      ∙ ap (λ (n : ℕ). (if is_hard_variable ys i then count_of range else 1) * n) (points_same (suc i) ranges)
+      ap (λ b. (if b then count_of range else 1) * hard_points all xs (suc i) ranges) (hard_same i)
+      ∙ ap (λ (n : ℕ). (if is_hard_variable all ys i then count_of range else 1) * n) (points_same (suc i) ranges)
 
 -- Points by marks.
 
-marked_same : (marks : List Bool) (xs : List Atom) → ((i : ℕ) → get_or marks i false ≡ is_hard_variable xs i) → (i : ℕ) (ranges : List Range) → marked_points marks i ranges ≡ hard_points xs i ranges
-marked_same marks xs same i [] = refl
-marked_same marks xs same i (range ∷ ranges) =
+marked_same : (all : List Range) (marks : List Bool) (xs : List Atom) → ((i : ℕ) → get_or marks i false ≡ is_hard_variable all xs i) → (i : ℕ) (ranges : List Range) → marked_points marks i ranges ≡ hard_points all xs i ranges
+marked_same all marks xs same i [] = refl
+marked_same all marks xs same i (range ∷ ranges) =
     ap (λ b. (if b then count_of range else 1) * marked_points marks (suc i) ranges) (same i)
-    ∙ ap (λ (n : ℕ). (if is_hard_variable xs i then count_of range else 1) * n) (marked_same marks xs same (suc i) ranges)
+    ∙ ap (λ (n : ℕ). (if is_hard_variable all xs i then count_of range else 1) * n) (marked_same all marks xs same (suc i) ranges)
 
 -- the whole need, by the marks of lists with the same atoms
-pub whole_same : (f : Formula) (found : List Atom) (marks : List Bool) (scope : List Bool) (ranges : List Range) → HaveSame (atoms_of f) found → ((i : ℕ) → get_or marks i false ≡ is_hard_variable found i)
+pub whole_same : (f : Formula) (found : List Atom) (marks : List Bool) (scope : List Bool) (ranges : List Range) → HaveSame (atoms_of f) found → ((i : ℕ) → get_or marks i false ≡ is_hard_variable ranges found i)
     → whole_need f scope ranges ≡ 180 * (variables_in scope + 1) * (marked_points marks 0 ranges * 3 ^ choices_of (conjuncts f))
 whole_same f found marks scope ranges same marked =
-    ap (λ (k : ℕ). 180 * (variables_in scope + 1) * (k * 3 ^ choices_of (conjuncts f))) (points_same (atoms_of f) found same 0 ranges ∙ sym (marked_same marks found marked 0 ranges))
+    ap (λ (k : ℕ). 180 * (variables_in scope + 1) * (k * 3 ^ choices_of (conjuncts f))) (points_same ranges (atoms_of f) found same 0 ranges ∙ sym (marked_same ranges marks found marked 0 ranges))
 
 -- the need, by what was found of it
-pub measured : (f : Formula) (found : List Atom) (marks scope : List Bool) (ranges : List Range) (count points choices result : ℕ) → HaveSame (atoms_of f) found → ((i : ℕ) → get_or marks i false ≡ is_hard_variable found i)
+pub measured : (f : Formula) (found : List Atom) (marks scope : List Bool) (ranges : List Range) (count points choices result : ℕ) → HaveSame (atoms_of f) found → ((i : ℕ) → get_or marks i false ≡ is_hard_variable ranges found i)
     → count ≡ variables_in scope → points ≡ min (180 * (count + 1) * marked_points marks 0 ranges) most_need → choices ≡ min (choices_of (conjuncts f)) 81 → result ≡ min (points * 3 ^ choices) most_need
     → result ≡ min (whole_need f scope ranges) most_need
 measured f found marks scope ranges count points choices result same marked counted pointed chosen is =

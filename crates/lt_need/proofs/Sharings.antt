@@ -10,6 +10,7 @@ use Rattle.lt_linear.specs.Form.{Term}
 use Rattle.lt_space.specs.Circuit.{formula_at}
 use Rattle.lt_space.specs.Formula.{Formula, atom, choice, conjunction, disjunction, exclusive, negation, truth}
 use Rattle.lt_space.specs.declared.formula.Atom.{Atom}
+use Rattle.lt_num.specs.declared.range.Range.{Range}
 use Rattle.lt_need.specs.Need.{has_variable, is_difference, is_equation, is_hard, is_hard_variable, is_shared, same_atom, several_terms}
 use Rattle.lt_need.specs.inner.Counts.{found_atoms, is_among}
 use Rattle.lt_need.specs.inner.Marks.{own_atoms}
@@ -238,7 +239,7 @@ none_owned count n owners is v owner e = let wrong : None ≡ Some owner = sym (
 
 -- What shared variables say of atoms.
 
-module _ (fs : List Formula) (ns : List ℕ) (owners : List (Option ℕ)) (shared : List Bool) (known : AreOwned fs (is_used fs ns) owners shared) where
+module _ (ranges : List Range) (fs : List Formula) (ns : List ℕ) (owners : List (Option ℕ)) (shared : List Bool) (known : AreOwned fs (is_used fs ns) owners shared) where
   alike : (p q : UseTest) → ((m i : ℕ) → p m i ≡ q m i) → is_used fs ns p ≡ is_used fs ns q
   alike p q e = same_from (is_used fs ns p) (is_used fs ns q) (known.rising p q (λ m i h. sym (e m i) ∙ h)) (known.rising q p (λ m i h. e m i ∙ h))
 
@@ -299,18 +300,18 @@ module _ (fs : List Formula) (ns : List ℕ) (owners : List (Option ℕ)) (share
           ∙ between_two a (several_terms a) (own_atoms (formula_at fs m)) (own_few (formula_at fs m))
 
   number_hard : (i n : ℕ) → IsIn ns n → (own : List Atom) → length own ≤ 1 → own_atoms (formula_at fs n) ≡ own
-      → (is_hard_with shared (several_in own) (equation_in own) && has_variable (several_in own) i) ≡ list_any (λ a. is_hard (found_atoms fs ns) a && has_variable (several_terms a) i) own
-  number_hard i n at [] l named = and_right (is_hard_with shared [] false) false refl
+      → (is_hard_with ranges shared (several_in own) (equation_in own) && has_variable (several_in own) i) ≡ list_any (λ a. is_hard ranges (found_atoms fs ns) a && has_variable (several_terms a) i) own
+  number_hard i n at [] l named = and_right (is_hard_with ranges shared [] false) false refl
   number_hard i n at (a ∷ b ∷ own) l named = absurd (omega (arith, l))
   number_hard i n at (a ∷ []) l named =
-      ap (λ b. (not (is_difference (several_terms a)) && (is_equation a || b)) && has_variable (several_terms a) i) (shared_same n a at named)
-      ∙ sym (or_false (is_hard (found_atoms fs ns) a && has_variable (several_terms a) i))
+      ap (λ b. (not (is_difference ranges (several_terms a)) && (is_equation a || b)) && has_variable (several_terms a) i) (shared_same n a at named)
+      ∙ sym (or_false (is_hard ranges (found_atoms fs ns) a && has_variable (several_terms a) i))
 
-  pub hard_is : (i : ℕ) → is_hard_among fs shared ns i ≡ is_hard_variable (found_atoms fs ns) i
+  pub hard_is : (i : ℕ) → is_hard_among ranges fs shared ns i ≡ is_hard_variable ranges (found_atoms fs ns) i
   hard_is i =
-      any_in (λ n. is_hard_at fs shared n && has_variable (several_at fs n) i) (λ n. list_any (λ a. is_hard (found_atoms fs ns) a && has_variable (several_terms a) i) (own_atoms (formula_at fs n))) ns
+      any_in (λ n. is_hard_at ranges fs shared n && has_variable (several_at fs n) i) (λ n. list_any (λ a. is_hard ranges (found_atoms fs ns) a && has_variable (several_terms a) i) (own_atoms (formula_at fs n))) ns
       (λ n h. number_hard i n h (own_atoms (formula_at fs n)) (own_few (formula_at fs n)) refl)
-      ∙ sym (found_any (λ a. is_hard (found_atoms fs ns) a && has_variable (several_terms a) i) fs ns)
+      ∙ sym (found_any (λ a. is_hard ranges (found_atoms fs ns) a && has_variable (several_terms a) i) fs ns)
 
 -- Marks.
 

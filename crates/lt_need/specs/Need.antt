@@ -2,7 +2,7 @@
 -- at most 2 ^ 127. There are n variables in scope, h choices are left by the conjuncts once truths are
 -- absorbed, and S is how many points the hard variables have. A choice is a way to split a search here,
 -- and not an `if`.
-use Rattle.std.specs.Prelude.{ℕ, suc, ◌+◌, ◌*◌, ◌^◌, Bool, true, false, not, ◌&&◌, ◌||◌, nat_eq, nat_lt, if◌then◌else◌, List, [], ◌∷◌, ◌++◌, length, min, neg_ℤ}
+use Rattle.std.specs.Prelude.{ℕ, suc, ◌+◌, ◌*◌, ◌^◌, Bool, true, false, not, ◌&&◌, ◌||◌, nat_eq, nat_lt, if◌then◌else◌, List, [], ◌∷◌, ◌++◌, length, min, neg_ℤ, ℤ, pos, slice_index_or}
 use Rattle.std.specs.List.{list_any}
 use Rattle.std.specs.Ordering.{int_eq}
 use Rattle.lt_linear.specs.Form.{Term}
@@ -98,12 +98,17 @@ several_terms (Compare form relation) = if nat_lt 1 (length form.terms) then for
 abbrev pub has_variable : List Term → ℕ → Bool
 has_variable terms i = list_any (λ t. nat_eq t.0 i) terms
 
--- whether these are c * x - c * y for two variables
-abbrev pub is_difference : List Term → Bool
-is_difference [] = false
-is_difference (s ∷ []) = false
-is_difference (s ∷ t ∷ []) = int_eq s.1 (neg_ℤ t.1)
-is_difference (s ∷ t ∷ u ∷ ts) = false
+-- the step of a variable; where there is none, 1
+abbrev pub step_of : List Range → ℕ → ℤ
+step_of ranges i = (slice_index_or ranges i (record { low = pos 0; high = pos 0; step = pos 1 })).step
+
+-- whether these are c * x - c * y for two variables of equal step
+abbrev pub is_difference : List Range → List Term → Bool
+is_difference ranges [] = false
+is_difference ranges (s ∷ []) = false
+is_difference ranges (s ∷ t ∷ []) =
+    int_eq s.1 (neg_ℤ t.1) && int_eq (step_of ranges s.0) (step_of ranges t.0)
+is_difference ranges (s ∷ t ∷ u ∷ ts) = false
 
 -- whether an atom is an equation
 abbrev pub is_equation : Atom → Bool
@@ -122,21 +127,22 @@ is_shared atoms a =
 -- Whether an atom of several variables is hard: it isn't a difference, and is an equation or shares a
 -- variable. An inequality that shares none is decided by the corner of the ranges at which its form is
 -- least.
-abbrev pub is_hard : List Atom → Atom → Bool
-is_hard atoms a =
-    not (is_difference (several_terms a)) && (is_equation a || is_shared atoms a)
+abbrev pub is_hard : List Range → List Atom → Atom → Bool
+is_hard ranges atoms a =
+    not (is_difference ranges (several_terms a)) && (is_equation a || is_shared atoms a)
 
 -- whether a variable is in a hard atom of several variables
-abbrev pub is_hard_variable : List Atom → ℕ → Bool
-is_hard_variable atoms i =
-    list_any (λ a. is_hard atoms a && has_variable (several_terms a) i) atoms
+abbrev pub is_hard_variable : List Range → List Atom → ℕ → Bool
+is_hard_variable ranges atoms i =
+    list_any (λ a. is_hard ranges atoms a && has_variable (several_terms a) i) atoms
 
--- the product of how many numbers the ranges of hard variables have, of which the first range is that of
--- a variable with this number, whether they are in scope or not
-abbrev pub hard_points : List Atom → ℕ → List Range → ℕ
-hard_points atoms i [] = 1
-hard_points atoms i (range ∷ ranges) =
-    (if is_hard_variable atoms i then count_of range else 1) * hard_points atoms (suc i) ranges
+-- the product of how many points the ranges of hard variables have, among all ranges, of which the
+-- first of these is that of a variable with this number, whether they are in scope or not
+abbrev pub hard_points : List Range → List Atom → ℕ → List Range → ℕ
+hard_points all atoms i [] = 1
+hard_points all atoms i (range ∷ ranges) =
+    (if is_hard_variable all atoms i then count_of range else 1)
+    * hard_points all atoms (suc i) ranges
 
 -- The need.
 
@@ -150,7 +156,7 @@ variables_in (false ∷ marks) = variables_in marks
 abbrev pub whole_need : Formula → List Bool → List Range → ℕ
 whole_need f scope ranges =
     180 * (variables_in scope + 1)
-    * (hard_points (atoms_of f) 0 ranges * 3 ^ choices_of (conjuncts f))
+    * (hard_points ranges (atoms_of f) 0 ranges * 3 ^ choices_of (conjuncts f))
 
 -- The need of a search for values of variables at which a formula holds, at most 2 ^ 127. The scope says
 -- how many variables there are.

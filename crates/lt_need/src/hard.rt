@@ -6,18 +6,20 @@ ghost use Rattle.lt_formula.specs.Limits.{most_variables};
 ghost use Rattle.lt_linear.specs.Form.{Term};
 ghost use Rattle.lt_space.specs.Circuit.{are_terms, formula_at};
 ghost use Rattle.lt_space.specs.CircuitView.{circuit_formulas, circuit_len};
-ghost use Rattle.lt_need.specs.Need.{has_variable, is_difference, is_hard_variable};
+ghost use Rattle.lt_need.specs.Need.{has_variable, is_difference, is_hard_variable, step_of};
 ghost use Rattle.lt_need.specs.inner.Counts.{AreGates, found_atoms, own_of};
 ghost use Rattle.lt_need.specs.inner.Marks.{own_atoms};
 ghost use Rattle.lt_need.specs.inner.Uses.{equation_in, has_shared, is_hard_at, is_hard_with, several_at};
 
 use crate::uses::{find_shared, several_at};
+use lt_num::Range;
 use lt_space::{Circuit, Gate, Relation};
 
 /// Marks the variables of those gates that are hard among some that are atoms.
 pub(crate) fn mark_hard(
     circuit: &Circuit,
     atoms: &[u32],
+    ranges: &[Range],
     owners: &mut Vec<Option<u32>>,
     shared: &mut Vec<bool>,
     hard: &mut Vec<bool>,
@@ -27,7 +29,7 @@ pub(crate) fn mark_hard(
     requires shared { length shared.old.items ≡ most_variables }
     requires hard { length hard.old.items ≡ most_variables }
     ensures marks { (i : ℕ) → slice_index_or hard.new.items i false ≡
-        is_hard_variable (found_atoms (circuit_formulas circuit.now) atoms.now) i }
+        is_hard_variable ranges.now (found_atoms (circuit_formulas circuit.now) atoms.now) i }
     ensures owners { length owners.new.items ≡ most_variables }
     ensures shared { length shared.new.items ≡ most_variables }
     ensures hard { length hard.new.items ≡ most_variables }
@@ -35,22 +37,22 @@ pub(crate) fn mark_hard(
     find_shared(circuit, atoms, owners, shared);
     hard.fill(false);
     for place in 0..atoms.len() {
-        mark_own(circuit, atoms[place], shared, hard);
+        mark_own(circuit, atoms[place], ranges, shared, hard);
     }
 }
 
 // Marks the variables of a gate, if it is a hard atom.
-fn mark_own(circuit: &Circuit, number: u32, shared: &[bool], hard: &mut Vec<bool>)
+fn mark_own(circuit: &Circuit, number: u32, ranges: &[Range], shared: &[bool], hard: &mut Vec<bool>)
     requires number { number < circuit_len circuit.now }
     requires hard { length hard.old.items ≡ most_variables }
     ensures marks { (i : ℕ) → slice_index_or hard.new.items i false ≡
         (slice_index_or hard.old.items i false ||
-        (is_hard_at (circuit_formulas circuit.now) shared.now number &&
+        (is_hard_at ranges.now (circuit_formulas circuit.now) shared.now number &&
         has_variable (several_at (circuit_formulas circuit.now) number) i)) }
     ensures hard { length hard.new.items ≡ most_variables }
 {
     let terms = several_at(circuit, number);
-    if is_hard(terms, is_equation_at(circuit, number), shared) {
+    if is_hard(terms, is_equation_at(circuit, number), ranges, shared) {
         mark_variables(terms, hard);
     }
 }
@@ -69,17 +71,29 @@ fn mark_variables(terms: &[(u32, i64)], hard: &mut Vec<bool>)
 }
 
 // Whether an atom is hard, by its terms and by whether it is an equation.
-fn is_hard(terms: &[(u32, i64)], is_equation: bool, shared: &[bool]) -> bool
-    ensures { result ≡ is_hard_with shared.now terms.now is_equation }
+fn is_hard(terms: &[(u32, i64)], is_equation: bool, ranges: &[Range], shared: &[bool]) -> bool
+    ensures { result ≡ is_hard_with ranges.now shared.now terms.now is_equation }
 {
-    !is_difference(terms) && (is_equation || has_shared(terms, shared))
+    !is_difference(terms, ranges) && (is_equation || has_shared(terms, shared))
 }
 
-// Whether terms are one variable less another one, but for a factor.
-fn is_difference(terms: &[(u32, i64)]) -> bool
-    ensures { result ≡ is_difference terms.now }
+// Whether terms are one variable less another one of the same step, but for a factor.
+fn is_difference(terms: &[(u32, i64)], ranges: &[Range]) -> bool
+    ensures { result ≡ is_difference ranges.now terms.now }
 {
-    terms.len() == 2 && are_opposite(terms[0].1, terms[1].1)
+    terms.len() == 2
+        && are_opposite(terms[0].1, terms[1].1)
+        && step_of(ranges, terms[0].0) == step_of(ranges, terms[1].0)
+}
+
+// The step of a variable; where there is none, 1.
+fn step_of(ranges: &[Range], variable: u32) -> i64
+    ensures { result ≡ step_of ranges.now variable }
+{
+    match ranges.get(variable as usize) {
+        Some(range) => range.step,
+        None => 1,
+    }
 }
 
 // Whether one number is the other one's negation.

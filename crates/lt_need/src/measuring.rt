@@ -1,6 +1,7 @@
 //! How much work a search may need.
 
-ghost use Rattle.std.specs.Prelude.{◌≡◌, ◌<◌, ◌≤◌, ℕ, false, length, slice_index_or};
+ghost use Rattle.std.specs.Prelude.{◌≡◌, ◌<◌, ◌≤◌, All, ℕ, false, length, slice_index_or};
+ghost use Rattle.lt_num.specs.Range.{HasPoints};
 ghost use Rattle.lt_space.specs.Absorbed.{absorbed};
 ghost use Rattle.lt_space.specs.Circuit.{formula_at};
 ghost use Rattle.lt_space.specs.CircuitView.{circuit_formulas, circuit_len};
@@ -31,9 +32,10 @@ pub fn measure(
 ) -> u128
     requires root { root < circuit_len circuit.now }
     requires room { circuit_len circuit.now ≤ room_gates room.old }
+    requires points { All HasPoints ranges.now }
     ensures need { result ≡
         need (formula_at (circuit_formulas circuit.now) root) scope.now ranges.now }
-    ensures hard { (i : ℕ) → slice_index_or (room_hard room.new) i false ≡ is_hard_variable
+    ensures hard { (i : ℕ) → slice_index_or (room_hard room.new) i false ≡ is_hard_variable ranges.now
         (atoms_of (absorbed (formula_at (circuit_formulas circuit.now) root))) i }
     ensures gates { room_gates room.new ≡ room_gates room.old }
 {
@@ -48,6 +50,7 @@ pub fn measure(
     mark_hard(
         circuit,
         &room.gathering.reached,
+        ranges,
         &mut room.owners,
         &mut room.shared,
         &mut room.hard,

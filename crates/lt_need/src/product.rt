@@ -1,7 +1,7 @@
 //! Products that stop at the greatest need.
 
-ghost use Rattle.std.specs.Prelude.{◌≡◌, ◌≤◌, ◌*◌, ◌^◌, min};
-ghost use Rattle.lt_num.specs.Range.{count_of};
+ghost use Rattle.std.specs.Prelude.{◌≡◌, ◌≤◌, ◌*◌, ◌^◌, All, min};
+ghost use Rattle.lt_num.specs.Range.{HasPoints, count_of};
 ghost use Rattle.lt_need.specs.Need.{most_need};
 ghost use Rattle.lt_need.specs.inner.Points.{marked_points, points_in};
 
@@ -13,7 +13,8 @@ const MOST: u128 = 1 << 127;
 
 /// A number times the points of the variables that have a mark, but not more than where needs stop.
 pub(crate) fn times_points(need: u128, marks: &[bool], ranges: &[Range]) -> u128
-    requires { need ≤ most_need }
+    requires need { need ≤ most_need }
+    requires points { All HasPoints ranges.now }
     ensures { result ≡ min (need * marked_points marks.now 0 ranges.now) most_need }
 {
     let mut product = need;
@@ -26,19 +27,18 @@ pub(crate) fn times_points(need: u128, marks: &[bool], ranges: &[Range]) -> u128
 
 // How many points a variable has, where it counts.
 fn points_in(counts: bool, range: Range) -> u128
+    requires { HasPoints range }
     ensures { result ≡ points_in counts range }
 {
     if counts { count_of(range) } else { 1 }
 }
 
-// How many raw numbers a range has.
+// How many points a range has.
 fn count_of(range: Range) -> u128
+    requires { HasPoints range }
     ensures { result ≡ count_of range }
 {
-    if range.high < range.low {
-        return 0;
-    }
-    u128::from(range.high.abs_diff(range.low)) + 1
+    u128::from(range.high.abs_diff(range.low) / range.step.unsigned_abs()) + 1
 }
 
 /// A number times a power of three, but not more than where needs stop.

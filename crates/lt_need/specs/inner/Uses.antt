@@ -6,6 +6,7 @@ use Rattle.lt_linear.specs.Form.{Term}
 use Rattle.lt_space.specs.Circuit.{formula_at}
 use Rattle.lt_space.specs.Formula.{Formula}
 use Rattle.lt_space.specs.declared.formula.Atom.{Atom}
+use Rattle.lt_num.specs.declared.range.Range.{Range}
 use Rattle.lt_need.specs.Need.{has_variable, is_difference, is_equation, several_terms}
 use Rattle.lt_need.specs.inner.Counts.{is_among}
 use Rattle.lt_need.specs.inner.Marks.{own_atoms}
@@ -74,16 +75,17 @@ abbrev pub has_shared : List Bool → List Term → Bool
 has_shared shared terms = list_any (λ t. slice_index_or shared t.0 false) terms
 
 -- whether an atom with these terms is hard
-abbrev pub is_hard_with : List Bool → List Term → Bool → Bool
-is_hard_with shared terms equation =
-    not (is_difference terms) && (equation || has_shared shared terms)
+abbrev pub is_hard_with : List Range → List Bool → List Term → Bool → Bool
+is_hard_with ranges shared terms equation =
+    not (is_difference ranges terms) && (equation || has_shared shared terms)
 
 -- whether the atom of a number is, by which variables are shared
-abbrev pub is_hard_at : List Formula → List Bool → ℕ → Bool
-is_hard_at formulas shared n =
-    is_hard_with shared (several_at formulas n) (equation_in (own_atoms (formula_at formulas n)))
+abbrev pub is_hard_at : List Range → List Formula → List Bool → ℕ → Bool
+is_hard_at ranges formulas shared n =
+    is_hard_with ranges shared (several_at formulas n)
+    (equation_in (own_atoms (formula_at formulas n)))
 
 -- whether a variable is in a hard atom
-abbrev pub is_hard_among : List Formula → List Bool → List ℕ → ℕ → Bool
-is_hard_among formulas shared ns i =
-    list_any (λ n. is_hard_at formulas shared n && has_variable (several_at formulas n) i) ns
+abbrev pub is_hard_among : List Range → List Formula → List Bool → List ℕ → ℕ → Bool
+is_hard_among ranges formulas shared ns i =
+    list_any (λ n. is_hard_at ranges formulas shared n && has_variable (several_at formulas n) i) ns

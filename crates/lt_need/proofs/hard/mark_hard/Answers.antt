@@ -14,5 +14,5 @@ loop-place-init c = record {
 pub returns-clause-marks : goal.returns-clause-marks
 returns-clause-marks c = λ i.
     let fs = circuit_formulas c.args.circuit.now in
-    c.loop-place.invariant.marks i ∙ ap (λ (ns : List ℕ). is_hard_among fs c.find_shared.new.shared.items ns i) (take_all c.loop-place.place c.args.atoms.now (omega arith))
-    ∙ hard_is fs c.args.atoms.now c.find_shared.new.owners.items c.find_shared.new.shared.items c.find_shared.ensures.owned i
+    c.loop-place.invariant.marks i ∙ ap (λ (ns : List ℕ). is_hard_among c.args.ranges.now fs c.find_shared.new.shared.items ns i) (take_all c.loop-place.place c.args.atoms.now (omega arith))
+    ∙ hard_is c.args.ranges.now fs c.args.atoms.now c.find_shared.new.owners.items c.find_shared.new.shared.items c.find_shared.ensures.owned i

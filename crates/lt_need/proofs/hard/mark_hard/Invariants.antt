@@ -7,6 +7,6 @@ use Rattle.lt_need.proofs.hard.mark_hard.Given as goal
 -- the variables of the gates so far are marked
 abbrev pub invariant-loop-place : goal.invariant-loop-place
 invariant-loop-place l = record {
-  marks : (i : ℕ) → slice_index_or l.hard.items i false ≡ is_hard_among (circuit_formulas l.circuit) l.shared.items (take l.place l.atoms) i;
+  marks : (i : ℕ) → slice_index_or l.hard.items i false ≡ is_hard_among l.ranges (circuit_formulas l.circuit) l.shared.items (take l.place l.atoms) i;
   long : length l.hard.items ≡ most_variables;
 }
