@@ -1,13 +1,14 @@
 -- The points of a range.
-use Rattle.std.proofs.Common.{◌≡◌, ℕ, zero, suc, ◌*◌, ◌/◌, ◌<◌, ◌≤◌, ◌∷◌, length, map, refl, ap, sym, subst, ◌∙◌, arith}
-use Rattle.std.specs.Prelude.{ℤ, pos, ◌+ℤ◌, ◌-ℤ◌, ◌*ℤ◌, ◌≤ℤ◌, ◌<ℤ◌, unsigned_abs, Contains, AllPairs, slice_index_or}
+use Rattle.std.proofs.Common.{◌≡◌, ℕ, zero, suc, ◌*◌, ◌/◌, ◌%◌, ◌<◌, ◌≤◌, Bool, true, false, ◌&&◌, ◌∷◌, length, map, refl, ap, sym, subst, ◌∙◌, arith}
+use Rattle.std.specs.Prelude.{ℤ, pos, ◌+ℤ◌, ◌-ℤ◌, ◌*ℤ◌, ◌≤ℤ◌, ◌<ℤ◌, unsigned_abs, int_le, nat_eq, Contains, AllPairs, slice_index_or}
 use Rattle.std.specs.Int.{int_gap}
+use Rattle.std.proofs.lemmas.Bool.Decides.{nat_tests}
 use Rattle.std.proofs.lemmas.Int.{ints}
 use Rattle.std.proofs.Math.IntN.{pos-*ℤ-pos}
-use Rattle.std.proofs.Math.Nat.{div-one, le-div_iff_mul-le, mul_comm, mul-div_left, mul-lt-mul_of_pos_right}
+use Rattle.std.proofs.Math.Nat.{div-mul-le_self, mul-mod_left, div-one, le-div_iff_mul-le, mod-eq-sub-div-mul, mul_comm, mul-div_left, mul-lt-mul_of_pos_right}
 use Rattle.lt_num.proofs.IntervalLemmas.{add_pos, gap_above}
 use Rattle.lt_num.specs.Interval.{counted_up}
-use Rattle.lt_num.specs.Range.{HasPoints, IsPoint, PointsAreThose, PointsOfStepOne, count_of, point_at, points_of}
+use Rattle.lt_num.specs.Range.{HasPoints, IsPoint, PointsAreThose, PointsOfStepOne, TestTellsPoints, count_of, point_at, points_of}
 use Rattle.lt_num.specs.declared.range.Range.{Range}
 
 -- as many numbers are told as are counted
@@ -92,6 +93,47 @@ module _ (range : Range) (has : HasPoints range) where
 
 pub points_are_those : PointsAreThose
 points_are_those range has = (λ raw. (only_points range has raw, all_points range has raw), rising range has)
+
+-- A test by three tests.
+three_true : (a b c : Bool) → a ≡ true → b ≡ true → c ≡ true → (a && (b && c)) ≡ true
+three_true a b c e f g = ap (λ x. x && (b && c)) e ∙ ap (λ x. x && c) f ∙ g
+
+true_three : (a b c : Bool) → (a && (b && c)) ≡ true → (a ≡ true) × (b ≡ true) × (c ≡ true)
+true_three true true true e = (refl, refl, refl)
+true_three true true false e = absurd (cc)
+true_three true false c e = absurd (cc)
+true_three false b c e = absurd (cc)
+
+le_true : (a b : ℤ) → a ≤ℤ b → int_le a b ≡ true
+le_true a b h = grind (arith, ints)
+
+true_le : (a b : ℤ) → int_le a b ≡ true → a ≤ℤ b
+true_le a b h = grind (arith, ints)
+
+zero_true : (n : ℕ) → n ≡ 0 → nat_eq n 0 ≡ true
+zero_true n e = grind (arith, nat_tests)
+
+true_zero : (n : ℕ) → nat_eq n 0 ≡ true → n ≡ 0
+true_zero n e = grind (arith, nat_tests)
+
+pub test_tells_points : TestTellsPoints
+test_tells_points range raw has = (
+  λ t.
+      let parts = true_three (int_le range.low raw) (int_le raw range.high) (nat_eq (unsigned_abs (raw -ℤ range.low) % unsigned_abs range.step) 0) t in
+      let low = true_le range.low raw parts.0 in
+      let rest = true_zero (unsigned_abs (raw -ℤ range.low) % unsigned_abs range.step) parts.2 in
+      let far : ℕ = unsigned_abs (raw -ℤ range.low) in
+      let whole = mod-eq-sub-div-mul far (unsigned_abs range.step) in
+      let less = div-mul-le_self far (unsigned_abs range.step) in
+      let is = point_is range has (far / unsigned_abs range.step) in
+      (far / unsigned_abs range.step, omega (arith, ints, low, rest, whole, less, is), true_le raw range.high parts.1),
+  λ p.
+      let is = point_is range has p.0 in
+      let over : range.low ≤ℤ raw = omega (arith, ints, p.1, is) in
+      let far : unsigned_abs (raw -ℤ range.low) ≡ p.0 * unsigned_abs range.step = omega (arith, ints, p.1, is) in
+      three_true _ _ _ (le_true range.low raw over) (le_true raw range.high p.2)
+      (zero_true _ (ap (λ (n : ℕ). n % unsigned_abs range.step) far ∙ mul-mod_left p.0 (unsigned_abs range.step))),
+)
 
 -- numbers that are told as one more, from one number on
 told-same : (f : ℤ → ℤ) (a b : ℤ) (n : ℕ) → ((k : ℤ) → f k ≡ (b -ℤ a) +ℤ k) → map f (counted_up a n) ≡ counted_up b n

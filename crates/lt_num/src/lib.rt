@@ -33,7 +33,7 @@ pub use interval::Interval;
 pub use kind::Kind;
 pub use laws::{
     answer_is_one, nearest_is_one, points_are_those, points_of_step_one, raws_are_within,
-    text_reads_back,
+    test_tells_points, text_reads_back,
 };
 pub use printing::print;
 pub use range::Range;
