@@ -15,7 +15,7 @@ pub struct Var {
     /// The kind of its values.
     pub kind: Kind,
 
-    /// The raw numbers of its values, which are at most 10^12 in size: an int itself, a real number in
+    /// The raw numbers of its values, a step apart and at most 10^12 in size: an int itself, a real number in
     /// units of its last decimal, and 0 and 1 for false and true.
     pub range: Range,
 
