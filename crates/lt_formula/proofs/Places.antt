@@ -16,7 +16,7 @@ use Rattle.lt_num.specs.declared.range.Range.{Range}
 use Rattle.lt_formula.proofs.Translations.{translation_keeps_the_first}
 use Rattle.lt_formula.specs.Box.{first_in_box, orders_in_box, raws_from}
 use Rattle.lt_formula.specs.Solution.{comes_before, first_solution, orders_from, other_marks, points_from, points_in}
-use Rattle.lt_formula.specs.Translation.{AllTellPoints, FirstSolutionByPlaces, OnePlaceTellsOnePoint, Places, PlacesTellPoints, box_of, orders_by, places_down, places_up, starts_of, value_by, values_by}
+use Rattle.lt_formula.specs.Translation.{AllTellPoints, FirstSolutionByPlaces, OnePlaceTellsOnePoint, Places, PlacesTellPoints, box_of, orders_by, places_down, places_up, scales_of, starts_of, value_by}
 
 -- an interval by its ends
 abbrev interval_of : ℤ → ℤ → Interval
@@ -280,7 +280,7 @@ one_place_tells_one_point places down range target one same is =
     ∙ ap (map (value_by places.scale)) (sym (one_raw places.start places.interval.low places.interval.high same))
 
 -- the orders of all ranges
-orders_are : (places : List Places) (ranges : List Range) (targets : List ℤ) (down : List Bool) → AllTellPoints places ranges targets down → orders_from ranges targets down ≡ orders_by (values_by places) (orders_in_box (box_of places) (starts_of places))
+orders_are : (places : List Places) (ranges : List Range) (targets : List ℤ) (down : List Bool) → AllTellPoints places ranges targets down → orders_from ranges targets down ≡ orders_by (map value_by (scales_of places)) (orders_in_box (box_of places) (starts_of places))
 orders_are [] [] targets down each = refl
 orders_are (p ∷ ps) [] targets down each = absurd each
 orders_are [] (r ∷ rs) targets down each = absurd each
@@ -291,4 +291,4 @@ pub first_solution_by_places : FirstSolutionByPlaces
 unfolding first_solution first_in_box
 first_solution_by_places holds places ranges targets down each =
     ap (first_among holds) (orders_are places ranges targets down each)
-    ∙ translation_keeps_the_first (values_by places) holds (orders_in_box (box_of places) (starts_of places))
+    ∙ translation_keeps_the_first (map value_by (scales_of places)) holds (orders_in_box (box_of places) (starts_of places))
