@@ -10,3 +10,5 @@ mod Steps
 mod Passes
 -- Points of ranges.
 mod Points
+-- Values of places.
+mod Scales

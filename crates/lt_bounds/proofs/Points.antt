@@ -20,13 +20,13 @@ lt_from : (c : ℤ) → int_lt (pos 0) c ≡ true → pos 0 <ℤ c
 lt_from c h = grind (arith, ints)
 
 -- a positive coefficient times a value that is at least another one
-mul_up : (a : ℕ) (v w : ℤ) → v ≤ℤ w → (pos a *ℤ v) ≤ℤ (pos a *ℤ w)
+pub mul_up : (a : ℕ) (v w : ℤ) → v ≤ℤ w → (pos a *ℤ v) ≤ℤ (pos a *ℤ w)
 mul_up a (pos v) (pos w) h = let m = mul-le-mul_left {m = v} {n = w} a (omega (arith, ints)) in omega (arith, ints)
 mul_up a (pos v) (negsuc w) h = absurd (omega (arith, ints))
 mul_up a (negsuc v) (pos w) h = omega (arith, ints)
 mul_up a (negsuc v) (negsuc w) h = let m = mul-le-mul_left {m = suc w} {n = suc v} a (omega (arith, ints)) in omega (arith, ints)
 
-mul_down : (a : ℕ) (v w : ℤ) → v ≤ℤ w → (negsuc a *ℤ w) ≤ℤ (negsuc a *ℤ v)
+pub mul_down : (a : ℕ) (v w : ℤ) → v ≤ℤ w → (negsuc a *ℤ w) ≤ℤ (negsuc a *ℤ v)
 mul_down a (pos v) (pos w) h = let m = mul-le-mul_left {m = v} {n = w} (suc a) (omega (arith, ints)) in omega (arith, ints)
 mul_down a (pos v) (negsuc w) h = absurd (omega (arith, ints))
 mul_down a (negsuc v) (pos w) h = omega (arith, ints)

@@ -1,14 +1,19 @@
 -- What the proofs of other crates may cite of this one.
-use Rattle.std.specs.Prelude.{◌≡◌, ◌*◌, ◌++◌, ◌<◌, ℕ, suc, List, [], ◌∷◌, length, slice_set, ℤ, pos, ◌*ℤ◌, ◌+ℤ◌, ◌≤ℤ◌}
+use Rattle.std.specs.Prelude.{◌≡◌, ◌*◌, ◌++◌, ◌<◌, ◌≤◌, unsigned_abs, ℕ, suc, List, [], ◌∷◌, length, slice_set, ℤ, pos, ◌*ℤ◌, ◌+ℤ◌, ◌≤ℤ◌}
 use Rattle.std.specs.Int.{int_div_euclid}
 use Rattle.lt_num.specs.Interval.{IsWithin}
 use Rattle.lt_num.specs.declared.interval.Interval.{Interval}
+use Rattle.lt_bounds.specs.Places.{IsScaled, values_within}
 use Rattle.lt_bounds.specs.Ranges.{range_at, AreSome, IsNarrower}
 use Rattle.lt_bounds.specs.Rows.{AreWhole, ReachesAll, rows_in}
 use Rattle.lt_bounds.specs.Tightening.{cut, least_of, greatest_of, NoPointIsLost}
 use Rattle.lt_bounds.proofs.Passes as passes
 use Rattle.lt_bounds.proofs.Points as points
+use Rattle.lt_bounds.proofs.Scales as scales
 use Rattle.lt_bounds.proofs.Steps as steps
+use Rattle.lt_formula.specs.Translation.{value_by}
+use Rattle.lt_formula.specs.declared.scale.Scale.{Scale}
+use Rattle.lt_num.specs.Bounds.{most_raw}
 
 -- a point that satisfies all rows stays inside
 pub no_point_is_lost : NoPointIsLost
@@ -65,3 +70,20 @@ inside_cut = points.inside_cut
 -- a value under a quotient that is rounded down
 pub quotient_under : (a : ℕ) (v x : ℤ) → (pos (suc a) *ℤ v) ≤ℤ x → v ≤ℤ int_div_euclid x (pos (suc a))
 quotient_under = points.under
+
+-- the value at a place lies between those at the ends of an interval of places ..
+pub values_rise : (scale : Scale) (places : Interval) (k : ℤ) → IsWithin places k → IsWithin (values_within scale places) (value_by scale k)
+values_rise = scales.values_rise
+
+-- .. which are in order and not past 10^12 in size
+pub values_in : (scale : Scale) (places : Interval) → IsScaled scale places
+    → ((values_within scale places).low ≤ℤ (values_within scale places).high) × (unsigned_abs (values_within scale places).low ≤ most_raw) × (unsigned_abs (values_within scale places).high ≤ most_raw)
+values_in = scales.values_in
+
+-- a part of an interval of places has the same scale
+pub scaled_part : (scale : Scale) (places part : Interval) → IsScaled scale places → places.low ≤ℤ part.low → part.low ≤ℤ part.high → part.high ≤ℤ places.high → IsScaled scale part
+scaled_part = scales.scaled_part
+
+-- and a place of it has a value that isn't past 10^12
+pub value_size : (scale : Scale) (places : Interval) (k : ℤ) → IsScaled scale places → IsWithin places k → unsigned_abs (value_by scale k) ≤ most_raw
+value_size = scales.value_size

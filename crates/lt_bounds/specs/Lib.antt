@@ -4,5 +4,7 @@ pub mod Ranges
 pub mod Rows
 -- The passes of tightening.
 pub mod Tightening
+-- Values of places.
+pub mod Places
 -- Words of private contracts.
 pub mod inner
