@@ -1,157 +1,106 @@
 -- One turn of a dive.
-use Rattle.std.proofs.Common.{◌≡◌, ℕ, zero, suc, ◌<◌, ◌≤◌, ◌++◌, Bool, List, [], ◌∷◌, length, map, take, set, get_or, Some, ℤ, pos, ◌≤ℤ◌, unsigned_abs, refl, ap, sym, ◌∙◌, subst, arith}
+use Rattle.std.proofs.Common.{◌≡◌, ℕ, zero, suc, ◌<◌, ◌≤◌, true, List, [], ◌∷◌, length, map, set, get_or, Some, ℤ, pos, ◌≤ℤ◌, refl, ap, sym, ◌∙◌, subst, unsigned_abs, arith}
 use Rattle.std.proofs.lemmas.Int.{ints}
-use Rattle.lt_bounds.proofs.Public.{narrower_length, narrower_same, narrower_set}
-use Rattle.lt_bounds.specs.Ranges.{AreSome, IsNarrower, range_at}
-use Rattle.lt_formula.specs.Solution.{IsPointOf, first_solution}
+use Rattle.std.proofs.lemmas.List.{length-set}
+use Rattle.lt_bounds.proofs.Public.{narrower_same, narrower_set}
+use Rattle.lt_bounds.specs.Places.{AreScaled}
+use Rattle.lt_bounds.specs.Ranges.{IsNarrower, range_at}
+use Rattle.lt_formula.specs.Box.{IsInBox, first_in_box}
+use Rattle.lt_formula.specs.Translation.{value_by, values_at}
+use Rattle.lt_formula.specs.declared.scale.Scale.{Scale}
 use Rattle.lt_num.specs.Bounds.{most_raw}
-use Rattle.lt_num.specs.Range.{IsWithin}
-use Rattle.lt_num.specs.declared.range.Range.{Range}
+use Rattle.lt_num.specs.Interval.{IsWithin}
+use Rattle.lt_num.specs.declared.interval.Interval.{Interval}
 use Rattle.lt_space.specs.CircuitView.{circuit_formulas}
 use Rattle.lt_space.specs.declared.circuit.Circuit.{Circuit}
 use Rattle.lt_propagation.specs.Domains.{AreDomains}
-use Rattle.lt_propagation.specs.Wide.{sign_at, wide}
-use Rattle.lt_solver.specs.inner.Dive.{Covers, test_of}
+use Rattle.lt_propagation.specs.Wide.{sign_at}
+use Rattle.lt_propagation.proofs.Boxes.{point_set, point_within, set_twice}
+use Rattle.lt_solver.specs.inner.Dive.{Covers, test_of, wide_at}
 use Rattle.lt_solver.specs.inner.Points.{AreFixed, first_raw}
 use Rattle.lt_solver.proofs.Firsts.{first_within, narrow_solution}
 use Rattle.lt_solver.proofs.Leads.{leads}
+use Rattle.lt_solver.proofs.Scaled.{scale_at, scaled_some, value_before, value_within}
 
-pub domains_some : (a : List Range) → AreDomains a → AreSome a
-domains_some [] d = tt
-domains_some (r ∷ a) d = (d.0.0, domains_some a d.1)
-
--- narrower ranges are domains too
-pub domains_narrower : (a b : List Range) → AreDomains a → IsNarrower a b → AreDomains b
-domains_narrower [] [] d n = tt
-domains_narrower [] (s ∷ b) d n = absurd n
-domains_narrower (r ∷ a) [] d n = absurd n
-domains_narrower (r ∷ a) (s ∷ b) d n = let own = d.0 in let ends = n.0 in ((ends.1, size s.low own.1 own.2 ends.0 ends.1 ends.2, size s.high own.1 own.2 (omega (arith, ints, ends.0, ends.1)) (omega (arith, ints)) ends.2), domains_narrower a b d.1 n.1)
-  where
-    size : (v : ℤ) → unsigned_abs r.low ≤ most_raw → unsigned_abs r.high ≤ most_raw → r.low ≤ℤ v → v ≤ℤ s.high → s.high ≤ℤ r.high → unsigned_abs v ≤ most_raw
-    size v h k l m n = omega (arith, ints)
-
-some_at : (ranges : List Range) (i : ℕ) → AreSome ranges → (range_at ranges i).low ≤ℤ (range_at ranges i).high
-some_at [] i s = omega (arith, ints)
-some_at (r ∷ rs) zero s = s.0
-some_at (r ∷ rs) (suc i) s = some_at rs i s.1
-
-point_long : (ranges : List Range) (values : List ℤ) → IsPointOf ranges values → length values ≡ length ranges
-point_long [] [] p = refl
-point_long [] (v ∷ vs) p = absurd p
-point_long (r ∷ rs) [] p = absurd p
-point_long (r ∷ rs) (v ∷ vs) p = ap suc (point_long rs vs p.1)
-
-point_within : (ranges : List Range) (values : List ℤ) (i : ℕ) → i < length ranges → IsPointOf ranges values → IsWithin (range_at ranges i) (get_or values i (pos 0))
-point_within [] values i l p = absurd (omega (arith, l))
-point_within (r ∷ rs) [] i l p = absurd p
-point_within (r ∷ rs) (v ∷ vs) zero l p = p.0
-point_within (r ∷ rs) (v ∷ vs) (suc i) l p = point_within rs vs i (omega (arith, l)) p.1
-
-point_set : (ranges : List Range) (values : List ℤ) (i : ℕ) (r : Range) → IsPointOf ranges values → IsWithin r (get_or values i (pos 0)) → IsPointOf (set ranges i r) values
-point_set [] [] i r p w = p
-point_set [] (v ∷ vs) i r p w = absurd p
-point_set (s ∷ rs) [] i r p w = absurd p
-point_set (s ∷ rs) (v ∷ vs) zero r p w = (w, p.1)
-point_set (s ∷ rs) (v ∷ vs) (suc i) r p w = (p.0, point_set rs vs i r p.1 w)
-
--- points of narrower ranges are points
-pub point_wider : (a b : List Range) (values : List ℤ) → IsNarrower a b → IsPointOf b values → IsPointOf a values
+-- points of narrower boxes are points
+pub point_wider : (a b : List Interval) (values : List ℤ) → IsNarrower a b → IsInBox b values → IsInBox a values
 point_wider [] [] values n p = p
 point_wider [] (s ∷ b) values n p = absurd n
 point_wider (r ∷ a) [] values n p = absurd n
 point_wider (r ∷ a) (s ∷ b) [] n p = absurd p
 point_wider (r ∷ a) (s ∷ b) (v ∷ vs) n p = let ends = n.0 in let w = p.0 in ((omega (arith, ints, ends.0, w.0), omega (arith, ints, ends.2, w.1)), point_wider a b vs n.1 p.1)
 
-pub narrower_take : (n : ℕ) (a b : List Range) → IsNarrower a b → IsNarrower (take n a) (take n b)
-narrower_take zero a b h = tt
-narrower_take (suc n) [] [] h = tt
-narrower_take (suc n) [] (s ∷ b) h = absurd h
-narrower_take (suc n) (r ∷ a) [] h = absurd h
-narrower_take (suc n) (r ∷ a) (s ∷ b) h = (h.0, narrower_take n a b h.1)
-
-pub point_prefix : (n : ℕ) (ranges : List Range) (values more : List ℤ) → length values ≡ n → IsPointOf ranges (values ++ more) → IsPointOf (take n ranges) values
-point_prefix zero ranges [] more e p = tt
-point_prefix zero ranges (v ∷ vs) more e p = absurd (omega (arith, e))
-point_prefix (suc n) ranges [] more e p = absurd (omega (arith, e))
-point_prefix (suc n) [] (v ∷ vs) more e p = absurd p
-point_prefix (suc n) (r ∷ rs) (v ∷ vs) more e p = (p.0, point_prefix n rs vs more (omega (arith, e)) p.1)
-
-get_before : (xs ys : List ℤ) (i : ℕ) → i < length xs → get_or (xs ++ ys) i (pos 0) ≡ get_or xs i (pos 0)
-get_before [] ys i l = absurd (omega (arith, l))
-get_before (x ∷ xs) ys zero l = refl
-get_before (x ∷ xs) ys (suc i) l = get_before xs ys i (omega (arith, l))
-
-take_set : (n i : ℕ) (ranges : List Range) (r : Range) → take n (set ranges i r) ≡ set (take n ranges) i r
-take_set zero i ranges r = refl
-take_set (suc n) i [] r = refl
-take_set (suc n) zero (s ∷ rs) r = refl
-take_set (suc n) (suc i) (s ∷ rs) r = ap (λ xs. s ∷ xs) (take_set n i rs r)
-
-take_at : (n i : ℕ) (ranges : List Range) → i < n → range_at (take n ranges) i ≡ range_at ranges i
-take_at zero i ranges l = absurd (omega (arith, l))
-take_at (suc n) i [] l = refl
-take_at (suc n) zero (r ∷ rs) l = refl
-take_at (suc n) (suc i) (r ∷ rs) l = take_at n i rs (omega (arith, l))
-
-pub take_long : (n : ℕ) (ranges : List Range) → n ≤ length ranges → length (take n ranges) ≡ n
-take_long zero ranges l = refl
-take_long (suc n) [] l = absurd (omega (arith, l))
-take_long (suc n) (r ∷ rs) l = ap suc (take_long n rs (omega (arith, l)))
-
-set_at : (ranges : List Range) (i : ℕ) (r : Range) → i < length ranges → range_at (set ranges i r) i ≡ r
+pub set_at : (box : List Interval) (i : ℕ) (r : Interval) → i < length box → range_at (set box i r) i ≡ r
 set_at [] i r l = absurd (omega (arith, l))
 set_at (s ∷ rs) zero r l = refl
 set_at (s ∷ rs) (suc i) r l = set_at rs i r (omega (arith, l))
 
--- fixed ranges stay fixed, and one more is
-fixed_more : (i : ℕ) (a b : List Range) (v : ℤ) → AreFixed i a → i < length a → IsNarrower (set a i (record { low = v; high = v })) b → AreFixed (suc i) b
-fixed_more i [] b v f l n = absurd (omega (arith, l))
-fixed_more zero (r ∷ a) [] v f l n = absurd n
-fixed_more zero (r ∷ a) (s ∷ b) v f l n = let ends = n.0 in (omega (arith, ints, ends.0, ends.1, ends.2), tt)
-fixed_more (suc i) (r ∷ a) [] v f l n = absurd n
-fixed_more (suc i) (r ∷ a) (s ∷ b) v f l n = let ends = n.0 in let same = f.0 in (omega (arith, ints, ends.0, ends.1, ends.2, same), fixed_more i a b v f.1 (omega (arith, l)) n.1)
+-- variables before one stay fixed when that one is narrowed ..
+fixed_before : (i : ℕ) (box : List Interval) (r : Interval) → AreFixed i box → AreFixed i (set box i r)
+fixed_before zero box r f = tt
+fixed_before (suc i) [] r f = tt
+fixed_before (suc i) (s ∷ rs) r f = (f.0, fixed_before i rs r f.1)
 
-module _ (decimals : ℕ) (circuit : Circuit) (root : ℕ) (targets : List ℤ) (ranges : List Range) (i : ℕ) (v : ℤ)
-    (within : i < length targets) (long : length targets ≤ length ranges) (d : AreDomains ranges) (is : v ≡ first_raw (get_or targets i (pos 0)) (range_at ranges i)) where
-  one : Range
-  one = record { low = v; high = v }
+-- .. and it is fixed too at one place
+pub fixed_more : (i : ℕ) (box : List Interval) (k : ℤ) → AreFixed i box → AreFixed (suc i) (set box i (record { low = k; high = k }))
+fixed_more i [] k f = tt
+fixed_more zero (s ∷ rs) k f = (refl, tt)
+fixed_more (suc i) (s ∷ rs) k f = (f.0, fixed_more i rs k f.1)
 
-  test : List ℤ → Bool
-  test = test_of decimals circuit root
+-- a range of one value that isn't past 10^12
+pub domains_one : (ranges : List Interval) (i : ℕ) (v : ℤ) → AreDomains ranges → unsigned_abs v ≤ most_raw → AreDomains (set ranges i (record { low = v; high = v }))
+domains_one [] i v d h = tt
+domains_one (r ∷ ranges) zero v d h = ((omega (arith, ints), h, h), d.1)
+domains_one (r ∷ ranges) (suc i) v d h = (d.0, domains_one ranges i v d.1 h)
 
-  inside : IsWithin (range_at ranges i) v
-  inside = subst (λ (z : ℤ). IsWithin (range_at ranges i) z) (sym is) (first_within (get_or targets i (pos 0)) (range_at ranges i).low (range_at ranges i).high (some_at ranges i (domains_some ranges d)))
+-- a variable is narrowed to the places that a wide box leaves to it, and fixed at the first of them
+module _ (decimals : ℕ) (circuit : Circuit) (root : ℕ) (scales : List Scale) (starts : List ℤ) (point ranges : List Interval) (i : ℕ) (places : Interval) (first : ℤ)
+    (scaled : AreScaled scales point) (many : length starts ≡ length point) (long : length point ≤ length ranges) (within : i < length starts)
+    (inside : ((range_at point i).low ≤ℤ places.low) × (places.low ≤ℤ places.high) × (places.high ≤ℤ (range_at point i).high))
+    (is : first ≡ first_raw (get_or starts i (pos 0)) places) where
+  here : i < length point
+  here = omega (arith, within, many)
 
-  pub fix_narrower : IsNarrower ranges (set ranges i (record { low = v; high = v }))
-  fix_narrower = narrower_set ranges ranges i (record { low = v; high = v }) (narrower_same ranges (domains_some ranges d)) (inside.0, omega (arith, ints), inside.1)
+  same : IsNarrower point point
+  same = narrower_same point (scaled_some scales point scaled)
 
-  pub fix_covers : Covers decimals circuit root (length targets) ranges → Covers decimals circuit root (length targets) (set ranges i (record { low = v; high = v }))
-  fix_covers covers values p h =
-      let old = point_wider (take (length targets) ranges) (take (length targets) (set ranges i (record { low = v; high = v }))) values (narrower_take (length targets) ranges _ fix_narrower) p in
-      let count = take_long (length targets) ranges long in
-      let all = point_long (take (length targets) ranges) values old in
-      let here = point_within (set (take (length targets) ranges) i (record { low = v; high = v })) values i (omega (arith, within, point_long _ values (subst (λ (rs : List Range). IsPointOf rs values) (take_set (length targets) i ranges (record { low = v; high = v })) p), all, count)) (subst (λ (rs : List Range). IsPointOf rs values) (take_set (length targets) i ranges (record { low = v; high = v })) p) in
-      let own = subst (λ (r : Range). IsWithin r (get_or values i (pos 0))) (set_at (take (length targets) ranges) i (record { low = v; high = v }) (omega (arith, within, count))) here in
-      point_set ranges (wide decimals circuit values) i (record { low = v; high = v }) (covers values old h)
-      (subst (λ (z : ℤ). IsWithin (record { low = v; high = v }) z) (sym (get_before values (map (sign_at decimals values) (circuit_formulas circuit)) i (omega (arith, within, all, count)))) own)
+  left_narrower : IsNarrower point (set point i places)
+  left_narrower = narrower_set point point i places same inside
 
-  pub fix_leads : AreFixed i (take (length targets) ranges) → (x : List ℤ) → first_solution (test_of decimals circuit root) (take (length targets) (set ranges i (record { low = v; high = v }))) targets ≡ Some x → first_solution (test_of decimals circuit root) (take (length targets) ranges) targets ≡ Some x
-  fix_leads f x h =
-      let count = take_long (length targets) ranges long in
-      let same = take_at (length targets) i ranges within in
-      leads (test_of decimals circuit root) (take (length targets) ranges) targets i v x f (omega (arith, within, count)) (sym count)
-      (subst (λ (r : Range). r.low ≤ℤ r.high) (sym same) (some_at ranges i (domains_some ranges d))) (is ∙ ap (first_raw (get_or targets i (pos 0))) (sym same))
-      (subst (λ (rs : List Range). first_solution (test_of decimals circuit root) rs targets ≡ Some x) (take_set (length targets) i ranges (record { low = v; high = v })) h)
+  first_inside : IsWithin places first
+  first_inside = subst (λ (z : ℤ). IsWithin places z) (sym is) (first_within (get_or starts i (pos 0)) places.low places.high inside.1)
 
-  -- a propagated box
-  module _ (new : List Range) (n : IsNarrower (set ranges i (record { low = v; high = v })) new) (kept : (values : List ℤ) → IsPointOf (set ranges i (record { low = v; high = v })) (wide decimals circuit values) → IsPointOf new (wide decimals circuit values)) where
-    pub propagated_covers : Covers decimals circuit root (length targets) ranges → Covers decimals circuit root (length targets) new
-    propagated_covers covers values p h = kept values (fix_covers covers values (point_wider _ (take (length targets) new) values (narrower_take (length targets) _ new n) p) h)
+  pub first_there : IsWithin (range_at point i) first
+  first_there = let w = first_inside in (omega (arith, ints, w.0, inside.0), omega (arith, ints, w.1, inside.2))
 
-    pub propagated_leads : Covers decimals circuit root (length targets) ranges → AreFixed i (take (length targets) ranges) → (x : List ℤ) → first_solution (test_of decimals circuit root) (take (length targets) new) targets ≡ Some x → first_solution (test_of decimals circuit root) (take (length targets) ranges) targets ≡ Some x
-    propagated_leads covers f x h =
-        fix_leads f x (narrow_solution (test_of decimals circuit root) (take (length targets) (set ranges i (record { low = v; high = v }))) (take (length targets) new) targets (narrower_take (length targets) _ new n)
-        (λ values p t. point_prefix (length targets) new values (map (sign_at decimals values) (circuit_formulas circuit)) (point_long _ values p ∙ take_long (length targets) _ (omega (arith, long, narrower_length ranges _ fix_narrower))) (kept values (fix_covers covers values p t))) ∙ h)
+  pub fix_narrower : IsNarrower point (set point i (record { low = first; high = first }))
+  fix_narrower = let w = first_there in narrower_set point point i (record { low = first; high = first }) same (w.0, omega (arith, ints), w.1)
 
-    pub propagated_fixed : AreFixed i (take (length targets) ranges) → AreFixed (suc i) (take (length targets) new)
-    propagated_fixed f = fixed_more i (take (length targets) ranges) (take (length targets) new) v f (omega (arith, within, take_long (length targets) ranges long)) (subst (λ (rs : List Range). IsNarrower rs (take (length targets) new)) (take_set (length targets) i ranges (record { low = v; high = v })) (narrower_take (length targets) _ new n))
+  -- a wide box that covers the box covers that at the value of the place
+  pub fix_covers : (value : ℤ) → value ≡ value_by (scale_at scales i) first → Covers decimals circuit root scales point ranges → Covers decimals circuit root scales (set point i (record { low = first; high = first })) (set ranges i (record { low = value; high = value }))
+  fix_covers value told covers ks p h =
+      let old = point_wider point (set point i (record { low = first; high = first })) ks fix_narrower p in
+      let own = subst (λ (r : Interval). IsWithin r (get_or ks i (pos 0))) (set_at point i (record { low = first; high = first }) here)
+      (point_within (set point i (record { low = first; high = first })) ks i (omega (arith, here, length-set point i (record { low = first; high = first }))) p) in
+      let same_place : get_or ks i (pos 0) ≡ first = omega (arith, ints, own.0, own.1) in
+      let same_value : get_or (wide_at decimals circuit scales ks) i (pos 0) ≡ value = value_before scales point ks (map (sign_at decimals (values_at scales ks)) (circuit_formulas circuit)) i scaled old here ∙ ap (value_by (scale_at scales i)) same_place ∙ sym told in
+      point_set ranges (wide_at decimals circuit scales ks) i (record { low = value; high = value }) (covers ks old h) (omega (arith, ints, same_value), omega (arith, ints, same_value))
+
+  -- what is narrowed so has the places that pass
+  module _ (covers : Covers decimals circuit root scales point ranges)
+      (kept : (place : ℤ) → IsWithin (range_at point i) place → IsWithin (range_at ranges i) (value_by (scale_at scales i) place) → IsWithin places place) where
+    left_kept : (ks : List ℤ) → IsInBox point ks → test_of decimals circuit root scales ks ≡ true → IsInBox (set point i places) ks
+    left_kept ks p h =
+        point_set point ks i places p
+        (kept (get_or ks i (pos 0)) (point_within point ks i here p)
+        (value_within scales point ranges ks (map (sign_at decimals (values_at scales ks)) (circuit_formulas circuit)) i scaled p here long (covers ks p h)))
+
+    -- and where it is fixed, a solution leads
+    pub fix_leads : AreFixed i point → (x : List ℤ) → first_in_box (test_of decimals circuit root scales) (set point i (record { low = first; high = first })) starts ≡ Some x → first_in_box (test_of decimals circuit root scales) point starts ≡ Some x
+    fix_leads fixed x h =
+        let count = length-set point i places in
+        let there = set_at point i places here in
+        narrow_solution (test_of decimals circuit root scales) point (set point i places) starts left_narrower left_kept
+        ∙ leads (test_of decimals circuit root scales) (set point i places) starts i first x (fixed_before i point places fixed) (omega (arith, here, count)) (omega (arith, many, count))
+        (subst (λ (r : Interval). r.low ≤ℤ r.high) (sym there) inside.1) (is ∙ ap (first_raw (get_or starts i (pos 0))) (sym there))
+        (subst (λ (box : List Interval). first_in_box (test_of decimals circuit root scales) box starts ≡ Some x) (sym (set_twice point i places (record { low = first; high = first }))) h)

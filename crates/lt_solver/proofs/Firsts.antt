@@ -5,37 +5,38 @@ use Rattle.std.specs.Int.{int_min, int_max}
 use Rattle.std.specs.declared.option.Option.{Option}
 use Rattle.std.proofs.lemmas.Int.{ints, clamps, by_lt_z}
 use Rattle.lt_bounds.specs.Ranges.{AreSome, IsNarrower, range_at}
-use Rattle.lt_formula.specs.Solution.{IsPointOf, behind, first_among, first_solution, first_some, or_else, raws_from, with_first}
+use Rattle.lt_formula.specs.Box.{IsInBox, first_in_box, raws_from}
+use Rattle.lt_formula.specs.First.{behind, first_among, first_some, or_else, with_first}
 use Rattle.lt_num.proofs.Public.{raws_of-more, raws_of-none}
-use Rattle.lt_num.specs.Range.{IsWithin, raws_of}
+use Rattle.lt_num.specs.Interval.{IsWithin, raws_of}
 use Rattle.lt_solver.specs.inner.Points.{AreFixed, first_point, first_raw}
-use Rattle.lt_num.specs.declared.range.Range.{Range}
+use Rattle.lt_num.specs.declared.interval.Interval.{Interval}
 use Rattle.lt_solver.proofs.Order.{range_of, or_else-none, first_some-append, none_from, narrow_from, from_below, from_above}
 
 -- no point passes
-pub none_passes : (holds : List ℤ → Bool) (ranges : List Range) (targets : List ℤ) → ((values : List ℤ) → IsPointOf ranges values → holds values ≡ false) → first_solution holds ranges targets ≡ None
-unfolding first_solution first_among
+pub none_passes : (holds : List ℤ → Bool) (ranges : List Interval) (targets : List ℤ) → ((values : List ℤ) → IsInBox ranges values → holds values ≡ false) → first_in_box holds ranges targets ≡ None
+unfolding first_in_box first_among
 none_passes holds [] targets h = ap (λ b. if b then Some [] else None) (h [] tt)
 none_passes holds (r ∷ rs) [] h = refl
 none_passes holds (r ∷ rs) (t ∷ ts) h =
-    none_from (λ v. with_first v (first_solution (behind holds v) rs ts)) t r.low r.high
+    none_from (λ v. with_first v (first_in_box (behind holds v) rs ts)) t r.low r.high
     (λ v low high. ap (with_first v) (none_passes (behind holds v) rs ts (λ vs p. h (v ∷ vs) ((low, high), p))))
 
 -- narrower ranges with each point that passes
-pub narrow_solution : (holds : List ℤ → Bool) (ranges new : List Range) (targets : List ℤ) → IsNarrower ranges new → ((values : List ℤ) → IsPointOf ranges values → holds values ≡ true → IsPointOf new values)
-    → first_solution holds ranges targets ≡ first_solution holds new targets
-unfolding first_solution first_among
+pub narrow_solution : (holds : List ℤ → Bool) (ranges new : List Interval) (targets : List ℤ) → IsNarrower ranges new → ((values : List ℤ) → IsInBox ranges values → holds values ≡ true → IsInBox new values)
+    → first_in_box holds ranges targets ≡ first_in_box holds new targets
+unfolding first_in_box first_among
 narrow_solution holds [] [] targets n k = refl
 narrow_solution holds [] (s ∷ ss) targets n k = absurd n
 narrow_solution holds (r ∷ rs) [] targets n k = absurd n
 narrow_solution holds (r ∷ rs) (s ∷ ss) [] n k = refl
 narrow_solution holds (r ∷ rs) (s ∷ ss) (t ∷ ts) n k =
     let ends = n.0 in
-    narrow_from (λ v. with_first v (first_solution (behind holds v) rs ts)) (λ v. with_first v (first_solution (behind holds v) ss ts)) t r.low r.high s.low s.high ends.0 ends.2
+    narrow_from (λ v. with_first v (first_in_box (behind holds v) rs ts)) (λ v. with_first v (first_in_box (behind holds v) ss ts)) t r.low r.high s.low s.high ends.0 ends.2
     (λ v low high out. ap (with_first v) (none_passes (behind holds v) rs ts (λ vs p. fails v vs low high p out (holds (v ∷ vs)) refl)))
     (λ v low high. ap (with_first v) (narrow_solution (behind holds v) rs ss ts n.1 (λ vs p h. (k (v ∷ vs) ((omega (arith, ints, ends.0), omega (arith, ints, ends.2)), p) h).1)))
   where
-    fails : (v : ℤ) (vs : List ℤ) → r.low ≤ℤ v → v ≤ℤ r.high → IsPointOf rs vs → (v <ℤ s.low) ⊎ (s.high <ℤ v) → (b : Bool) → holds (v ∷ vs) ≡ b → holds (v ∷ vs) ≡ false
+    fails : (v : ℤ) (vs : List ℤ) → r.low ≤ℤ v → v ≤ℤ r.high → IsInBox rs vs → (v <ℤ s.low) ⊎ (s.high <ℤ v) → (b : Bool) → holds (v ∷ vs) ≡ b → holds (v ∷ vs) ≡ false
     fails v vs low high p out false e = e
     fails v vs low high p (inl under) true e = let w = (k (v ∷ vs) ((low, high), p) e).0 in absurd (omega (arith, ints, w.0))
     fails v vs low high p (inr over) true e = let w = (k (v ∷ vs) ((low, high), p) e).0 in absurd (omega (arith, ints, w.1))
@@ -55,27 +56,27 @@ with_first-or v None b = refl
 with_first-or v (Some vs) b = refl
 
 -- Behind variables with one number each, a variable's range may be split.
-pub split_solution : (holds : List ℤ → Bool) (ranges : List Range) (targets : List ℤ) (i : ℕ) (first second : Range) → AreFixed i ranges → i < length ranges → length targets ≡ length ranges
+pub split_solution : (holds : List ℤ → Bool) (ranges : List Interval) (targets : List ℤ) (i : ℕ) (first second : Interval) → AreFixed i ranges → i < length ranges → length targets ≡ length ranges
     → raws_from (get_or targets i (pos 0)) (range_at ranges i) ≡ raws_from (get_or targets i (pos 0)) first ++ raws_from (get_or targets i (pos 0)) second
-    → first_solution holds ranges targets ≡ or_else (first_solution holds (set ranges i first) targets) (first_solution holds (set ranges i second) targets)
-unfolding first_solution first_among
+    → first_in_box holds ranges targets ≡ or_else (first_in_box holds (set ranges i first) targets) (first_in_box holds (set ranges i second) targets)
+unfolding first_in_box first_among
 split_solution holds [] targets i first second f l e parts = absurd (omega (arith, l))
 split_solution holds (r ∷ rs) [] i first second f l e parts = absurd (omega (arith, e))
 split_solution holds (r ∷ rs) (t ∷ ts) zero first second f l e parts =
-    ap (first_some (λ v. with_first v (first_solution (behind holds v) rs ts))) parts
-    ∙ first_some-append (λ v. with_first v (first_solution (behind holds v) rs ts)) (raws_from t first) (raws_from t second)
+    ap (first_some (λ v. with_first v (first_in_box (behind holds v) rs ts))) parts
+    ∙ first_some-append (λ v. with_first v (first_in_box (behind holds v) rs ts)) (raws_from t first) (raws_from t second)
 split_solution holds (r ∷ rs) (t ∷ ts) (suc i) first second f l e parts =
     let one = fixed_raws t r.low r.high f.0 in
     let rest = split_solution (behind holds r.low) rs ts i first second f.1 (omega (arith, l)) (omega (arith, e)) parts in
-    ap (first_some (λ v. with_first v (first_solution (behind holds v) rs ts))) one
-    ∙ or_else-none (with_first r.low (first_solution (behind holds r.low) rs ts))
+    ap (first_some (λ v. with_first v (first_in_box (behind holds v) rs ts))) one
+    ∙ or_else-none (with_first r.low (first_in_box (behind holds r.low) rs ts))
     ∙ ap (with_first r.low) rest
-    ∙ with_first-or r.low (first_solution (behind holds r.low) (set rs i first) ts) (first_solution (behind holds r.low) (set rs i second) ts)
-    ∙ ap (λ o. or_else o (with_first r.low (first_solution (behind holds r.low) (set rs i second) ts))) (sym (alone (set rs i first)))
-    ∙ ap (or_else (first_some (λ v. with_first v (first_solution (behind holds v) (set rs i first) ts)) (raws_from t r))) (sym (alone (set rs i second)))
+    ∙ with_first-or r.low (first_in_box (behind holds r.low) (set rs i first) ts) (first_in_box (behind holds r.low) (set rs i second) ts)
+    ∙ ap (λ o. or_else o (with_first r.low (first_in_box (behind holds r.low) (set rs i second) ts))) (sym (alone (set rs i first)))
+    ∙ ap (or_else (first_some (λ v. with_first v (first_in_box (behind holds v) (set rs i first) ts)) (raws_from t r))) (sym (alone (set rs i second)))
   where
-    alone : (ss : List Range) → first_some (λ v. with_first v (first_solution (behind holds v) ss ts)) (raws_from t r) ≡ with_first r.low (first_solution (behind holds r.low) ss ts)
-    alone ss = ap (first_some (λ v. with_first v (first_solution (behind holds v) ss ts))) (fixed_raws t r.low r.high f.0) ∙ or_else-none (with_first r.low (first_solution (behind holds r.low) ss ts))
+    alone : (ss : List Interval) → first_some (λ v. with_first v (first_in_box (behind holds v) ss ts)) (raws_from t r) ≡ with_first r.low (first_in_box (behind holds r.low) ss ts)
+    alone ss = ap (first_some (λ v. with_first v (first_in_box (behind holds v) ss ts))) (fixed_raws t r.low r.high f.0) ∙ or_else-none (with_first r.low (first_in_box (behind holds r.low) ss ts))
 
 -- the first of some numbers by another name
 renamed : (xs : List ℤ) (a b : ℤ) (rest : List ℤ) → xs ≡ a ∷ rest → b ≡ a → xs ≡ b ∷ rest
@@ -111,8 +112,8 @@ first_within t low high some = by_over (int_lt high t) refl
     by_over false e = let h = over e in (omega (arith, ints, clamps), omega (arith, ints, clamps))
 
 -- every point passes
-pub all_pass : (holds : List ℤ → Bool) (ranges : List Range) (targets : List ℤ) → AreSome ranges → length targets ≡ length ranges → ((values : List ℤ) → IsPointOf ranges values → holds values ≡ true) → first_solution holds ranges targets ≡ Some (first_point targets ranges)
-unfolding first_solution first_among
+pub all_pass : (holds : List ℤ → Bool) (ranges : List Interval) (targets : List ℤ) → AreSome ranges → length targets ≡ length ranges → ((values : List ℤ) → IsInBox ranges values → holds values ≡ true) → first_in_box holds ranges targets ≡ Some (first_point targets ranges)
+unfolding first_in_box first_among
 all_pass holds [] [] s e h = ap (λ b. if b then Some [] else None) (h [] tt)
 all_pass holds [] (t ∷ ts) s e h = absurd (omega (arith, e))
 all_pass holds (r ∷ rs) [] s e h = absurd (omega (arith, e))
@@ -120,5 +121,5 @@ all_pass holds (r ∷ rs) (t ∷ ts) s e h =
     let first = first_is t r.low r.high s.0 in
     let w = first_within t r.low r.high s.0 in
     let rest = all_pass (behind holds (first_raw t r)) rs ts s.1 (omega (arith, e)) (λ vs p. h (first_raw t r ∷ vs) (w, p)) in
-    ap (first_some (λ v. with_first v (first_solution (behind holds v) rs ts))) first.1
-    ∙ ap (λ o. or_else (with_first (first_raw t r) o) (first_some (λ v. with_first v (first_solution (behind holds v) rs ts)) first.0)) rest
+    ap (first_some (λ v. with_first v (first_in_box (behind holds v) rs ts))) first.1
+    ∙ ap (λ o. or_else (with_first (first_raw t r) o) (first_some (λ v. with_first v (first_in_box (behind holds v) rs ts)) first.0)) rest

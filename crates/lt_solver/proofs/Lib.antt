@@ -18,7 +18,13 @@ mod Decided
 mod Classes
 -- One turn of the search.
 mod Turns
--- The ranges of a scope.
-mod Scopes
+-- Boxes of places, and the values that they tell.
+mod Scaled
+-- The places of variables.
+mod PlacedLemmas
+-- Lists that code writes.
+mod Written
+-- What a search over places finds of points.
+mod Found
 -- What answers say of points.
 mod Tellings

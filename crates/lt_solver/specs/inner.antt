@@ -5,4 +5,5 @@ pub mod Dive
 pub mod Levels
 pub mod Classified
 pub mod Split
+pub mod Placed
 pub mod Roomy

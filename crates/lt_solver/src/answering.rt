@@ -1,22 +1,28 @@
 //! Answers within a budget.
 
-ghost use Rattle.std.specs.Prelude.{◌≡◌, ◌≤◌, ℕ, false, length, slice_index_or, vec_capacity};
+ghost use Rattle.std.specs.Prelude.{◌≡◌, ◌≤◌, IsTrue, ℕ, false, length, slice_index_or, vec_capacity};
+ghost use Rattle.lt_bounds.specs.Places.{AreScaled};
 ghost use Rattle.lt_formula.specs.Limits.{most_variables};
-ghost use Rattle.lt_formula.specs.Solution.{first_solution};
-ghost use Rattle.lt_propagation.specs.Domains.{AreDomains};
-ghost use Rattle.lt_space.specs.CircuitView.{circuit_len};
+ghost use Rattle.lt_formula.specs.Solution.{IsPointOf, first_solution};
+ghost use Rattle.lt_formula.specs.Translation.{box_of, scales_of, starts_of, values_at};
 ghost use Rattle.lt_need.specs.Need.{need};
-ghost use Rattle.lt_space.specs.Scope.{range_in, ranges_in};
-ghost use Rattle.lt_space.specs.SpaceView.{space_circuit, space_formula};
+ghost use Rattle.lt_space.specs.CircuitView.{circuit_len};
+ghost use Rattle.lt_space.specs.Formula.{holds};
+ghost use Rattle.lt_space.specs.Scope.{ranges_in};
+ghost use Rattle.lt_space.specs.SpaceView.{space_circuit, space_decimals, space_formula};
 ghost use Rattle.lt_solver.specs.Answers.{Tells};
-ghost use Rattle.lt_solver.specs.inner.Classified.{passes};
-ghost use Rattle.lt_solver.specs.inner.Points.{first_point, first_raw};
+ghost use Rattle.lt_solver.specs.Domains.{are_domains};
+ghost use Rattle.lt_solver.specs.inner.Placed.{all_places};
+ghost use Rattle.lt_solver.specs.inner.Points.{first_point};
 ghost use Rattle.lt_solver.specs.inner.Roomy.{IsRoomy};
 
 use crate::classifying::BoxRoom;
+use crate::placing::{first_raw, places_of};
 use crate::search::search;
+use lt_bounds::value_at;
+use lt_formula::Scale;
 use lt_need::measure;
-use lt_num::Range;
+use lt_num::{Interval, Range};
 use lt_propagation::find_ties;
 use lt_space::Space;
 
@@ -36,11 +42,17 @@ pub enum Answer {
 /// Room for searches over some variables.
 #[derive(Drop)]
 pub(crate) struct Room {
-    /// The box at hand.
-    pub(crate) current: Vec<Range>,
+    /// How places tell the values of each variable.
+    pub(crate) scales: Vec<Scale>,
+
+    /// The place of each variable to begin at.
+    pub(crate) starts: Vec<i64>,
+
+    /// The box at hand, of places.
+    pub(crate) current: Vec<Interval>,
 
     /// The boxes that are left.
-    pub(crate) stack: Vec<Range>,
+    pub(crate) stack: Vec<Interval>,
 
     /// Room for what is found of a box.
     pub(crate) boxes: BoxRoom,
@@ -55,24 +67,27 @@ pub(crate) struct Room {
     pub(crate) need: lt_need::Room,
 }
 
-/// Finds the first solution of a space within the ranges of a scope, in the order from targets, where the need is
-/// within the budget, and writes it. No memory is taken here.
+/// Finds the first solution of a space within the ranges of a scope, in the order from targets and downward where a mark
+/// says so, where the need is within the budget, and writes it. No memory is taken here.
 pub(crate) fn answer_within(
     space: &Space,
     scope: &[bool],
     ranges: &[Range],
     targets: &[i64],
+    down: &[bool],
     budget: u64,
     room: &mut Room,
     values: &mut [i64],
 ) -> Answer
-    requires domains { AreDomains ranges.now }
+    requires domains { IsTrue (are_domains ranges.now) }
     requires few { length ranges.now ≤ most_variables }
     requires targets { length targets.now ≡ length ranges.now }
+    requires points { IsPointOf ranges.now targets.now }
     requires values { length values.old ≡ length ranges.now }
     requires roomy { IsRoomy (length ranges.now) (circuit_len (space_circuit space.now)) room.old }
     ensures tells { Tells result values.new
-        (first_solution (passes space.now) (ranges_in scope.now ranges.now) targets.now)
+        (first_solution (λ vs. holds (space_decimals space.now) vs (space_formula space.now))
+        (ranges_in scope.now ranges.now) targets.now down.now)
         (need (space_formula space.now) scope.now ranges.now) budget }
     ensures roomy { (gates : ℕ) → IsRoomy (length ranges.now) gates room.old →
         IsRoomy (length ranges.now) gates room.new }
@@ -83,7 +98,15 @@ pub(crate) fn answer_within(
     if need > u128::from(budget) {
         return Answer::Budget(need);
     }
-    write_ranges(scope, ranges, &mut room.current);
+    write_places(
+        scope,
+        ranges,
+        targets,
+        down,
+        &mut room.scales,
+        &mut room.current,
+        &mut room.starts,
+    );
     find_ties(space.circuit(), &mut room.latest, &mut room.same);
     room.boxes
         .refuter
@@ -92,69 +115,76 @@ pub(crate) fn answer_within(
     if search(
         space,
         &room.same,
-        targets,
+        &room.scales,
+        &room.starts,
         &room.need.hard()[..targets.len()],
         u64::try_from(need).unwrap_or(budget),
         &mut room.current,
         &mut room.stack,
         &mut room.boxes,
     ) {
-        write_first(targets, &room.current, values);
+        write_first(&room.scales, &room.starts, &room.current, values);
         Answer::Solution
     } else {
         Answer::Unsat
     }
 }
 
-// Writes the ranges of a scope.
-fn write_ranges(scope: &[bool], ranges: &[Range], current: &mut Vec<Range>)
-    requires { length current.old.items ≡ length ranges.now }
-    ensures { current.new.items ≡ ranges_in scope.now ranges.now }
+// Writes the scales, the box and the starts of the places of all variables, in reserved room.
+fn write_places(
+    scope: &[bool],
+    ranges: &[Range],
+    targets: &[i64],
+    down: &[bool],
+    scales: &mut Vec<Scale>,
+    current: &mut Vec<Interval>,
+    starts: &mut Vec<i64>,
+)
+    requires domains { IsTrue (are_domains ranges.now) }
+    requires targets { length targets.now ≡ length ranges.now }
+    requires points { IsPointOf ranges.now targets.now }
+    requires scales { length ranges.now ≤ vec_capacity scales.old }
+    requires current { length ranges.now ≤ vec_capacity current.old }
+    requires starts { length ranges.now ≤ vec_capacity starts.old }
+    ensures scales { scales.new.items ≡
+        scales_of (all_places scope.now ranges.now targets.now down.now) }
+    ensures current { current.new.items ≡
+        box_of (all_places scope.now ranges.now targets.now down.now) }
+    ensures starts { starts.new.items ≡
+        starts_of (all_places scope.now ranges.now targets.now down.now) }
+    ensures scales_room { vec_capacity scales.new ≡ vec_capacity scales.old }
+    ensures current_room { vec_capacity current.new ≡ vec_capacity current.old }
+    ensures starts_room { vec_capacity starts.new ≡ vec_capacity starts.old }
 {
-    for i in 0..current.len() {
-        current[i] = range_in(mark_at(scope, i), ranges[i]);
+    scales.clear();
+    current.clear();
+    starts.clear();
+    for i in 0..ranges.len() {
+        let places = places_of(mark_at(scope, i), mark_at(down, i), ranges[i], targets[i]);
+        scales.push_reserved(places.scale);
+        current.push_reserved(places.interval);
+        starts.push_reserved(places.start);
     }
 }
 
-// Whether a variable is in a scope.
-fn mark_at(scope: &[bool], variable: usize) -> bool
-    ensures { result ≡ slice_index_or scope.now variable false }
+// The mark of a variable; where there is none, it is false.
+fn mark_at(marks: &[bool], variable: usize) -> bool
+    ensures { result ≡ slice_index_or marks.now variable false }
 {
-    match scope.get(variable) {
+    match marks.get(variable) {
         Some(mark) => *mark,
         None => false,
     }
 }
 
-// The range of a variable, by whether it is in scope.
-fn range_in(is_in: bool, range: Range) -> Range
-    ensures { result ≡ range_in is_in range }
-{
-    if is_in {
-        range
-    } else {
-        Range { low: 0, high: 0 }
-    }
-}
-
-// Writes the first point of some ranges.
-fn write_first(targets: &[i64], ranges: &[Range], values: &mut [i64])
-    requires targets { length targets.now ≡ length ranges.now }
-    requires values { length values.old ≡ length ranges.now }
-    ensures { values.new ≡ first_point targets.now ranges.now }
+// Writes the values of the first point of a box of places.
+fn write_first(scales: &[Scale], starts: &[i64], places: &[Interval], values: &mut [i64])
+    requires scaled { AreScaled scales.now places.now }
+    requires starts { length starts.now ≡ length places.now }
+    requires values { length values.old ≡ length places.now }
+    ensures { values.new ≡ values_at scales.now (first_point starts.now places.now) }
 {
     for i in 0..values.len() {
-        values[i] = first_raw(targets[i], ranges[i]);
-    }
-}
-
-// The first number of a range.
-fn first_raw(target: i64, range: Range) -> i64
-    ensures { result ≡ first_raw target range }
-{
-    if range.high < target {
-        range.low
-    } else {
-        range.low.max(target)
+        values[i] = value_at(scales[i], first_raw(starts[i], places[i]));
     }
 }

@@ -1,8 +1,9 @@
 //! What is found of a box.
 
-ghost use Rattle.std.specs.Prelude.{◌≡◌, ◌<◌, ◌≤◌, ◌+◌, ◌++◌, ◌<ℤ◌, List, ℤ, length, take, true, false, replicate, pos, negsuc, MatchOption, Some, vec_capacity};
+ghost use Rattle.std.specs.Prelude.{◌≡◌, ◌<◌, ◌≤◌, ◌+◌, ◌++◌, ◌<ℤ◌, List, ℤ, length, true, false, replicate, pos, negsuc, MatchOption, Some, vec_capacity};
+ghost use Rattle.lt_bounds.specs.Places.{AreScaled, values_in_box};
 ghost use Rattle.lt_bounds.specs.Ranges.{AreSome, IsNarrower, range_at};
-ghost use Rattle.lt_formula.specs.Solution.{IsPointOf, first_solution};
+ghost use Rattle.lt_formula.specs.Box.{IsInBox, first_in_box};
 ghost use Rattle.lt_space.specs.CircuitView.{circuit_len};
 ghost use Rattle.lt_space.specs.SpaceView.{space_circuit, space_decimals, space_formula, space_root};
 ghost use Rattle.lt_propagation.specs.Domains.{AreDomains};
@@ -14,9 +15,9 @@ ghost use Rattle.lt_solver.specs.inner.Points.{AreFixed, first_point};
 ghost use Rattle.lt_solver.specs.inner.Classified.{Classifies, passes};
 
 use crate::diving::dive;
-use crate::widening::{copy_box, propagate_box, widen};
-use lt_formula::Memory;
-use lt_num::Range;
+use crate::widening::{copy_box, propagate_box, widen, write_values};
+use lt_formula::{Memory, Scale};
+use lt_num::Interval;
 use lt_propagation::{Kleene, Propagator, evaluate, refute};
 use lt_space::Space;
 use std::alloc::Global;
@@ -27,10 +28,10 @@ pub(crate) enum BoxStatus {
     /// It has no solution.
     Infeasible,
 
-    /// All its points are solutions, or its first point is the first solution.
+    /// Its first point is the first solution.
     Solved,
 
-    /// It may have some. The variables before this one have one number each, and this one has several.
+    /// It may have some. The variables before this one have one place each, and this one has several.
     Undecided(usize),
 }
 
@@ -42,8 +43,11 @@ const MOST_KEPT: usize = 1 << 20;
 /// Room for what is found of boxes.
 #[derive(Drop)]
 pub(crate) struct BoxRoom {
-    /// A box with the signs of all gates.
-    pub(crate) widened: Vec<Range>,
+    /// The values of a box with the signs of all gates.
+    pub(crate) widened: Vec<Interval>,
+
+    /// The box that a dive ends at.
+    pub(crate) point: Vec<Interval>,
 
     /// Room for a dive and for the refuter.
     pub(crate) refuter: lt_propagation::Room,
@@ -65,6 +69,7 @@ impl BoxRoom {
         let kept = places.saturating_mul(MOST_BOXES).min(MOST_KEPT);
         Ok(BoxRoom {
             widened: Vec::with_capacity(alloc, places)?,
+            point: Vec::with_capacity(alloc, variables)?,
             refuter: lt_propagation::Room {
                 current: Vec::with_capacity(alloc, places)?,
                 stack: Vec::with_capacity(alloc, kept)?,
@@ -83,74 +88,85 @@ impl BoxRoom {
 pub(crate) fn classify(
     space: &Space,
     same: &[u32],
-    targets: &[i64],
+    scales: &[Scale],
+    starts: &[i64],
     hard: &[bool],
     steps: u64,
-    current: &mut [Range],
+    current: &mut [Interval],
     room: &mut BoxRoom,
 ) -> BoxStatus
     requires ties { AreTies (space_circuit space.now) same.now }
-    requires domains { AreDomains current.old }
-    requires targets { length targets.now ≡ length current.old }
+    requires scaled { AreScaled scales.now current.old }
+    requires starts { length starts.now ≡ length current.old }
     requires hard { length hard.now ≡ length current.old }
     requires widened { length current.old + circuit_len (space_circuit space.now) ≤
         vec_capacity room.old.widened }
+    requires point { length current.old ≤ vec_capacity room.old.point }
     requires copy { length current.old + circuit_len (space_circuit space.now) ≤
         vec_capacity room.old.refuter.current }
     requires kleenes { circuit_len (space_circuit space.now) ≤
         vec_capacity room.old.refuter.kleenes }
-    ensures sees { Classifies (passes space.now) targets.now current.old current.new result }
+    ensures sees { Classifies (passes space.now scales.now) starts.now current.old current.new
+        result }
     ensures narrower { IsNarrower current.old current.new }
     ensures widened { vec_capacity room.old.widened ≤ vec_capacity room.new.widened }
+    ensures point { vec_capacity room.old.point ≤ vec_capacity room.new.point }
     ensures copy { vec_capacity room.old.refuter.current ≤ vec_capacity room.new.refuter.current }
     ensures kleenes { vec_capacity room.new.refuter.kleenes ≡
         vec_capacity room.old.refuter.kleenes }
 {
-    widen(space, current, &mut room.widened);
+    widen(space, scales, current, &mut room.widened);
     classify_widened(
         space,
         same,
-        targets,
+        scales,
+        starts,
         hard,
         steps,
         &mut room.widened,
         current,
+        &mut room.point,
         &mut room.refuter,
     )
 }
 
-// What is found of a box that has any signs of the gates behind it.
+// What is found of a box whose values have any signs of the gates behind them.
 fn classify_widened(
     space: &Space,
     same: &[u32],
-    targets: &[i64],
+    scales: &[Scale],
+    starts: &[i64],
     hard: &[bool],
     steps: u64,
-    widened: &mut [Range],
-    current: &mut [Range],
+    widened: &mut [Interval],
+    current: &mut [Interval],
+    point: &mut Vec<Interval>,
     room: &mut lt_propagation::Room,
 ) -> BoxStatus
     requires ties { AreTies (space_circuit space.now) same.now }
-    requires domains { AreDomains current.old }
-    requires targets { length targets.now ≡ length current.old }
+    requires scaled { AreScaled scales.now current.old }
+    requires starts { length starts.now ≡ length current.old }
     requires hard { length hard.now ≡ length current.old }
-    requires widened { widened.old ≡ current.old ++
+    requires widened { widened.old ≡ values_in_box scales.now current.old ++
         replicate (circuit_len (space_circuit space.now)) (record { low = negsuc 0; high = pos 1 }) }
+    requires point { length current.old ≤ vec_capacity point.old }
     requires copy { length current.old + circuit_len (space_circuit space.now) ≤
         vec_capacity room.old.current }
     requires kleenes { circuit_len (space_circuit space.now) ≤ vec_capacity room.old.kleenes }
-    ensures sees { Classifies (passes space.now) targets.now current.old current.new result }
+    ensures sees { Classifies (passes space.now scales.now) starts.now current.old current.new
+        result }
     ensures narrower { IsNarrower current.old current.new }
+    ensures point { vec_capacity point.old ≤ vec_capacity point.new }
     ensures copy { vec_capacity room.old.current ≤ vec_capacity room.new.current }
     ensures kleenes { vec_capacity room.new.kleenes ≡ vec_capacity room.old.kleenes }
 {
-    if !propagate_box(space, same, current, widened, &mut room.propagator) {
+    if !propagate_box(space, same, scales, current, widened, &mut room.propagator) {
         return BoxStatus::Infeasible;
     }
     match first_open(current) {
-        None => classify_point(space, targets, current, &mut room.kleenes),
+        None => classify_point(space, scales, starts, current, room),
         Some(variable) => classify_propagated(
-            space, same, targets, hard, steps, variable, widened, current, room,
+            space, same, scales, starts, hard, steps, variable, widened, current, point, room,
         ),
     }
 }
@@ -158,18 +174,22 @@ fn classify_widened(
 // What is found of a box of one point.
 fn classify_point(
     space: &Space,
-    targets: &[i64],
-    current: &[Range],
-    kleenes: &mut Vec<Kleene>,
+    scales: &[Scale],
+    starts: &[i64],
+    current: &[Interval],
+    room: &mut lt_propagation::Room,
 ) -> BoxStatus
-    requires domains { AreDomains current.now }
-    requires targets { length targets.now ≡ length current.now }
+    requires scaled { AreScaled scales.now current.now }
+    requires starts { length starts.now ≡ length current.now }
     requires fixed { AreFixed (length current.now) current.now }
-    requires room { circuit_len (space_circuit space.now) ≤ vec_capacity kleenes.old }
-    ensures sees { Classifies (passes space.now) targets.now current.now current.now result }
-    ensures room { vec_capacity kleenes.new ≡ vec_capacity kleenes.old }
+    requires copy { length current.now ≤ vec_capacity room.old.current }
+    requires kleenes { circuit_len (space_circuit space.now) ≤ vec_capacity room.old.kleenes }
+    ensures sees { Classifies (passes space.now scales.now) starts.now current.now current.now
+        result }
+    ensures copy { vec_capacity room.new.current ≡ vec_capacity room.old.current }
+    ensures kleenes { vec_capacity room.new.kleenes ≡ vec_capacity room.old.kleenes }
 {
-    match kleene_within(space, current, kleenes) {
+    match kleene_within(space, scales, current, &mut room.current, &mut room.kleenes) {
         Kleene::False => BoxStatus::Infeasible,
         Kleene::True => BoxStatus::Solved,
         Kleene::Unknown => unreachable!(),
@@ -180,44 +200,41 @@ fn classify_point(
 fn classify_propagated(
     space: &Space,
     same: &[u32],
-    targets: &[i64],
+    scales: &[Scale],
+    starts: &[i64],
     hard: &[bool],
     steps: u64,
     variable: usize,
-    widened: &[Range],
-    current: &mut [Range],
+    widened: &[Interval],
+    current: &mut [Interval],
+    point: &mut Vec<Interval>,
     room: &mut lt_propagation::Room,
 ) -> BoxStatus
     requires ties { AreTies (space_circuit space.now) same.now }
-    requires targets { length targets.now ≡ length current.old }
+    requires scaled { AreScaled scales.now current.old }
+    requires starts { length starts.now ≡ length current.old }
     requires hard { length hard.now ≡ length current.old }
     requires variable { (variable < length current.old) × AreFixed variable current.old ×
         ((range_at current.old variable).low <ℤ (range_at current.old variable).high) }
-    requires start { take (length current.old) widened.now ≡ current.old }
     requires covers { Covers (space_decimals space.now) (space_circuit space.now)
-        (space_root space.now) (length current.old) widened.now }
+        (space_root space.now) scales.now current.old widened.now }
     requires long { length widened.now ≡
         length current.old + circuit_len (space_circuit space.now) }
     requires domains { AreDomains widened.now }
+    requires point { length current.old ≤ vec_capacity point.old }
     requires copy { length current.old + circuit_len (space_circuit space.now) ≤
         vec_capacity room.old.current }
     requires kleenes { circuit_len (space_circuit space.now) ≤ vec_capacity room.old.kleenes }
-    ensures sees { Classifies (passes space.now) targets.now current.old current.new result }
+    ensures sees { Classifies (passes space.now scales.now) starts.now current.old current.new
+        result }
     ensures narrower { IsNarrower current.old current.new }
+    ensures point { vec_capacity point.old ≤ vec_capacity point.new }
     ensures copy { vec_capacity room.old.current ≤ vec_capacity room.new.current }
     ensures kleenes { vec_capacity room.new.kleenes ≡ vec_capacity room.old.kleenes }
 {
     copy_box(widened, &mut room.current);
-    if dive_within(
-        space,
-        same,
-        targets,
-        widened,
-        &mut room.current,
-        current,
-        &mut room.kleenes,
-        &mut room.propagator,
-    ) {
+    copy_box(current, point);
+    if dive_within(space, same, scales, starts, current, point, room) {
         return BoxStatus::Solved;
     }
     copy_box(widened, &mut room.current);
@@ -241,7 +258,7 @@ fn is_refuted(
     requires domains { AreDomains room.old.current.items }
     requires kleenes { circuit_len (space_circuit space.now) ≤ vec_capacity room.old.kleenes }
     ensures refuted { result ≡ true → (values : List ℤ) →
-        IsPointOf room.old.current.items
+        IsInBox room.old.current.items
         (wide (space_decimals space.now) (space_circuit space.now) values) → ⊥ }
     ensures capacity { vec_capacity room.new.current ≡ vec_capacity room.old.current }
     ensures kleenes { vec_capacity room.new.kleenes ≡ vec_capacity room.old.kleenes }
@@ -257,39 +274,48 @@ fn is_refuted(
     )
 }
 
-// Whether a dive from a copy of a propagated box ends at a solution: then that is its first one, and the box becomes that point.
+// Whether a dive from a copy of a propagated box, whose values are at hand, ends at a solution: then that is its first one, and
+// the box becomes that point.
 fn dive_within(
     space: &Space,
     same: &[u32],
-    targets: &[i64],
-    widened: &[Range],
-    copy: &mut [Range],
-    current: &mut [Range],
-    kleenes: &mut Vec<Kleene>,
-    propagator: &mut Propagator,
+    scales: &[Scale],
+    starts: &[i64],
+    current: &mut [Interval],
+    point: &mut [Interval],
+    room: &mut lt_propagation::Room,
 ) -> bool
     requires ties { AreTies (space_circuit space.now) same.now }
-    requires targets { length targets.now ≡ length current.old }
-    requires start { take (length current.old) widened.now ≡ current.old }
+    requires scaled { AreScaled scales.now current.old }
+    requires starts { length starts.now ≡ length current.old }
+    requires point { point.old ≡ current.old }
     requires covers { Covers (space_decimals space.now) (space_circuit space.now)
-        (space_root space.now) (length current.old) widened.now }
-    requires long { length widened.now ≡
+        (space_root space.now) scales.now current.old room.old.current.items }
+    requires long { length room.old.current.items ≡
         length current.old + circuit_len (space_circuit space.now) }
-    requires domains { AreDomains widened.now }
-    requires copied { copy.old ≡ widened.now }
-    requires kleenes { circuit_len (space_circuit space.now) ≤ vec_capacity kleenes.old }
+    requires domains { AreDomains room.old.current.items }
+    requires copy { length current.old ≤ vec_capacity room.old.current }
+    requires kleenes { circuit_len (space_circuit space.now) ≤ vec_capacity room.old.kleenes }
     ensures found { result ≡ true →
-        first_solution (passes space.now) current.old targets.now ≡
-        Some (first_point targets.now current.new) }
+        first_in_box (passes space.now scales.now) current.old starts.now ≡
+        Some (first_point starts.now current.new) }
     ensures stays { result ≡ false → current.new ≡ current.old }
     ensures narrower { IsNarrower current.old current.new }
-    ensures kleenes { vec_capacity kleenes.new ≡ vec_capacity kleenes.old }
+    ensures copy { vec_capacity room.new.current ≡ vec_capacity room.old.current }
+    ensures kleenes { vec_capacity room.new.kleenes ≡ vec_capacity room.old.kleenes }
 {
-    if !is_dived(space, same, targets, copy, propagator) {
+    if !is_dived(
+        space,
+        same,
+        scales,
+        starts,
+        point,
+        &mut room.current,
+        &mut room.propagator,
+    ) {
         return false;
     }
-    let point = &copy[..targets.len()];
-    match kleene_within(space, point, kleenes) {
+    match kleene_within(space, scales, point, &mut room.current, &mut room.kleenes) {
         Kleene::False => false,
         Kleene::Unknown => false,
         Kleene::True => {
@@ -299,61 +325,75 @@ fn dive_within(
     }
 }
 
-// Fixes each variable at its first number in turn; says whether every one could be fixed.
+// Fixes each variable at its first place in turn; says whether every one could be fixed.
 fn is_dived(
     space: &Space,
     same: &[u32],
-    targets: &[i64],
-    copy: &mut [Range],
+    scales: &[Scale],
+    starts: &[i64],
+    point: &mut [Interval],
+    ranges: &mut [Interval],
     propagator: &mut Propagator,
 ) -> bool
     requires ties { AreTies (space_circuit space.now) same.now }
-    requires long { length copy.old ≡ length targets.now + circuit_len (space_circuit space.now) }
-    requires domains { AreDomains copy.old }
+    requires scaled { AreScaled scales.now point.old }
+    requires starts { length starts.now ≡ length point.old }
+    requires long { length ranges.old ≡ length point.old + circuit_len (space_circuit space.now) }
+    requires domains { AreDomains ranges.old }
     requires covers { Covers (space_decimals space.now) (space_circuit space.now)
-        (space_root space.now) (length targets.now) copy.old }
+        (space_root space.now) scales.now point.old ranges.old }
     ensures leads { result ≡ true →
-        Leads (passes space.now) targets.now (length targets.now) copy.old copy.new }
-    ensures narrower { IsNarrower copy.old copy.new }
-    ensures domains { AreDomains copy.new }
+        Leads (passes space.now scales.now) starts.now point.old point.new }
+    ensures narrower { IsNarrower point.old point.new }
 {
     dive(
         space.circuit(),
         same,
         space.root(),
         space.decimals(),
-        targets,
-        copy,
+        scales,
+        starts,
+        point,
+        ranges,
         propagator,
     )
 }
 
-// What is known of the formula over a box.
-fn kleene_within(space: &Space, ranges: &[Range], kleenes: &mut Vec<Kleene>) -> Kleene
-    requires domains { AreDomains ranges.now }
+// What is known of the formula over the values of a box, for which there is room.
+fn kleene_within(
+    space: &Space,
+    scales: &[Scale],
+    places: &[Interval],
+    values: &mut Vec<Interval>,
+    kleenes: &mut Vec<Kleene>,
+) -> Kleene
+    requires scaled { AreScaled scales.now places.now }
+    requires values { length places.now ≤ vec_capacity values.old }
     requires room { circuit_len (space_circuit space.now) ≤ vec_capacity kleenes.old }
-    ensures value { result ≡ kleene_of (space_decimals space.now) ranges.now
-        (space_formula space.now) }
+    ensures value { result ≡ kleene_of (space_decimals space.now)
+        (values_in_box scales.now places.now) (space_formula space.now) }
+    ensures values { vec_capacity values.new ≡ vec_capacity values.old }
     ensures room { vec_capacity kleenes.new ≡ vec_capacity kleenes.old }
 {
+    write_values(scales, places, values);
     evaluate(
         space.circuit(),
         space.root(),
         space.decimals(),
-        ranges,
+        values,
         kleenes,
     )
 }
 
-// The first variable with several numbers.
-fn first_open(ranges: &[Range]) -> Option<usize>
-    requires { AreSome ranges.now }
-    ensures { MatchOption result (AreFixed (length ranges.now) ranges.now) (λ i.
-        (i < length ranges.now) × AreFixed i ranges.now ×
-        ((range_at ranges.now i).low <ℤ (range_at ranges.now i).high)) }
+// The first variable with several places.
+fn first_open(places: &[Interval]) -> Option<usize>
+    requires { AreSome places.now }
+    ensures { MatchOption result (AreFixed (length places.now) places.now) (λ i.
+        (i < length places.now) × AreFixed i places.now ×
+        ((range_at places.now i).low <ℤ (range_at places.now i).high)) }
 {
-    for i in 0..ranges.len() {
-        if ranges[i].low < ranges[i].high {
+    for i in 0..places.len() {
+        if places[i].low < places[i].high {
             return Some(i);
         }
     }

@@ -1,55 +1,66 @@
-//! A dive: one variable after another is fixed at its first number.
+//! A dive: one variable after another is fixed at its first place.
 
-ghost use Rattle.std.specs.Prelude.{◌≡◌, ◌<◌, ◌≤◌, ◌+◌, Bool, List, Some, ℤ, length, pos, slice_index_or, slice_set, take, true};
-ghost use Rattle.lt_bounds.specs.Ranges.{IsNarrower, range_at};
-ghost use Rattle.lt_formula.specs.Solution.{IsPointOf, first_solution};
-ghost use Rattle.lt_num.specs.Bounds.{most_decimals};
+ghost use Rattle.std.specs.Prelude.{◌≡◌, ◌<◌, ◌≤◌, ◌+◌, length, slice_set, true, unsigned_abs};
+ghost use Rattle.lt_bounds.specs.Places.{AreScaled};
+ghost use Rattle.lt_bounds.specs.Ranges.{IsNarrower};
+ghost use Rattle.lt_num.specs.Bounds.{most_decimals, most_raw};
 ghost use Rattle.lt_space.specs.CircuitView.{circuit_len};
 ghost use Rattle.lt_propagation.specs.Domains.{AreDomains};
 ghost use Rattle.lt_propagation.specs.Ties.{AreTies};
 ghost use Rattle.lt_propagation.specs.Wide.{Keeps};
-ghost use Rattle.lt_solver.specs.inner.Points.{AreFixed, first_raw};
+ghost use Rattle.lt_solver.specs.inner.Points.{AreFixed};
 ghost use Rattle.lt_solver.specs.inner.Dive.{Covers, Leads, test_of};
 
-use lt_num::Range;
+use crate::placing::first_raw;
+use lt_bounds::{places_within, value_at};
+use lt_formula::Scale;
+use lt_num::Interval;
 use lt_propagation::{Propagator, propagate};
 use lt_space::Circuit;
 
-/// Fixes each variable at its first number in turn, and propagates the box after each; says whether every one could be fixed.
+/// Fixes each variable of a box of places at the first one whose value a wide box leaves to it, in turn, and propagates the wide
+/// box after each; says whether every one could be fixed.
 pub(crate) fn dive(
     circuit: &Circuit,
     same: &[u32],
     root: u32,
     decimals: u32,
-    targets: &[i64],
-    ranges: &mut [Range],
+    scales: &[Scale],
+    starts: &[i64],
+    point: &mut [Interval],
+    ranges: &mut [Interval],
     propagator: &mut Propagator,
 ) -> bool
     requires ties { AreTies circuit.now same.now }
     requires root { root < circuit_len circuit.now }
     requires decimals { decimals ≤ most_decimals }
-    requires long { length ranges.old ≡ length targets.now + circuit_len circuit.now }
+    requires scaled { AreScaled scales.now point.old }
+    requires starts { length starts.now ≡ length point.old }
+    requires long { length ranges.old ≡ length point.old + circuit_len circuit.now }
     requires domains { AreDomains ranges.old }
-    requires covers { Covers decimals circuit.now root (length targets.now) ranges.old }
+    requires covers { Covers decimals circuit.now root scales.now point.old ranges.old }
     ensures leads { result ≡ true →
-        Leads (test_of decimals circuit.now root) targets.now (length targets.now) ranges.old
-        ranges.new }
-    ensures fixed { result ≡ true →
-        AreFixed (length targets.now) (take (length targets.now) ranges.new) }
-    ensures narrower { IsNarrower ranges.old ranges.new }
-    ensures domains { AreDomains ranges.new }
+        Leads (test_of decimals circuit.now root scales.now) starts.now point.old point.new }
+    ensures fixed { result ≡ true → AreFixed (length starts.now) point.new }
+    ensures narrower { IsNarrower point.old point.new }
 {
-    for i in 0..targets.len() {
-        let was_fixed = ranges[i].low == ranges[i].high;
-        fix(i, targets[i], ranges);
+    for i in 0..starts.len() {
+        let Some(places) = places_within(scales[i], point[i], ranges[i]) else {
+            return false;
+        };
+        let first = first_raw(starts[i], places);
+        point[i] = Interval {
+            low: first,
+            high: first,
+        };
         if !propagate_fixed(
             circuit,
             same,
             root,
             decimals,
-            targets.len(),
+            starts.len(),
             i,
-            was_fixed,
+            value_at(scales[i], first),
             ranges,
             propagator,
         ) {
@@ -59,60 +70,37 @@ pub(crate) fn dive(
     true
 }
 
-// Narrows a box in which a variable was fixed; where it had one number before, nothing new follows.
+// Fixes the value of a variable in a wide box and propagates that; where it had one value before, nothing new follows.
 fn propagate_fixed(
     circuit: &Circuit,
     same: &[u32],
     root: u32,
     decimals: u32,
     count: usize,
-    place: usize,
-    was_fixed: bool,
-    ranges: &mut [Range],
+    variable: usize,
+    value: i64,
+    ranges: &mut [Interval],
     propagator: &mut Propagator,
 ) -> bool
     requires ties { AreTies circuit.now same.now }
     requires root { root < circuit_len circuit.now }
     requires decimals { decimals ≤ most_decimals }
     requires long { length ranges.old ≡ count + circuit_len circuit.now }
+    requires within { variable < count }
+    requires value { unsigned_abs value ≤ most_raw }
     requires domains { AreDomains ranges.old }
-    ensures keeps { Keeps decimals circuit.now result ranges.old ranges.new }
-    ensures narrower { IsNarrower ranges.old ranges.new }
+    ensures keeps { Keeps decimals circuit.now result
+        (slice_set ranges.old variable (record { low = value; high = value })) ranges.new }
     ensures domains { AreDomains ranges.new }
 {
+    let was_fixed = ranges[variable].low == ranges[variable].high;
+    ranges[variable] = Interval {
+        low: value,
+        high: value,
+    };
     if was_fixed {
         return true;
     }
-    propagator.note(place);
+    propagator.note(variable);
     propagate(circuit, same, root, decimals, count, ranges, propagator)
-}
-
-// Fixes a variable at its first number.
-fn fix(place: usize, target: i64, ranges: &mut [Range])
-    requires within { place < length ranges.old }
-    requires domains { AreDomains ranges.old }
-    ensures fixed { ranges.new ≡
-        slice_set ranges.old place
-        (record {
-          low = first_raw target (range_at ranges.old place);
-          high = first_raw target
-              (range_at ranges.old place);
-        }) }
-{
-    let first = first_raw(target, ranges[place]);
-    ranges[place] = Range {
-        low: first,
-        high: first,
-    };
-}
-
-// The first number of a range.
-fn first_raw(target: i64, range: Range) -> i64
-    ensures { result ≡ first_raw target range }
-{
-    if range.high < target {
-        range.low
-    } else {
-        range.low.max(target)
-    }
 }

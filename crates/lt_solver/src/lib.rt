@@ -1,19 +1,22 @@
-//! The first solution of a formula over ranges of raw numbers, by an exact search.
+//! The first solution of a formula over ranges of raw numbers, each with a step and a direction, by an exact search.
 //!
 //! A [`Workspace`] keeps the ranges of variables and room for searches. [`Workspace::first_from`] finds the first point at
 //! which the formula of a [`Space`](lt_space::Space) holds: each variable in turn has the first number, in the order from
-//! its target, with which those before it extend to such a point. The [`Answer`] is the need of the search exactly where
-//! that is over the budget. No memory is taken but by [`Workspace::make`].
+//! its target upward or downward, with which those before it extend to such a point. The [`Answer`] is the need of the search
+//! exactly where that is over the budget. No memory is taken but by [`Workspace::make`].
 //!
-//! The search goes over boxes of points, depth first in the order from the targets. Each box is classified: what the formula
-//! says of it narrows it, a dive along the first numbers may end at its first solution, and a reason may be found why it has
-//! none; else it is split. `specs/Answers.antt` says what is answered.
+//! The points of a range are told by places, which are whole numbers: how they tell values is a
+//! [`Scale`](lt_formula::Scale), whose slope is the step, or minus the step where the variable goes downward. The search goes
+//! over boxes of places, depth first in the order from the places of the targets. Each box is classified: what the formula
+//! says of its values narrows it, a dive along the first places may end at its first solution, and a reason may be found why
+//! it has none; else it is split. `specs/Answers.antt` says what is answered.
 #![tactic(auto)]
 
 mod answering;
 mod classifying;
 mod diving;
 mod laws;
+mod placing;
 mod search;
 mod splitting;
 mod widening;

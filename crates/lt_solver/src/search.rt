@@ -1,20 +1,21 @@
-//! The search: boxes are classified and split, depth first, in the order from the targets.
+//! The search: boxes of places are classified and split, depth first, in the order from the starts.
 
 ghost use Rattle.std.specs.Prelude.{◌≡◌, ◌*◌, ◌+◌, ◌-◌, ◌≤◌, true, drop, take, length, List, Some, None, ℤ, if◌then◌else◌, vec_len, vec_capacity};
+ghost use Rattle.lt_bounds.specs.Places.{AreScaled};
 ghost use Rattle.lt_bounds.specs.Ranges.{IsNarrower};
+ghost use Rattle.lt_formula.specs.Box.{first_in_box};
 ghost use Rattle.lt_formula.specs.Limits.{most_variables};
-ghost use Rattle.lt_formula.specs.Solution.{first_solution};
 ghost use Rattle.lt_space.specs.CircuitView.{circuit_len};
 ghost use Rattle.lt_space.specs.SpaceView.{space_circuit};
 ghost use Rattle.lt_propagation.specs.Ties.{AreTies};
-ghost use Rattle.lt_propagation.specs.Domains.{AreDomains};
 ghost use Rattle.lt_solver.specs.inner.Levels.{levels_of};
 ghost use Rattle.lt_solver.specs.inner.Points.{first_point};
 ghost use Rattle.lt_solver.specs.inner.Classified.{passes};
 
 use crate::classifying::{BoxRoom, BoxStatus, classify};
 use crate::splitting::split_box;
-use lt_num::Range;
+use lt_formula::Scale;
+use lt_num::Interval;
 use lt_space::Space;
 
 /// Finds the first solution within a box, which is then the first point of `current`; the answer says whether there
@@ -22,31 +23,34 @@ use lt_space::Space;
 pub(crate) fn search(
     space: &Space,
     same: &[u32],
-    targets: &[i64],
+    scales: &[Scale],
+    starts: &[i64],
     hard: &[bool],
     steps: u64,
-    current: &mut [Range],
-    stack: &mut Vec<Range>,
+    current: &mut [Interval],
+    stack: &mut Vec<Interval>,
     room: &mut BoxRoom,
 ) -> bool
-    requires domains { AreDomains current.old }
+    requires scaled { AreScaled scales.now current.old }
     requires few { length current.old ≤ most_variables }
-    requires targets { length targets.now ≡ length current.old }
+    requires starts { length starts.now ≡ length current.old }
     requires ties { AreTies (space_circuit space.now) same.now }
     requires hard { length hard.now ≡ length current.old }
-    requires stack { levels_of targets.now current.old * length current.old ≤
+    requires stack { levels_of starts.now current.old * length current.old ≤
         vec_capacity stack.old }
     requires widened { length current.old + circuit_len (space_circuit space.now) ≤
         vec_capacity room.old.widened }
+    requires point { length current.old ≤ vec_capacity room.old.point }
     requires copy { length current.old + circuit_len (space_circuit space.now) ≤
         vec_capacity room.old.refuter.current }
     requires kleenes { circuit_len (space_circuit space.now) ≤
         vec_capacity room.old.refuter.kleenes }
-    ensures found { first_solution (passes space.now) current.old targets.now ≡
-        (if result then Some (first_point targets.now current.new) else None) }
+    ensures found { first_in_box (passes space.now scales.now) current.old starts.now ≡
+        (if result then Some (first_point starts.now current.new) else None) }
     ensures narrower { IsNarrower current.old current.new }
     ensures stack { vec_capacity stack.old ≤ vec_capacity stack.new }
     ensures widened { vec_capacity room.old.widened ≤ vec_capacity room.new.widened }
+    ensures point { vec_capacity room.old.point ≤ vec_capacity room.new.point }
     ensures copy { vec_capacity room.old.refuter.current ≤ vec_capacity room.new.refuter.current }
     ensures kleenes { vec_capacity room.new.refuter.kleenes ≡
         vec_capacity room.old.refuter.kleenes }
@@ -54,10 +58,10 @@ pub(crate) fn search(
     stack.clear();
     let mut height: usize = 0;
     'boxes: loop {
-        match classify(space, same, targets, hard, steps, current, room) {
+        match classify(space, same, scales, starts, hard, steps, current, room) {
             BoxStatus::Solved => return true,
             BoxStatus::Undecided(variable) => {
-                split_box(variable, targets, current, stack);
+                split_box(variable, starts, current, stack);
                 height += 1;
             }
             BoxStatus::Infeasible => {
@@ -72,7 +76,7 @@ pub(crate) fn search(
 }
 
 // Takes the box that is on top of a stack.
-fn take_box(current: &mut [Range], stack: &mut Vec<Range>)
+fn take_box(current: &mut [Interval], stack: &mut Vec<Interval>)
     requires { length current.old ≤ vec_len stack.old }
     ensures current { current.new ≡ drop (vec_len stack.old - length current.old) stack.old.items }
     ensures stack { stack.new.items ≡

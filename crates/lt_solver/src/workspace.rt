@@ -28,7 +28,7 @@ pub struct Workspace {
 }
 
 impl Workspace {
-    ghost use Rattle.lt_formula.specs.Solution.{first_solution};
+    ghost use Rattle.lt_formula.specs.Solution.{IsPointOf, first_solution};
     ghost use Rattle.lt_space.specs.CircuitView.{circuit_len};
     ghost use Rattle.lt_space.specs.Formula.{holds};
     ghost use Rattle.lt_need.specs.Need.{need};
@@ -38,7 +38,8 @@ impl Workspace {
     ghost use Rattle.lt_solver.specs.WorkspaceView.{workspace_gates, workspace_ranges, workspace_values};
 
     /// A workspace for variables of these ranges, one for each output and then one for each local, and for circuits
-    /// of up to so many gates. There are at most 128 ranges, each has a raw number, and none past 10^12 in size.
+    /// of up to so many gates. There are at most 128 ranges; each has a point and a step of at least 1, and none of its
+    /// numbers is past 10^12 in size.
     ///
     /// # Errors
     ///
@@ -49,7 +50,7 @@ impl Workspace {
         ensures ranges { IfOk result (λ w. workspace_ranges w ≡ ranges.now) }
         ensures gates { IfOk result (λ w. gates ≤ workspace_gates w) }
     {
-        let room = make_room(alloc, ranges, gates)?;
+        let room = make_room(alloc, ranges.len(), gates)?;
         Ok(Workspace {
             ranges: copied(alloc, ranges)?,
             room,
@@ -58,8 +59,10 @@ impl Workspace {
     }
 
     /// Finds the first point at which the formula of a space holds: each variable in turn has the first number, in
-    /// the order from its target up and then from its low end up, with which those before it extend to such a point.
-    /// The scope has a mark for each variable; one that isn't in it has 0 alone. There is a target for each variable.
+    /// the order from its target up and then from its low end up, with which those before it extend to such a point;
+    /// a variable with a mark in `down` goes downward, from its target down and then from its last point down.
+    /// The scope has a mark for each variable; one that isn't in it has 0 alone. There is a target for each variable,
+    /// which is a point of its range. Where there is no mark of a direction, the variable goes upward.
     ///
     /// The need of the search is compared with the budget first. Where it is greater, and only there, it is the
     /// answer. No memory is taken here.
@@ -68,14 +71,16 @@ impl Workspace {
         space: &Space,
         scope: &[bool],
         targets: &[i64],
+        down: &[bool],
         budget: u64,
     ) -> Answer
         requires targets { length targets.now ≡ length (workspace_ranges self.old) }
+        requires points { IsPointOf (workspace_ranges self.old) targets.now }
         requires room { circuit_len (space_circuit space.now) ≤ workspace_gates self.old }
         ensures tells { Tells result (workspace_values self.new)
             (first_solution (λ vs.
             holds (space_decimals space.now) vs (space_formula space.now))
-            (ranges_in scope.now (workspace_ranges self.old)) targets.now)
+            (ranges_in scope.now (workspace_ranges self.old)) targets.now down.now)
             (need (space_formula space.now) scope.now (workspace_ranges self.old)) budget }
         ensures ranges { workspace_ranges self.new ≡ workspace_ranges self.old }
         ensures gates { workspace_gates self.new ≡ workspace_gates self.old }
@@ -85,6 +90,7 @@ impl Workspace {
             scope,
             &self.ranges,
             targets,
+            down,
             budget,
             &mut self.room,
             &mut self.values,
@@ -99,16 +105,17 @@ impl Workspace {
     }
 }
 
-// Room for searches within some ranges, for circuits of up to so many gates.
-fn make_room(alloc: Global, ranges: &[Range], gates: usize) -> Result<Room, Memory>
-    requires few { length ranges.now ≤ most_variables }
+// Room for searches over so many variables, for circuits of up to so many gates.
+fn make_room(alloc: Global, count: usize, gates: usize) -> Result<Room, Memory>
+    requires few { count ≤ most_variables }
     ensures roomy { IfOk result (λ room.
-        IsRoomy (length ranges.now) (vec_capacity room.boxes.refuter.kleenes) room) }
+        IsRoomy count (vec_capacity room.boxes.refuter.kleenes) room) }
     ensures gates { IfOk result (λ room. gates ≤ vec_capacity room.boxes.refuter.kleenes) }
 {
-    let count = ranges.len();
     Ok(Room {
-        current: copied(alloc, ranges)?,
+        scales: Vec::with_capacity(alloc, count)?,
+        starts: Vec::with_capacity(alloc, count)?,
+        current: Vec::with_capacity(alloc, count)?,
         stack: Vec::with_capacity(alloc, count * 42 * count)?,
         boxes: BoxRoom::make(alloc, count, gates)?,
         latest: vec![in alloc; 0; LATEST]?,

@@ -3,6 +3,8 @@ use Rattle.lt_solver.proofs.workspace.make_room.Goals as goal
 
 pub returns-clause-roomy : goal.returns-clause-roomy
 returns-clause-roomy c = record {
+  scales = search rules;
+  starts = search rules;
   current = search rules;
   stack = search rules;
   wide = search rules;
