@@ -76,9 +76,9 @@ module _ (m : Moment) (p : Process ℕ) where
   first = first_stop (stops_at m) (order (word_of m) 0 (valued (weigher_of m) (offered_by m p)))
 
   -- the leaf that is due
-  pub due_is : due_leaf (taken_in (scene_of m) m.words.now.seed m.budget here m.inputs.now) ≡ option_map (outlook_of m) first
+  pub due_is : due_leaf (taken_in (scene_of m) m.words.now.seed m.draw m.budget here m.inputs.now) ≡ option_map (outlook_of m) first
   due_is =
-      ap (λ (t : Judged). due_leaf (taken_of (is_over (scene_of m) m.budget) (draw_of (word_of m) (is_live (scene_of m) (word_of m)) t))) judged_is
+      ap (λ (t : Judged). due_leaf (taken_of (is_over (scene_of m) m.budget) (draw_of (word_of m) (is_live (scene_of m) m.draw (word_of m)) t))) judged_is
       ∙ taken_first m spelled_out
       ∙ ap (first_stop (stops_of m)) (same_order meaning (with_constraints meaning) (worth_of m) (word_of m) 0 (offered_by m p))
       ∙ (λ i. first_stop (stops_of m) (map (λ s. same_outlook s i) (order (word_of m) 0 (valued (weigher_of m) (offered_by m p)))))
@@ -110,7 +110,7 @@ module _ (m : Moment) (e : Explorer) (grow : StepsGrowByOne) (path : List ℕ) w
 
   module _ (leaves : LeavesAgree) (p : Process ℕ) (same : tree_by m e ≡ valued (weigher_of m) (offered_by m p)) where
     pub found_due : (s : Spot) → first m p ≡ Some s → lazy.leaf_of (lazy.below (valued (weigher_of m) (offered_by m p)) path) ≡ Some s → HasFound m path e
-        → IsDue m.scenario.now m.words.now.seed m.budget (configuration_in m p) m.inputs.now e
+        → IsDue m.scenario.now m.words.now.seed m.draw m.budget (configuration_in m p) m.inputs.now e
     found_due s is at h =
         let there : lazy.leaf_of (lazy.below (tree_by m e) path) ≡ Some s = ap (λ t. lazy.leaf_of (lazy.below t path)) same ∙ at in
         let spot = leaves (weigher_of m) (offered_by m (process_of e)) path h.reached (held path e.walk) (track.next e.track) s h.follows there in
@@ -122,7 +122,7 @@ module _ (m : Moment) (e : Explorer) (grow : StepsGrowByOne) (path : List ℕ) w
         }
 
     draws_by : (o : Option Spot) (b : Bool) → first m p ≡ o → Ends o (valued (weigher_of m) (offered_by m p)) path b → (b ≡ true → HasFound m path e)
-        → Draws m.scenario.now m.words.now.seed m.budget (configuration_in m p) m.inputs.now e b
+        → Draws m.scenario.now m.words.now.seed m.draw m.budget (configuration_in m p) m.inputs.now e b
     draws_by (Some s) true is h f = found_due s is h (f refl)
     draws_by (Some s) false is h f = absurd h
     draws_by None true is h f = absurd h
@@ -130,7 +130,7 @@ module _ (m : Moment) (e : Explorer) (grow : StepsGrowByOne) (path : List ℕ) w
 
     -- how a draw ends
     pub draws_as : (step : ℕ) (b : Bool) → step ≡ m.past.now.step → Ends (first_stop (stops_at m) (order (word_at m.words.now.seed step) 0 (valued (weigher_of m) (offered_by m p)))) (valued (weigher_of m) (offered_by m p)) path b
-        → (b ≡ true → HasFound m path e) → Draws m.scenario.now m.words.now.seed m.budget (configuration_in m p) m.inputs.now e b
+        → (b ≡ true → HasFound m path e) → Draws m.scenario.now m.words.now.seed m.draw m.budget (configuration_in m p) m.inputs.now e b
     draws_as step b at h f =
         let P : ℕ → Type 0 = λ k. Ends (first_stop (stops_at m) (order (word_at m.words.now.seed k) 0 (valued (weigher_of m) (offered_by m p)))) (valued (weigher_of m) (offered_by m p)) path b in
         draws_by (first m p) b refl (subst P at h) f

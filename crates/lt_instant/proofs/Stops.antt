@@ -1,7 +1,7 @@
 -- The first leaf at which a draw stops is the one that an instant takes.
 use Rattle.std.proofs.Common.{◌≡◌, ℕ, Bool, true, false, ◌||◌, nat_lt, if◌then◌else◌, List, [], ◌∷◌, map, option_map, Some, None, is_some, ℤ, refl, ap, sym, ◌∙◌}
 use Rattle.std.specs.declared.option.Option.{Option}
-use Rattle.lt_formula.specs.Solution.{or_else}
+use Rattle.lt_formula.specs.First.{or_else}
 use Rattle.lt_space.specs.Formula.{Formula}
 use Rattle.lt_lazy.specs.Order.{first_stop}
 use Rattle.lt_term.specs.Evaluated.{Outlook, vanish, nothing, raised, faulty, go, evaluated}
@@ -43,12 +43,12 @@ go_stops need false None = refl
 go_stops need false (Some raws) = refl
 
 -- a draw stops at a leaf that is over the budget, and at one that is live
-stops_agree : (m : Moment) (o : Leaf) → stops_of m o ≡ (is_over (scene_of m) m.budget o || is_live (scene_of m) (word_of m) o)
+stops_agree : (m : Moment) (o : Leaf) → stops_of m o ≡ (is_over (scene_of m) m.budget o || is_live (scene_of m) m.draw (word_of m) o)
 stops_agree m vanish = refl
 stops_agree m nothing = refl
 stops_agree m (raised z) = refl
 stops_agree m (faulty f) = refl
-stops_agree m (go f ls n) = go_stops (need_of (scene_of m) ls f) (nat_lt m.budget (need_of (scene_of m) ls f)) (solution_of (scene_of m) (word_of m) ls f)
+stops_agree m (go f ls n) = go_stops (need_of (scene_of m) ls f) (nat_lt m.budget (need_of (scene_of m) ls f)) (solution_of (scene_of m) m.draw (word_of m) ls f)
 
 -- The leaf that is drawn.
 
@@ -75,10 +75,10 @@ module _ {A B : Type 0} (f : A → B) (stops : B → Bool) where
 
 -- what an instant takes of a tree by the rules is the first leaf at which a draw stops
 pub taken_first : (m : Moment) (t : Tree Expression (Process Expression))
-    → due_leaf (taken_of (is_over (scene_of m) m.budget) (draw_of (word_of m) (is_live (scene_of m) (word_of m)) (evaluated (worth_of m) t)))
+    → due_leaf (taken_of (is_over (scene_of m) m.budget) (draw_of (word_of m) (is_live (scene_of m) m.draw (word_of m)) (evaluated (worth_of m) t)))
     ≡ first_stop (stops_of m) (map (λ (x : Met Formula (Process Expression)). x.outlook) (order (worth_of m) (word_of m) 0 t))
 taken_first m t =
     let ms : List (Met Formula (Process Expression)) = order (worth_of m) (word_of m) 0 t in
-    ap (λ d. due_leaf (taken_of (is_over (scene_of m) m.budget) d)) (draw_is_along (is_live (scene_of m) (word_of m)) (word_of m) (worth_of m) 0 t)
-    ∙ ap due_leaf (taken_along (is_live (scene_of m) (word_of m)) (is_over (scene_of m) m.budget) (stops_of m) (stops_agree m) ms)
+    ap (λ d. due_leaf (taken_of (is_over (scene_of m) m.budget) d)) (draw_is_along (is_live (scene_of m) m.draw (word_of m)) (word_of m) (worth_of m) 0 t)
+    ∙ ap due_leaf (taken_along (is_live (scene_of m) m.draw (word_of m)) (is_over (scene_of m) m.budget) (stops_of m) (stops_agree m) ms)
     ∙ first_drawn (stops_of m) ms

@@ -3,6 +3,7 @@ use Rattle.std.proofs.Common.{◌≡◌, ◌≤◌, ◌<◌, ◌+◌, ℕ, Bool,
 use Rattle.std.proofs.lemmas.Bool.{lt-ltb, ltb-true}
 use Rattle.std.proofs.lemmas.List.{length-map}
 use Rattle.std.specs.declared.option.Option.{Option}
+use Rattle.lt_draw.specs.declared.directions.Draw.{Draw}
 use Rattle.lt_formula.specs.Expression.{Expression}
 use Rattle.lt_num.specs.declared.kind.Kind.{Kind}
 use Rattle.lt_num.specs.declared.value.Value.{Value}
@@ -37,13 +38,13 @@ use Rattle.lt_instant.specs.inner.MomentView.{meaning_of}
 use Rattle.lt_instant.specs.inner.Takes.{IsBehind, due_leaf}
 use Rattle.lt_instant.proofs.Scenes.{kinds-view}
 
-module _ (s : Scene) (seed most : ℕ) (c : Configuration) (inputs : List Value) where
+module _ (s : Scene) (seed : ℕ) (draw : Draw) (most : ℕ) (c : Configuration) (inputs : List Value) where
   -- the instant that takes a leaf, by the leaf alone
-  pub takes_leaf : (x : Option (Met Formula (Process Expression))) (o : Leaf) → due_leaf x ≡ Some o → taken_instant s seed most c inputs x ≡ leaf_instant s seed most c inputs o
+  pub takes_leaf : (x : Option (Met Formula (Process Expression))) (o : Leaf) → due_leaf x ≡ Some o → taken_instant s seed draw most c inputs x ≡ leaf_instant s seed draw most c inputs o
   takes_leaf None o h = absurd (cc)
-  takes_leaf (Some m) o h = let e : m.outlook ≡ o = cc in ap (leaf_instant s seed most c inputs) e
+  takes_leaf (Some m) o h = let e : m.outlook ≡ o = cc in ap (leaf_instant s seed draw most c inputs) e
 
-  pub takes_none : (x : Option (Met Formula (Process Expression))) → due_leaf x ≡ None → deadlock ≡ taken_instant s seed most c inputs x
+  pub takes_none : (x : Option (Met Formula (Process Expression))) → due_leaf x ≡ None → deadlock ≡ taken_instant s seed draw most c inputs x
   takes_none None h = refl
   takes_none (Some m) h = absurd (cc)
 
@@ -56,13 +57,13 @@ module _ (s : Scene) (seed most : ℕ) (c : Configuration) (inputs : List Value)
 
 -- Values.
 
-module _ (s : Scenario) (seed most : ℕ) (c : Configuration) (inputs : List Value) (e : Explorer) where
+module _ (s : Scenario) (seed : ℕ) (draw : Draw) (most : ℕ) (c : Configuration) (inputs : List Value) (e : Explorer) where
   -- what an instant leaves, by its locals and by what comes next
-  pub goes : (o : Leaf) (new : Standing) → IsBehind s.table e o → solved (solver_values e.solver) ≡ found_at (scene s) (words_of seed c) most o
+  pub goes : (o : Leaf) (new : Standing) → IsBehind s.table e o → solved (solver_values e.solver) ≡ found_at (scene s) draw (words_of seed c) most o
       → new.past.reaction.inputs.items ≡ inputs → new.past.reaction.outputs.items ≡ outputs_by (scene s) (solver_values e.solver)
       → new.past.locals.items ≡ scoped e.walk.lasts.items 0 (locals_by (scene s) (solver_values e.solver)) → new.past.has_reacted ≡ true
       → process_of new.explorer ≡ advanced (values_of e.walk.lasts.items (locals_by (scene s) (solver_values e.solver))) (track.next e.track) → new.past.step ≡ c.step
-      → instant_by s.table new took.Go ≡ leaf_instant (scene s) seed most c inputs o
+      → instant_by s.table new took.Go ≡ leaf_instant (scene s) seed draw most c inputs o
   goes vanish new b h i u l r p k = absurd (cc)
   goes nothing new b h i u l r p k = absurd (cc)
   goes (raised z) new b h i u l r p k = absurd (cc)
@@ -76,7 +77,7 @@ module _ (s : Scenario) (seed most : ℕ) (c : Configuration) (inputs : List Val
       ∙ (λ j. advanced (values_of (b.0 j) (locals_by (scene s) rs)) (b.1 j)) in
       (λ j. values (u j) ((l ∙ ap (λ ms. scoped ms 0 (locals_by (scene s) rs)) b.0) j)
       (record { process = next j; step = k j + 1; previous = (if r j then Some (let x : Reaction = record { inputs = i j; outputs = u j } in x) else None) }))
-      ∙ sym (solved_go (scene s) seed most c inputs (need_of (scene s) ls f) rs ls n (nat_lt most (need_of (scene s) ls f)) (solution_of (scene s) (words_of seed c) ls f) h)
+      ∙ sym (solved_go (scene s) seed draw most c inputs (need_of (scene s) ls f) rs ls n (nat_lt most (need_of (scene s) ls f)) (solution_of (scene s) draw (words_of seed c) ls f) h)
 
 -- The size of what is offered.
 
@@ -91,11 +92,11 @@ module _ (s : Scenario) (x : Standing) where
       ∙ ap length (sym (nodes_natural (meaning_of s.table) (kinds_of s.locals.items) (process_of x.explorer)))
       ∙ length-map (flattened (offers_of (kinds_of s.locals.items) (process_of x.explorer))) (node_with_constraints (meaning_of s.table))
 
-  module _ (seed most : ℕ) (inputs : List Value) (n : ℕ) (e : (kinds : List Kind) → n ≡ capped (size (offers_of kinds (process_of x.explorer)))) where
-    pub is_large : most_tree_nodes < n → too_large ≡ instant_of (scene s) seed most at inputs
+  module _ (seed : ℕ) (draw : Draw) (most : ℕ) (inputs : List Value) (n : ℕ) (e : (kinds : List Kind) → n ≡ capped (size (offers_of kinds (process_of x.explorer)))) where
+    pub is_large : most_tree_nodes < n → too_large ≡ instant_of (scene s) seed draw most at inputs
     is_large l =
         let over : most_tree_nodes < size (offered (scene s) at) = omega (arith, e (kinds_of s.locals.items), l, size_is) in
-        ap (λ b. if b then too_large else taken_instant (scene s) seed most at inputs (taken_in (scene s) seed most at inputs)) (sym (lt-ltb most_tree_nodes (size (offered (scene s) at)) over))
+        ap (λ b. if b then too_large else taken_instant (scene s) seed draw most at inputs (taken_in (scene s) seed draw most at inputs)) (sym (lt-ltb most_tree_nodes (size (offered (scene s) at)) over))
 
     not_large : n ≤ most_tree_nodes → is_too_large (scene s) at ≡ false
     not_large l = by_test (is_too_large (scene s) at) refl
@@ -105,8 +106,8 @@ module _ (s : Scenario) (x : Standing) where
         by_test false h = refl
 
     -- the instant of what isn't too large
-    pub is_small : n ≤ most_tree_nodes → taken_instant (scene s) seed most at inputs (taken_in (scene s) seed most at inputs) ≡ instant_of (scene s) seed most at inputs
-    is_small l = ap (λ b. if b then too_large else taken_instant (scene s) seed most at inputs (taken_in (scene s) seed most at inputs)) (sym (not_large l))
+    pub is_small : n ≤ most_tree_nodes → taken_instant (scene s) seed draw most at inputs (taken_in (scene s) seed draw most at inputs) ≡ instant_of (scene s) seed draw most at inputs
+    is_small l = ap (λ b. if b then too_large else taken_instant (scene s) seed draw most at inputs (taken_in (scene s) seed draw most at inputs)) (sym (not_large l))
 
 -- where a run stands while what is still to be done and what is behind it stay
 pub stands_still : (s : Scenario) (x y : Standing) → process_of y.explorer ≡ process_of x.explorer → y.past ≡ x.past → configuration s.table y ≡ configuration s.table x

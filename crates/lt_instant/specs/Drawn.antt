@@ -2,7 +2,7 @@
 use Rattle.std.specs.Prelude.{ℕ, zero, suc, ◌+◌, ◌*◌, Bool, nat_eq, if◌then◌else◌, List, [], ◌∷◌, ◌++◌, None, Some, map, length, sum, set, slice_index_or}
 use Rattle.std.specs.declared.option.Option.{Option}
 use Rattle.lt_draw.specs.Pick.{picked}
-use Rattle.lt_formula.specs.Solution.{or_else}
+use Rattle.lt_formula.specs.First.{or_else}
 use Rattle.lt_term.specs.Evaluated.{Outlook, faulty, Evaluated, leaf, ordered, weighted, spoilt, Parts, no_part, part, node_count}
 
 -- The slot of a try at a choice, by the choice's position; positions count the nodes of the whole tree in preorder, from 0.

@@ -26,9 +26,11 @@ pub record IsRoomOf (s : Scenario) (r : Room) : Type 0 where
   pub inputs : length s.inputs.items ≤ vec_capacity r.earlier.inputs
   pub outputs : length s.outputs.items ≤ vec_capacity r.earlier.outputs
   pub targets : length s.outputs.items + length s.locals.items ≤ vec_capacity r.targets
+  pub down : length s.outputs.items + length s.locals.items ≤ vec_capacity r.down
   pub locals : length s.locals.items ≤ vec_capacity r.locals
 
--- an explorer goes through the body of a scenario, and has room for all that it finds there
+-- An explorer goes through the body of a scenario, and has room for all that it finds there. Each visit rests on this and leaves
+-- it so: then no instant takes memory.
 pub record IsExplorerOf (s : Scenario) (e : Explorer) : Type 0 where
   pub numbers : IsTrue (passes (numbers_of s) (track.body e.track))
   pub narrow : IsNarrow (track.body e.track)

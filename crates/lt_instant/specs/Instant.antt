@@ -4,6 +4,7 @@ use Rattle.std.specs.declared.option.Option.{Option}
 use Rattle.lt_num.specs.declared.fault.Arith.{Arith}
 use Rattle.lt_num.specs.declared.value.Value.{Value}
 use Rattle.lt_draw.specs.Word.{word_at}
+use Rattle.lt_draw.specs.declared.directions.Draw as rule
 use Rattle.lt_formula.specs.Expression.{Expression}
 use Rattle.lt_space.specs.Formula.{Formula}
 use Rattle.lt_space.specs.Meaning.{formula_of_all}
@@ -55,12 +56,12 @@ abbrev pub judged : Scene → Configuration → List Value → Judged
 judged s c inputs = evaluated (worth_in s c inputs) (offered s c)
 
 -- whether a leaf is live: at an instant, whether its formula has a solution
-abbrev pub is_live : Scene → (ℕ → ℕ) → Leaf → Bool
-is_live s word vanish = true
-is_live s word nothing = false
-is_live s word (raised z) = true
-is_live s word (faulty f) = true
-is_live s word (go f ls n) = is_some (solution_of s word ls f)
+abbrev pub is_live : Scene → rule.Draw → (ℕ → ℕ) → Leaf → Bool
+is_live s draw word vanish = true
+is_live s draw word nothing = false
+is_live s draw word (raised z) = true
+is_live s draw word (faulty f) = true
+is_live s draw word (go f ls n) = is_some (solution_of s draw word ls f)
 
 -- whether the search at a leaf would need more than the budget
 abbrev pub is_over : Scene → ℕ → Leaf → Bool
@@ -72,8 +73,8 @@ abbrev pub words_of : ℕ → Configuration → ℕ → ℕ
 words_of seed c slot = word_at seed c.step slot
 
 -- what is drawn of a tree
-abbrev pub drawn_of : Scene → (ℕ → ℕ) → Judged → Draw Formula (Process Expression)
-drawn_of s word t = draw_of word (is_live s word) t
+abbrev pub drawn_of : Scene → rule.Draw → (ℕ → ℕ) → Judged → Draw Formula (Process Expression)
+drawn_of s draw word t = draw_of word (is_live s draw word) t
 
 -- where a run stands after an instant in which all that is drawn has these raw numbers
 abbrev pub next_configuration : Scene → Configuration → List Value → Lasts → Process Expression → List ℤ → Configuration
@@ -89,26 +90,27 @@ go_instant s c inputs ls n None = deadlock
 go_instant s c inputs ls n (Some raws) = values (outputs_by s raws) (scoped ls 0 (locals_by s raws)) (next_configuration s c inputs ls n raws)
 
 -- The instant that takes a leaf. The need of a search is compared with the budget before the search.
-abbrev pub leaf_instant : Scene → ℕ → ℕ → Configuration → List Value → Leaf → Instant
-leaf_instant s seed most c inputs vanish = normal
-leaf_instant s seed most c inputs nothing = deadlock
-leaf_instant s seed most c inputs (raised z) = raise z
-leaf_instant s seed most c inputs (faulty f) = fault f
-leaf_instant s seed most c inputs (go f ls n) = if nat_lt most (need_of s ls f) then budget (need_of s ls f) else go_instant s c inputs ls n (solution_of s (words_of seed c) ls f)
+abbrev pub leaf_instant : Scene → ℕ → rule.Draw → ℕ → Configuration → List Value → Leaf → Instant
+leaf_instant s seed draw most c inputs vanish = normal
+leaf_instant s seed draw most c inputs nothing = deadlock
+leaf_instant s seed draw most c inputs (raised z) = raise z
+leaf_instant s seed draw most c inputs (faulty f) = fault f
+leaf_instant s seed draw most c inputs (go f ls n) = if nat_lt most (need_of s ls f) then budget (need_of s ls f) else go_instant s c inputs ls n (solution_of s draw (words_of seed c) ls f)
 
 -- the instant that takes this leaf, if any
-abbrev pub taken_instant : Scene → ℕ → ℕ → Configuration → List Value → Option (Met Formula (Process Expression)) → Instant
-taken_instant s seed most c inputs None = deadlock
-taken_instant s seed most c inputs (Some m) = leaf_instant s seed most c inputs m.outlook
+abbrev pub taken_instant : Scene → ℕ → rule.Draw → ℕ → Configuration → List Value → Option (Met Formula (Process Expression)) → Instant
+taken_instant s seed draw most c inputs None = deadlock
+taken_instant s seed draw most c inputs (Some m) = leaf_instant s seed draw most c inputs m.outlook
 
 -- whether what a term offers has too many nodes
 abbrev pub is_too_large : Scene → Configuration → Bool
 is_too_large s c = nat_lt most_tree_nodes (size (offered s c))
 
 -- the leaf that an instant takes
-abbrev pub taken_in : Scene → ℕ → ℕ → Configuration → List Value → Option (Met Formula (Process Expression))
-taken_in s seed most c inputs = taken_of (is_over s most) (drawn_of s (words_of seed c) (judged s c inputs))
+abbrev pub taken_in : Scene → ℕ → rule.Draw → ℕ → Configuration → List Value → Option (Met Formula (Process Expression))
+taken_in s seed draw most c inputs = taken_of (is_over s most) (drawn_of s draw (words_of seed c) (judged s c inputs))
 
--- The instant of a configuration in which the inputs have these values, by a seed and a budget of at most so much for a search.
-abbrev pub instant_of : Scene → ℕ → ℕ → Configuration → List Value → Instant
-instant_of s seed most c inputs = if is_too_large s c then too_large else taken_instant s seed most c inputs (taken_in s seed most c inputs)
+-- The instant of a configuration in which the inputs have these values, by a seed, a rule of drawing, and a budget of at most so
+-- much for a search.
+abbrev pub instant_of : Scene → ℕ → rule.Draw → ℕ → Configuration → List Value → Instant
+instant_of s seed draw most c inputs = if is_too_large s c then too_large else taken_instant s seed draw most c inputs (taken_in s seed draw most c inputs)

@@ -1,6 +1,7 @@
 -- What an instant takes may be taken.
 use Rattle.std.specs.Prelude.{◌≡◌, ◌↔◌, ℕ, false, List, [], ◌∷◌, ◌++◌, None, Some, MatchOption, replicate, slice_index_or}
 use Rattle.std.specs.declared.option.Option.{Option}
+use Rattle.lt_draw.specs.declared.directions.Draw as rule
 use Rattle.lt_num.specs.declared.value.Value.{Value}
 use Rattle.lt_space.specs.Formula.{Formula}
 use Rattle.lt_term.specs.Configuration.{Configuration}
@@ -42,16 +43,17 @@ IsLegalAt s t position = IsLegal (CanHold s) t position
 abbrev pub IsAffordable : Scene → ℕ → Draw Formula (Process Expression) → Type 0
 IsAffordable s most d = first_that (is_over s most) d.looked_at ≡ None
 
--- Whatever the words are, a leaf is drawn exactly where a live one can be reached, and it is a legal one of the tree.
+-- Whatever the rule of drawing and the words are, a leaf is drawn exactly where a live one can be reached, and it is a legal one
+-- of the tree.
 abbrev pub DrawIsLegal : Type 0
 DrawIsLegal =
-    (s : Scene) (word : ℕ → ℕ) (t : Judged) →
-    MatchOption (drawn_of s word t).drawn (HasLiveLeaf s t → ⊥) (λ m. HasLiveLeaf s t × IsLegalAt s t m.position × (outlook_at t m.position ≡ Some m.outlook))
+    (s : Scene) (draw : rule.Draw) (word : ℕ → ℕ) (t : Judged) →
+    MatchOption (drawn_of s draw word t).drawn (HasLiveLeaf s t → ⊥) (λ m. HasLiveLeaf s t × IsLegalAt s t m.position × (outlook_at t m.position ≡ Some m.outlook))
 
 -- An instant is a deadlock exactly where what the term offers is not too large, no live leaf of it can be reached, and none at
 -- which the draw arrives is over the budget.
 abbrev pub DeadlockMeansNoneLive : Type 0
 DeadlockMeansNoneLive =
-    (s : Scene) (seed most : ℕ) (c : Configuration) (inputs : List Value) →
-    (instant_of s seed most c inputs ≡ deadlock)
-    ↔ ((is_too_large s c ≡ false) × (HasLiveLeaf s (judged s c inputs) → ⊥) × IsAffordable s most (drawn_of s (words_of seed c) (judged s c inputs)))
+    (s : Scene) (seed : ℕ) (draw : rule.Draw) (most : ℕ) (c : Configuration) (inputs : List Value) →
+    (instant_of s seed draw most c inputs ≡ deadlock)
+    ↔ ((is_too_large s c ≡ false) × (HasLiveLeaf s (judged s c inputs) → ⊥) × IsAffordable s most (drawn_of s draw (words_of seed c) (judged s c inputs)))

@@ -1,12 +1,14 @@
 -- The first values of outputs and of locals in scope that make a formula true.
-use Rattle.std.specs.Prelude.{ℕ, suc, ◌+◌, ◌^◌, nat_eq, Bool, true, false, ℤ, pos, List, [], ◌∷◌, ◌++◌, map, slice_index_or, if◌then◌else◌, length, replicate, None, Some}
+use Rattle.std.specs.Prelude.{ℕ, zero, suc, nat_eq, Bool, true, false, ℤ, pos, List, [], ◌∷◌, ◌++◌, map, slice_index_or, if◌then◌else◌, length, replicate, None, Some}
 use Rattle.std.specs.List.{list_any}
 use Rattle.std.specs.declared.option.Option.{Option}
 use Rattle.lt_num.specs.Value.{value_of}
 use Rattle.lt_num.specs.declared.range.Range.{Range}
 use Rattle.lt_num.specs.declared.value.Value.{Value}
 use Rattle.lt_num.specs.declared.value.Value.TheVariants as value
+use Rattle.lt_draw.specs.Direction.{goes_down, slot_of_target}
 use Rattle.lt_draw.specs.Target.{target_of}
+use Rattle.lt_draw.specs.declared.directions.Draw.{Draw}
 use Rattle.lt_formula.specs.Solution.{IsSatisfiable, first_solution}
 use Rattle.lt_space.specs.Formula.{Formula, holds}
 use Rattle.lt_need.specs.Need.{need}
@@ -39,18 +41,24 @@ drawn_ranges s = ranges_of_all s.outputs ++ ranges_of_all s.locals
 abbrev pub ranges_at : Scene → Lasts → List Range
 ranges_at s ls = ranges_in (scope_of s ls) (drawn_ranges s)
 
--- the slot of a variable, by its number
-abbrev pub slot_of_variable : ℕ → ℕ
-slot_of_variable i = 2 ^ 23 + i
-
 -- the targets of variables of these ranges, the first of which has this number, where the word of each slot is given
 abbrev pub targets_from : (ℕ → ℕ) → ℕ → List Range → List ℤ
 targets_from word i [] = []
-targets_from word i (r ∷ rs) = target_of r (word (slot_of_variable i)) ∷ targets_from word (suc i) rs
+targets_from word i (r ∷ rs) = target_of r (word (slot_of_target i)) ∷ targets_from word (suc i) rs
 
 -- the targets of all that is drawn
 abbrev pub targets_of : Scene → (ℕ → ℕ) → List ℤ
 targets_of s word = targets_from word 0 (drawn_ranges s)
+
+-- a mark for each of so many variables, the first of which has this number: whether it goes downward from its target
+abbrev pub directions_from : Draw → (ℕ → ℕ) → ℕ → ℕ → List Bool
+directions_from draw word i zero = []
+directions_from draw word i (suc count) = goes_down draw word i ∷ directions_from draw word (suc i) count
+
+-- The directions of all that is drawn. By the rules a local out of scope has none, and its word isn't asked for: its mark here
+-- means nothing, since with 0 alone it has one order in both directions.
+abbrev pub directions_of : Scene → Draw → (ℕ → ℕ) → List Bool
+directions_of s draw word = directions_from draw word 0 (length (drawn_ranges s))
 
 -- Whether a formula holds of raw numbers of all that is drawn.
 abbrev pub holds_of : Scene → Formula → List ℤ → Bool
@@ -61,9 +69,9 @@ abbrev pub CanHold : Scene → Formula → Lasts → Type 0
 CanHold s f ls = IsSatisfiable (holds_of s f) (ranges_at s ls)
 
 -- The first raw numbers of all that is drawn that make a formula true, if any: each variable in turn has the first one, in the
--- order from its target, with which those so far extend to such numbers.
-abbrev pub solution_of : Scene → (ℕ → ℕ) → Lasts → Formula → Option (List ℤ)
-solution_of s word ls f = first_solution (holds_of s f) (ranges_at s ls) (targets_of s word)
+-- order from its target in its direction, with which those so far extend to such numbers.
+abbrev pub solution_of : Scene → Draw → (ℕ → ℕ) → Lasts → Formula → Option (List ℤ)
+solution_of s draw word ls f = first_solution (holds_of s f) (ranges_at s ls) (targets_of s word) (directions_of s draw word)
 
 -- how much work the search for them may need
 abbrev pub need_of : Scene → Lasts → Formula → ℕ

@@ -9,7 +9,5 @@ pub mod Found
 pub mod Exploring
 -- what weights are worth
 pub mod Worths
--- ranges that have numbers
-pub mod Ranges
 -- what is taken at a leaf
 pub mod Takes

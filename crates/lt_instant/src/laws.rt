@@ -4,8 +4,8 @@ ghost use Rattle.lt_instant.specs.Legal.{DeadlockMeansNoneLive, DrawIsLegal};
 
 use lt_formula::first_solution_is_first;
 
-/// Whatever the words are, a leaf is drawn exactly where a live one can be reached, and it is a legal one of the tree:
-/// it may be taken, and stands there at its position.
+/// Whatever the rule of drawing and the words are, a leaf is drawn exactly where a live one can be reached, and it is a
+/// legal one of the tree: it may be taken, and stands there at its position.
 pub fn draw_is_legal()
     ensures { DrawIsLegal }
 {

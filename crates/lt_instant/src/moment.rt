@@ -5,12 +5,12 @@ ghost use Rattle.lt_num.specs.Bounds.{most_decimals};
 ghost use Rattle.lt_term.specs.Configuration.{earlier_inputs, earlier_outputs};
 ghost use Rattle.lt_term.specs.SceneView.{scene};
 ghost use Rattle.lt_instant.specs.Instant.{words_of};
-ghost use Rattle.lt_instant.specs.Solved.{targets_of};
+ghost use Rattle.lt_instant.specs.Solved.{directions_of, targets_of};
 ghost use Rattle.lt_instant.specs.StandingView.{configuration_behind, previous_of};
 
 use crate::earlier::Earlier;
 use crate::past::Past;
-use lt_draw::StepWords;
+use lt_draw::{Draw, StepWords};
 use lt_formula::Known;
 use lt_num::Value;
 use lt_term::Scenario;
@@ -33,8 +33,14 @@ pub struct Moment<'a> {
     /// The words of the instant.
     pub words: &'a StepWords,
 
+    /// The rule by which the run draws.
+    pub draw: Draw,
+
     /// The targets of the outputs, and then of the locals.
     pub targets: &'a [i64],
+
+    /// Their directions: whether each goes downward from its target.
+    pub down: &'a [bool],
 
     /// The greatest need that a search may have.
     pub budget: u64,
@@ -46,6 +52,9 @@ pub struct Moment<'a> {
     ghost step_is: { words.now.step ≡ past.now.step },
     ghost targets_are: { targets.now ≡
         targets_of (scene scenario.now)
+        (words_of words.now.seed (configuration_behind past.now)) },
+    ghost down_is: { down.now ≡
+        directions_of (scene scenario.now) draw
         (words_of words.now.seed (configuration_behind past.now)) },
 }
 

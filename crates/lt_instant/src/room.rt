@@ -18,6 +18,9 @@ pub struct Room {
     /// The targets of the outputs, and then of the locals.
     pub targets: Vec<i64>,
 
+    /// Their directions.
+    pub down: Vec<bool>,
+
     /// The room of the draw.
     pub draw: Rooms,
 
@@ -34,6 +37,7 @@ impl Room {
         Ok(Room {
             earlier: Earlier::make(alloc, scenario)?,
             targets: Vec::with_capacity(alloc, drawn)?,
+            down: Vec::with_capacity(alloc, drawn)?,
             draw: Rooms::make(alloc)?,
             locals: Vec::with_capacity(alloc, scenario.locals.len())?,
         })

@@ -15,19 +15,19 @@ pub fn find_scope(marks: &mut Vec<bool>, scenario: &Scenario, lasts: &[(u32, Las
     ensures items { marks.new.items ≡ scope_of (scene scenario.now) lasts.now }
     ensures room { vec_capacity marks.new ≡ vec_capacity marks.old }
 {
-    put_true(marks, scenario.outputs.len());
+    put_marks(marks, scenario.outputs.len(), true);
     push_marks(marks, &scenario.locals, lasts);
 }
 
-// Puts so many true marks into a list.
-fn put_true(marks: &mut Vec<bool>, count: usize)
+/// Puts a mark so many times into a list.
+pub fn put_marks(marks: &mut Vec<bool>, count: usize, mark: bool)
     requires { count ≤ vec_capacity marks.old }
-    ensures items { marks.new.items ≡ replicate count true }
+    ensures items { marks.new.items ≡ replicate count mark }
     ensures room { vec_capacity marks.new ≡ vec_capacity marks.old }
 {
     marks.clear();
     for _made in 0..count {
-        marks.push_reserved(true);
+        marks.push_reserved(mark);
     }
 }
 

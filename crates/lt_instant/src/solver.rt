@@ -33,7 +33,7 @@ impl Solver {
     ghost use Rattle.lt_space.specs.Scope.{ranges_in};
     ghost use Rattle.lt_space.specs.SpaceView.{loaded, space_decimals, space_formula};
     ghost use Rattle.lt_term.specs.Configuration.{earlier_locals_from, scene_kinds};
-    ghost use Rattle.lt_instant.specs.Solved.{holds_of, targets_of};
+    ghost use Rattle.lt_instant.specs.Solved.{directions_of, holds_of, targets_of};
     ghost use Rattle.lt_instant.specs.inner.Found.{finding, found_by, found_in};
     ghost use Rattle.lt_instant.specs.inner.MomentView.{meaning_of, scene_of, valuation_with, word_of, worth_of};
 
@@ -93,7 +93,8 @@ impl Solver {
         requires room { length constraints.now ≤ solver_most self.old }
         requires known { locals.now ≡ earlier_locals_from lasts.now 0 (scene_of moment.now).locals }
         ensures finds { finding (solver_values self.new) result ≡
-            found_in (scene_of moment.now) (word_of moment.now) moment.now.budget lasts.now
+            found_in (scene_of moment.now) moment.now.draw (word_of moment.now)
+            moment.now.budget lasts.now
             ((worth_of moment.now).formula lasts.now
             (map (meaning_of moment.now.scenario.now.table) constraints.now)) }
         ensures solver { IsSolverOf moment.now.scenario.now self.new }
@@ -142,13 +143,18 @@ impl Solver {
             (drawn_ranges (scene_of moment.now)))
             (first_solution (holds_of (scene_of moment.now) (space_formula self.old.space))
             (ranges_in self.old.scope.items (drawn_ranges (scene_of moment.now)))
-            (targets_of (scene_of moment.now) (word_of moment.now))) }
+            (targets_of (scene_of moment.now) (word_of moment.now))
+            (directions_of (scene_of moment.now) moment.now.draw (word_of moment.now))) }
         ensures solver { IsSolverOf moment.now.scenario.now self.new }
         ensures most { solver_most self.new ≡ solver_most self.old }
     {
-        let answer = self
-            .workspace
-            .first_from(&self.space, &self.scope, moment.targets, moment.budget);
+        let answer = self.workspace.first_from(
+            &self.space,
+            &self.scope,
+            moment.targets,
+            moment.down,
+            moment.budget,
+        );
         finding_for(answer)
     }
 }

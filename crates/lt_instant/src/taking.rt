@@ -1,6 +1,7 @@
 //! What an instant takes of what a term offers.
 
 ghost use Rattle.std.specs.Prelude.{◌≡◌, ◌≤◌, ℕ, List, length, vec_capacity};
+ghost use Rattle.lt_draw.specs.declared.directions.Draw.{Draw};
 ghost use Rattle.lt_num.specs.declared.kind.Kind.{Kind};
 ghost use Rattle.lt_term.specs.Counted.{IsCounted, IsDoneTo};
 ghost use Rattle.lt_term.specs.Offers.{offers_of};
@@ -20,8 +21,8 @@ use crate::moment::Moment;
 use crate::reacting::react;
 use crate::room::Room;
 use crate::standing::Standing;
-use crate::targets::find_targets;
-use lt_draw::StepWords;
+use crate::targets::{find_directions, find_targets};
+use lt_draw::{Draw, StepWords};
 use lt_join::trees_agree;
 use lt_lazy::{Rooms, draw};
 use lt_num::{Arith, Value};
@@ -58,13 +59,14 @@ pub enum Taken {
 }
 
 /// What an instant takes of what is offered where a run stands, where the inputs have these values; the run then stands
-/// behind it. It draws by the words of the step at which the run stands, and begins no search whose need is over the
-/// budget. It takes no memory, and makes no tree.
+/// behind it. It draws by the words of the step at which the run stands and by this rule, and begins no search whose
+/// need is over the budget. It takes no memory, and makes no tree.
 pub fn take_instant(
     scenario: &Scenario,
     standing: &mut Standing,
     inputs: &[Value],
     words: &StepWords,
+    draw: Draw,
     budget: u64,
     room: &mut Room,
 ) -> Taken
@@ -76,7 +78,7 @@ pub fn take_instant(
     requires room { IsRoomOf scenario.now room.old }
     // It is the instant of the rules.
     ensures takes { instant_by scenario.now.table standing.new result ≡
-        instant_of (scene scenario.now) words.now.seed budget
+        instant_of (scene scenario.now) words.now.seed draw budget
         (configuration scenario.now.table standing.old) inputs.now }
     // At most one more turn is done.
     ensures done { (k : ℕ) → IsDoneTo k (process_of standing.old.explorer) →
@@ -89,7 +91,7 @@ pub fn take_instant(
     if size(&standing.explorer.track) > MOST_NODES {
         return Taken::TooLarge;
     }
-    if find_leaf(scenario, standing, inputs, words, budget, room) {
+    if find_leaf(scenario, standing, inputs, words, draw, budget, room) {
         take_found(scenario, standing, inputs, &mut room.locals)
     } else {
         Taken::Nothing
@@ -102,6 +104,7 @@ fn find_leaf(
     standing: &mut Standing,
     inputs: &[Value],
     words: &StepWords,
+    draw: Draw,
     budget: u64,
     room: &mut Room,
 ) -> bool
@@ -112,7 +115,7 @@ fn find_leaf(
     requires explores { IsExplorerOf scenario.now standing.old.explorer }
     requires past { IsPastOf scenario.now standing.old.past }
     requires room { IsRoomOf scenario.now room.old }
-    ensures draws { Draws scenario.now words.now.seed budget
+    ensures draws { Draws scenario.now words.now.seed draw budget
         (configuration scenario.now.table standing.old) inputs.now standing.new.explorer result }
     ensures same { process_of standing.new.explorer ≡ process_of standing.old.explorer }
     ensures same_past { standing.new.past ≡ standing.old.past }
@@ -120,14 +123,18 @@ fn find_leaf(
     ensures room { IsRoomOf scenario.now room.new }
 {
     room.earlier.find(scenario, &standing.past);
-    find_targets(&mut room.targets, words, standing.explorer.solver.ranges());
+    let ranges = standing.explorer.solver.ranges();
+    find_targets(&mut room.targets, words, ranges);
+    find_directions(&mut room.down, draw, words, ranges.len());
     let moment = Moment {
         scenario,
         past: &standing.past,
         inputs,
         earlier: &room.earlier,
         words,
+        draw,
         targets: &room.targets,
+        down: &room.down,
         budget,
     };
     draw_leaf(&mut standing.explorer, &moment, &mut room.draw)
@@ -136,9 +143,9 @@ fn find_leaf(
 // Draws a leaf in a moment.
 fn draw_leaf(explorer: &mut Explorer, moment: &Moment<'_>, rooms: &mut Rooms) -> bool
     requires ready { IsReady moment.now explorer.old }
-    ensures draws { Draws moment.now.scenario.now moment.now.words.now.seed moment.now.budget
-        (configuration_in moment.now (process_of explorer.old)) moment.now.inputs.now explorer.new
-        result }
+    ensures draws { Draws moment.now.scenario.now moment.now.words.now.seed moment.now.draw
+        moment.now.budget (configuration_in moment.now (process_of explorer.old))
+        moment.now.inputs.now explorer.new result }
     ensures same { process_of explorer.new ≡ process_of explorer.old }
     ensures explores { IsExplorerOf moment.now.scenario.now explorer.new }
 {
@@ -160,16 +167,16 @@ fn take_found(
     requires explores { IsExplorerOf scenario.now standing.old.explorer }
     requires past { IsPastOf scenario.now standing.old.past }
     requires locals { length scenario.now.locals.items ≤ vec_capacity locals.old }
-    ensures takes { (seed most : ℕ) →
-        IsDue scenario.now seed most (configuration scenario.now.table standing.old) inputs.now
+    ensures takes { (seed : ℕ) (draw : Draw) (most : ℕ) →
+        IsDue scenario.now seed draw most (configuration scenario.now.table standing.old) inputs.now
         standing.old.explorer →
         instant_by scenario.now.table standing.new result ≡
-        taken_instant (scene scenario.now) seed most
+        taken_instant (scene scenario.now) seed draw most
         (configuration scenario.now.table standing.old) inputs.now
-        (taken_in (scene scenario.now) seed most
+        (taken_in (scene scenario.now) seed draw most
         (configuration scenario.now.table standing.old) inputs.now) }
-    ensures done { (seed most k : ℕ) →
-        IsDue scenario.now seed most (configuration scenario.now.table standing.old) inputs.now
+    ensures done { (seed : ℕ) (draw : Draw) (most k : ℕ) →
+        IsDue scenario.now seed draw most (configuration scenario.now.table standing.old) inputs.now
         standing.old.explorer →
         IsDoneTo k (process_of standing.old.explorer) →
         IsDoneTo (turns_behind result k) (process_of standing.new.explorer) }

@@ -2,6 +2,7 @@
 use Rattle.std.specs.Prelude.{ℕ, nat_lt, Bool, true, false, if◌then◌else◌, ℤ, List, None, Some, Ok, Err}
 use Rattle.std.specs.declared.option.Option.{Option}
 use Rattle.std.specs.declared.result.Result.{Result}
+use Rattle.lt_draw.specs.declared.directions.Draw.{Draw}
 use Rattle.lt_num.specs.declared.fault.Arith.{Arith}
 use Rattle.lt_space.specs.Formula.{Formula}
 use Rattle.lt_solver.specs.declared.answering.Answer.{Answer}
@@ -39,17 +40,17 @@ abbrev pub found_by : ℕ → ℕ → Option (List ℤ) → Found
 found_by most need solution = if nat_lt most need then over need else solved_by solution
 
 -- what is found at an instant whose constraints are worth this
-abbrev pub found_in : Scene → (ℕ → ℕ) → ℕ → Lasts → Result Formula Arith → Found
-found_in s word most ls (Ok f) = found_by most (need_of s ls f) (solution_of s word ls f)
-found_in s word most ls (Err fault) = fails fault
+abbrev pub found_in : Scene → Draw → (ℕ → ℕ) → ℕ → Lasts → Result Formula Arith → Found
+found_in s draw word most ls (Ok f) = found_by most (need_of s ls f) (solution_of s draw word ls f)
+found_in s draw word most ls (Err fault) = fails fault
 
 -- what is found at a leaf
-abbrev pub found_at : Scene → (ℕ → ℕ) → ℕ → Leaf → Found
-found_at s word most vanish = vanishes
-found_at s word most nothing = passed
-found_at s word most (raised z) = raises z
-found_at s word most (faulty fault) = fails fault
-found_at s word most (go f ls n) = found_by most (need_of s ls f) (solution_of s word ls f)
+abbrev pub found_at : Scene → Draw → (ℕ → ℕ) → ℕ → Leaf → Found
+found_at s draw word most vanish = vanishes
+found_at s draw word most nothing = passed
+found_at s draw word most (raised z) = raises z
+found_at s draw word most (faulty fault) = fails fault
+found_at s draw word most (go f ls n) = found_by most (need_of s ls f) (solution_of s draw word ls f)
 
 -- whether a draw stops where this is found
 abbrev pub is_stop : Found → Bool

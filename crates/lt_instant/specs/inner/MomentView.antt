@@ -55,7 +55,7 @@ weigher_of m = λ ls w. (worth_of m).weight ls (weight_mapped (meaning_of m.scen
 
 -- what is found at a leaf
 abbrev pub found_of : Moment → Leaf → Found
-found_of m o = found_at (scene_of m) (word_of m) m.budget o
+found_of m o = found_at (scene_of m) m.draw (word_of m) m.budget o
 
 -- whether a draw stops at a leaf: it is live, or it is over the budget
 abbrev pub stops_of : Moment → Leaf → Bool

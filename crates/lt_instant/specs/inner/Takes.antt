@@ -1,6 +1,7 @@
 -- What is taken at a leaf.
 use Rattle.std.specs.Prelude.{◌≡◌, ℕ, suc, Bool, true, false, List, None, Some, option_map}
 use Rattle.std.specs.declared.option.Option.{Option}
+use Rattle.lt_draw.specs.declared.directions.Draw.{Draw}
 use Rattle.lt_formula.specs.Expression.{Expression}
 use Rattle.lt_formula.specs.declared.table.Table.{Table}
 use Rattle.lt_num.specs.declared.value.Value.{Value}
@@ -35,15 +36,16 @@ abbrev pub due_leaf : Option (Met Formula (Process Expression)) → Option Leaf
 due_leaf x = option_map (λ m. m.outlook) x
 
 -- an explorer has found the leaf that an instant takes by the rules
-pub record IsDue (s : Scenario) (seed most : ℕ) (c : Configuration) (inputs : List Value)
-    (e : Explorer) : Type 0 where
+pub record IsDue (s : Scenario) (seed : ℕ) (draw : Draw) (most : ℕ) (c : Configuration)
+    (inputs : List Value) (e : Explorer) : Type 0 where
   pub leaf : Leaf
-  pub due : due_leaf (taken_in (scene s) seed most c inputs) ≡ Some leaf
+  pub due : due_leaf (taken_in (scene s) seed draw most c inputs) ≡ Some leaf
   pub finds : finding (solver_values e.solver) e.found ≡
-      found_at (scene s) (words_of seed c) most leaf
+      found_at (scene s) draw (words_of seed c) most leaf
   pub behind : IsBehind s.table e leaf
 
 -- it has found it, or there is none
-abbrev pub Draws : Scenario → ℕ → ℕ → Configuration → List Value → Explorer → Bool → Type 0
-Draws s seed most c inputs e true = IsDue s seed most c inputs e
-Draws s seed most c inputs e false = due_leaf (taken_in (scene s) seed most c inputs) ≡ None
+abbrev pub Draws : Scenario → ℕ → Draw → ℕ → Configuration → List Value → Explorer → Bool → Type 0
+Draws s seed draw most c inputs e true = IsDue s seed draw most c inputs e
+Draws s seed draw most c inputs e false =
+    due_leaf (taken_in (scene s) seed draw most c inputs) ≡ None
