@@ -1,6 +1,7 @@
 -- A machine of instants.
 use Rattle.std.specs.Prelude.{ℕ, List, [], None, Some}
 use Rattle.std.specs.declared.option.Option.{Option}
+use Rattle.lt_draw.specs.declared.directions.Draw.{Draw}
 use Rattle.lt_num.specs.declared.value.Value.{Value}
 use Rattle.lt_term.specs.Configuration.{Configuration, Reaction, first_configuration}
 use Rattle.lt_term.specs.Scene.{Scene}
@@ -23,15 +24,16 @@ pub data Phase : Type 0 where
 -- the state of a machine
 pub record State : Type 0 where
   pub scene : Scene
-  -- the seed of its words
+  -- the seed of its words, and the rule by which it draws
   pub seed : ℕ
+  pub draw : Draw
   -- the greatest need that a search may have
   pub budget : ℕ
   pub phase : Phase
 
 -- a machine that has not stepped
-abbrev pub started : Scene → ℕ → ℕ → State
-started s seed budget = record { scene = s; seed = seed; budget = budget; phase = running (first_configuration s) [] }
+abbrev pub started : Scene → ℕ → ℕ → Draw → State
+started s seed budget draw = record { scene = s; seed = seed; draw = draw; budget = budget; phase = running (first_configuration s) [] }
 
 -- what one step answers, and what it makes of the machine
 pub record Step : Type 0 where
@@ -54,7 +56,7 @@ answered m (i.budget n) = ended m (outcome.Budget n)
 
 -- a step in this phase: the next instant, or nothing more
 abbrev pub step_in : State → Phase → List Value → Step
-step_in m (running c locals) inputs = answered m (instant_of m.scene m.seed m.budget c inputs)
+step_in m (running c locals) inputs = answered m (instant_of m.scene m.seed m.draw m.budget c inputs)
 step_in m finished inputs = ended m outcome.Ended
 
 -- a step of a machine, in which the inputs have these values

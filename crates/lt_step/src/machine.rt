@@ -7,7 +7,7 @@ ghost use Rattle.lt_instant.specs.Equipment.{IsExplorerOf, IsPastOf, IsRoomOf};
 ghost use Rattle.lt_instant.specs.StandingView.{process_of};
 ghost use Rattle.lt_step.specs.inner.Done.{is_done_to};
 
-use lt_draw::StepWords;
+use lt_draw::{Draw, StepWords};
 use lt_instant::{Explorer, Past, Room, Standing, Taken, take_instant};
 use lt_num::{Arith, Value};
 use lt_term::{Memory, Scenario, Var, body_is_valid, turns_grow_by_one};
@@ -46,6 +46,7 @@ pub enum Outcome {
 pub struct Machine {
     scenario: Scenario,
     words: StepWords,
+    draw: Draw,
     budget: u64,
     standing: Standing,
     room: Room,
@@ -64,7 +65,7 @@ impl Machine {
     ghost use Rattle.lt_step.specs.View.{machine_state};
 
     /// A machine that has not stepped, of any scenario. The seed names the words by which it draws, and no search
-    /// is begun whose need is over the budget.
+    /// is begun whose need is over the budget. The last parameter is the rule by which it draws.
     ///
     /// # Errors
     ///
@@ -74,8 +75,9 @@ impl Machine {
         scenario: Scenario,
         seed: u64,
         budget: u64,
+        draw: Draw,
     ) -> Result<Machine, Memory>
-        ensures { IfOk result (λ m. machine_state m ≡ started (scene scenario) seed budget) }
+        ensures { IfOk result (λ m. machine_state m ≡ started (scene scenario) seed budget draw) }
     {
         body_is_valid(&scenario);
         // A law that the proof needs: a bound of turns may be taken for a greater one.
@@ -86,6 +88,7 @@ impl Machine {
         Ok(Machine {
             scenario,
             words: StepWords::new(seed, 1),
+            draw,
             budget,
             standing: Standing { explorer, past },
             room,
@@ -112,6 +115,7 @@ impl Machine {
             &mut self.standing,
             inputs,
             &self.words,
+            self.draw,
             self.budget,
             &mut self.room,
         );
@@ -188,6 +192,13 @@ impl Machine {
         ensures { map string_bytes result.now ≡ (machine_state self.now).scene.exceptions }
     {
         &self.scenario.exceptions
+    }
+
+    /// The rule by which it draws: the one that it was made with.
+    pub fn draw(&self) -> Draw
+        ensures { result ≡ (machine_state self.now).draw }
+    {
+        self.draw
     }
 
     /// How many decimals a real number has: 0 to 6.
