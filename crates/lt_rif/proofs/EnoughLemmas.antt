@@ -5,6 +5,8 @@ use Rattle.std.specs.List.{flat_map}
 use Rattle.std.proofs.lemmas.Fmt.{length-decimal-le, length-decimal-le_wide}
 use Rattle.std.proofs.lemmas.List.Sums.{sum_by-cons}
 use Rattle.std.proofs.Math.Nat.{div-le_self}
+use Rattle.lt_draw.specs.declared.directions.Draw.{Draw}
+use Rattle.lt_draw.specs.declared.directions.Draw.TheVariants.{Directed, Up}
 use Rattle.lt_num.specs.Text.{last_digits, decimals_text, size_text, text_of}
 use Rattle.lt_num.specs.declared.fault.Arith.{Arith}
 use Rattle.lt_num.specs.declared.fault.Arith.TheVariants as arith_fault
@@ -13,7 +15,7 @@ use Rattle.lt_num.specs.declared.kind.Kind.TheVariants as kind
 use Rattle.lt_num.specs.declared.value.Value.{Value}
 use Rattle.lt_num.specs.declared.value.Value.TheVariants as value
 use Rattle.lt_rif.specs.Enough.{IsSized, AreSized, AreLocalsSized, IsEndSized, names_length, HeaderFits, LineFits, StepFits, RoomIsEnough}
-use Rattle.lt_rif.specs.Trace.{DeclaredVariable, declared_text, kind_text, locals_header, decimals_of, value_text, value_words, local_words, locals_part, line, spaced, step_words, who_text, fault_text, refusal_text, end_words}
+use Rattle.lt_rif.specs.Trace.{DeclaredVariable, declared_text, kind_text, draw_header, locals_header, decimals_of, value_text, value_words, local_words, locals_part, line, spaced, step_words, who_text, fault_text, refusal_text, end_words}
 use Rattle.lt_rif.specs.declared.end.End.{End}
 use Rattle.lt_rif.specs.declared.end.End.TheVariants as end
 use Rattle.lt_rif.specs.declared.end.Who.{Who}
@@ -44,18 +46,32 @@ locals-length : (locals : Option (List DeclaredVariable)) → length (locals_hea
 locals-length None = omega arith
 locals-length (Some ds) = omega (arith, declared-all ds, length-append (codes "#locals" ++ flat_map declared_text ds) (10 ∷ []), length-append (codes "#locals") (flat_map declared_text ds))
 
+draw-length : (draw : Draw) → length (draw_header draw) ≤ 8
+draw-length Up = omega arith
+draw-length Directed = omega arith
+
 number-length : (n : ℕ) → n < 2 ^ 64 → length (decimal n) ≤ 20
 number-length n small = length-decimal-le 20 n (omega arith) (omega arith) small
 
 header-fits : HeaderFits
-header-fits seed outputs inputs locals small =
+header-fits seed draw outputs inputs locals small =
     let first = line (codes "#seed " ++ decimal seed) in
     let second = line (codes "#inputs" ++ flat_map declared_text outputs) in
     let third = line (codes "#outputs" ++ flat_map declared_text inputs) in
     let one : length first ≤ 27 = omega (arith, number-length seed small, length-append (codes "#seed " ++ decimal seed) (10 ∷ []), length-append (codes "#seed ") (decimal seed)) in
     let two : length second ≤ 8 + length (flat_map declared_text outputs) = omega (arith, length-append (codes "#inputs" ++ flat_map declared_text outputs) (10 ∷ []), length-append (codes "#inputs") (flat_map declared_text outputs)) in
     let three : length third ≤ 9 + length (flat_map declared_text inputs) = omega (arith, length-append (codes "#outputs" ++ flat_map declared_text inputs) (10 ∷ []), length-append (codes "#outputs") (flat_map declared_text inputs)) in
-    omega (arith, declared-all outputs, declared-all inputs, locals-length locals, length-append (first ++ second ++ third) (locals_header locals), length-append (first ++ second) third, length-append first second)
+    omega (
+      arith,
+      declared-all outputs,
+      declared-all inputs,
+      draw-length draw,
+      locals-length locals,
+      length-append (first ++ draw_header draw ++ second ++ third) (locals_header locals),
+      length-append (first ++ draw_header draw ++ second) third,
+      length-append (first ++ draw_header draw) second,
+      length-append first (draw_header draw),
+    )
 
 -- ---- values
 

@@ -4,6 +4,8 @@ use Rattle.std.specs.List.{before_first, flat_map, list_any}
 use Rattle.std.proofs.lemmas.Bool.Decides.{nat_tests}
 use Rattle.std.proofs.lemmas.Fmt.{digits_decimal}
 use Rattle.std.proofs.lemmas.List.Folds.{list_any-append}
+use Rattle.lt_draw.specs.declared.directions.Draw.{Draw}
+use Rattle.lt_draw.specs.declared.directions.Draw.TheVariants.{Directed, Up}
 use Rattle.lt_num.specs.Text.{size_text, text_of}
 use Rattle.lt_num.specs.declared.kind.Kind.{Kind}
 use Rattle.lt_num.specs.declared.kind.Kind.TheVariants as kind
@@ -14,7 +16,7 @@ use Rattle.lt_rif.specs.Enough.{IsSized, AreLocalsSized}
 use Rattle.lt_rif.specs.ReadBack.{HoldAll, kinds_of, WrittenStep, IsStep, text_of_step, values_of_step, AreOnLines, AreSteps, HaveValues, half_longest, StepReadsBack, TraceReadsBack}
 use Rattle.lt_rif.specs.Reply.{Reply, Stream, whole, longest, reply_of}
 use Rattle.lt_rif.specs.Spelling.{Filler, outs, comment, filler_text, IsFiller, AreFillers, gap_text, Field, field_text, fields_text, Writes, kept}
-use Rattle.lt_rif.specs.Trace.{DeclaredVariable, declared_text, header_text, kind_text, line, local_words, locals_header, locals_part, value_text, value_words}
+use Rattle.lt_rif.specs.Trace.{DeclaredVariable, declared_text, draw_header, header_text, kind_text, line, local_words, locals_header, locals_part, value_text, value_words}
 use Rattle.lt_rif.specs.Word.{is_blank, class_of}
 use Rattle.lt_rif.specs.declared.slot.Slot.{Slot}
 use Rattle.lt_rif.specs.declared.word.WordClass.TheVariants as class
@@ -447,6 +449,12 @@ record HeaderParts (text : List ℕ) : Type 0 where
   are : AreFillers parts
   is : text ≡ gap_text parts
 
+-- the line of the rule of drawing, where it stands, before such parts
+draw-then : (draw : Draw) (gap : List Filler) → AreFillers gap → HeaderParts (draw_header draw ++ gap_text gap)
+unfolding class_of
+draw-then Up gap are = record { parts = gap; are = are; is = refl }
+draw-then Directed gap are = record { parts = comment (codes "#draw 2") ∷ gap; are = ((refl, refl), are); is = refl }
+
 locals-parts : (locals : Option (List DeclaredVariable)) → AreOnLines (unwrap_or locals []) → HeaderParts (locals_header locals)
 unfolding class_of
 locals-parts None are = record { parts = []; are = tt; is = refl }
@@ -454,27 +462,32 @@ locals-parts (Some ds) are =
     let text = codes "#locals" ++ flat_map declared_text ds in
     record { parts = comment text ∷ []; are = (declared-comment (codes "#locals") ds refl refl refl are, tt); is = sym (append-nil (line text)) }
 
-header-parts : (seed : ℕ) (outputs inputs : List DeclaredVariable) (locals : Option (List DeclaredVariable)) → seed < 2 ^ 64 → AreOnLines outputs → AreOnLines inputs → AreOnLines (unwrap_or locals []) → HeaderParts (header_text seed outputs inputs locals)
+header-parts : (seed : ℕ) (draw : Draw) (outputs inputs : List DeclaredVariable) (locals : Option (List DeclaredVariable)) → seed < 2 ^ 64 → AreOnLines outputs → AreOnLines inputs → AreOnLines (unwrap_or locals []) → HeaderParts (header_text seed draw outputs inputs locals)
 unfolding class_of
-header-parts seed outputs inputs locals small outputs_are inputs_are locals_are =
+header-parts seed draw outputs inputs locals small outputs_are inputs_are locals_are =
     let rest = locals-parts locals locals_are in
     let first = codes "#seed " ++ decimal seed in
     let second = codes "#inputs" ++ flat_map declared_text outputs in
     let third = codes "#outputs" ++ flat_map declared_text inputs in
+    let variables = comment second ∷ comment third ∷ rest.parts in
+    let variables_are : AreFillers variables = (declared-comment (codes "#inputs") outputs refl refl refl outputs_are, (declared-comment (codes "#outputs") inputs refl refl refl inputs_are, rest.are)) in
+    let after = draw-then draw variables variables_are in
     record {
-      parts = comment first ∷ comment second ∷ comment third ∷ rest.parts;
-      are = (seed-comment seed small, (declared-comment (codes "#inputs") outputs refl refl refl outputs_are, (declared-comment (codes "#outputs") inputs refl refl refl inputs_are, rest.are)));
+      parts = comment first ∷ after.parts;
+      are = (seed-comment seed small, after.are);
       is =
-          append_assoc (line first ++ line second) (line third) (locals_header locals)
-          ∙ append_assoc (line first) (line second) (line third ++ locals_header locals)
-          ∙ ap (λ (t : List ℕ). line first ++ (line second ++ (line third ++ t))) rest.is;
+          append_assoc (line first ++ draw_header draw ++ line second) (line third) (locals_header locals)
+          ∙ append_assoc (line first ++ draw_header draw) (line second) (line third ++ locals_header locals)
+          ∙ append_assoc (line first) (draw_header draw) (line second ++ (line third ++ locals_header locals))
+          ∙ ap (λ (t : List ℕ). line first ++ (draw_header draw ++ (line second ++ (line third ++ t)))) rest.is
+          ∙ ap (λ (t : List ℕ). line first ++ t) after.is;
     }
 
 pub trace_reads_back : TraceReadsBack
-trace_reads_back decimals seed place outputs_slots inputs_slots outputs inputs locals kinds steps rest closed few small some outputs_are inputs_are locals_are steps_are short =
-    let header = header_text seed outputs inputs locals in
+trace_reads_back decimals seed place draw outputs_slots inputs_slots outputs inputs locals kinds steps rest closed few small some outputs_are inputs_are locals_are steps_are short =
+    let header = header_text seed draw outputs inputs locals in
     let texts = flat_map (text_of_step decimals outputs_slots inputs_slots kinds) steps in
-    let begins = header-parts seed outputs inputs locals small outputs_are inputs_are locals_are in
+    let begins = header-parts seed draw outputs inputs locals small outputs_are inputs_are locals_are in
     let fits : length (gap_text begins.parts) ≤ half_longest = subst (λ (t : List ℕ). length t ≤ half_longest) begins.is short in
     subst (λ (t : List ℕ). HaveValues (replies_of (length steps) decimals (outputs_slots ++ inputs_slots) (record { place = place; bytes = t ++ (texts ++ rest); is_closed = closed })) (map (values_of_step outputs_slots inputs_slots) steps)) (sym begins.is)
     (steps-read decimals outputs_slots inputs_slots kinds steps place begins.parts rest closed few some steps_are begins.are fits)

@@ -1,6 +1,7 @@
 -- That the room of `room_for` is enough.
 use Rattle.std.specs.Prelude.{ℕ, ◌+◌, ◌^◌, ◌<◌, ◌≤◌, List, [], ◌∷◌, length, sum_by, unsigned_abs, unwrap_or, None, Some}
 use Rattle.std.specs.declared.option.Option.{Option}
+use Rattle.lt_draw.specs.declared.directions.Draw.{Draw}
 use Rattle.lt_num.specs.Bounds.{most_decimals}
 use Rattle.lt_num.specs.declared.kind.Kind.{Kind}
 use Rattle.lt_num.specs.declared.value.Value.{Value}
@@ -36,8 +37,8 @@ names_length variables = sum_by (λ v. length v.name) variables
 -- a header fits
 abbrev pub HeaderFits : Type 0
 HeaderFits =
-    (seed : ℕ) (outputs inputs : List DeclaredVariable) (locals : Option (List DeclaredVariable)) → seed < 2 ^ 64 →
-    length (header_text seed outputs inputs locals)
+    (seed : ℕ) (draw : Draw) (outputs inputs : List DeclaredVariable) (locals : Option (List DeclaredVariable)) → seed < 2 ^ 64 →
+    length (header_text seed draw outputs inputs locals)
     ≤ room_for (length outputs + length inputs + length (unwrap_or locals [])) (names_length outputs + names_length inputs + names_length (unwrap_or locals []))
 
 -- a line fits

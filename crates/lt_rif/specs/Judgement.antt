@@ -4,7 +4,7 @@ use Rattle.std.specs.declared.option.Option.{Option}
 use Rattle.std.specs.declared.result.Result.{Result}
 use Rattle.lt_num.specs.Bounds.{most_raw}
 use Rattle.lt_num.specs.Value.{value_of}
-use Rattle.lt_num.specs.declared.range.Range.{Range}
+use Rattle.lt_num.specs.declared.interval.Interval.{Interval}
 use Rattle.lt_num.specs.declared.value.Value.{Value}
 use Rattle.lt_rif.specs.Number.{raw_written}
 use Rattle.lt_rif.specs.declared.slot.Slot.{Slot}
@@ -12,7 +12,7 @@ use Rattle.lt_rif.specs.declared.fault.ValueFault.{ValueFault}
 use Rattle.lt_rif.specs.declared.fault.ValueFault.TheVariants as fault
 
 -- whether a raw number is within a range, if there is one
-abbrev pub is_within : Option Range → ℤ → Bool
+abbrev pub is_within : Option Interval → ℤ → Bool
 is_within None raw = true
 is_within (Some range) raw = int_le range.low raw && int_le raw range.high
 

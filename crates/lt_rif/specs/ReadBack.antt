@@ -2,6 +2,7 @@
 use Rattle.std.specs.Prelude.{◌≡◌, ◌≤◌, ◌<◌, ℕ, ◌+◌, ◌^◌, Bool, true, false, ◌==◌, List, [], ◌∷◌, ◌++◌, length, map, unsigned_abs, unwrap_or}
 use Rattle.std.specs.List.{flat_map, list_any}
 use Rattle.std.specs.declared.option.Option.{Option}
+use Rattle.lt_draw.specs.declared.directions.Draw.{Draw}
 use Rattle.lt_num.specs.Bounds.{most_decimals, most_raw}
 use Rattle.lt_num.specs.Value.{raw_of, value_of}
 use Rattle.lt_num.specs.declared.kind.Kind.{Kind}
@@ -90,10 +91,10 @@ HaveValues findings vs = ⊥
 -- A trace that is written is read back, step after step, as the values of its steps.
 abbrev pub TraceReadsBack : Type 0
 TraceReadsBack =
-    (decimals seed place : ℕ) (outputs_slots inputs_slots : List Slot) (outputs inputs : List DeclaredVariable) (locals : Option (List DeclaredVariable)) (kinds : List Kind) (steps : List WrittenStep) (rest : List ℕ) (closed : Bool) →
+    (decimals seed place : ℕ) (draw : Draw) (outputs_slots inputs_slots : List Slot) (outputs inputs : List DeclaredVariable) (locals : Option (List DeclaredVariable)) (kinds : List Kind) (steps : List WrittenStep) (rest : List ℕ) (closed : Bool) →
     decimals ≤ most_decimals → seed < 2 ^ 64 → 0 < length (outputs_slots ++ inputs_slots) → AreOnLines outputs → AreOnLines inputs → AreOnLines (unwrap_or locals []) →
     AreSteps decimals outputs_slots inputs_slots kinds steps →
-    (let header = header_text seed outputs inputs locals in
+    (let header = header_text seed draw outputs inputs locals in
     length header ≤ half_longest →
     HaveValues
     (replies_of (length steps) decimals (outputs_slots ++ inputs_slots) (record { place = place; bytes = header ++ (flat_map (text_of_step decimals outputs_slots inputs_slots kinds) steps ++ rest); is_closed = closed }))

@@ -3,6 +3,8 @@ use Rattle.std.specs.Prelude.{ℕ, ◌+◌, ◌<◌, Bool, true, false, List, []
 use Rattle.std.specs.List.{flat_map, join_by}
 use Rattle.std.specs.String.{string_bytes}
 use Rattle.std.specs.declared.option.Option.{Option}
+use Rattle.lt_draw.specs.declared.directions.Draw.{Draw}
+use Rattle.lt_draw.specs.declared.directions.Draw.TheVariants.{Directed, Up}
 use Rattle.lt_num.specs.Text.{text_of}
 use Rattle.lt_num.specs.declared.fault.Arith.{Arith}
 use Rattle.lt_num.specs.declared.fault.Arith.TheVariants as arith_fault
@@ -46,15 +48,22 @@ kind_text kind.Real = codes "real"
 abbrev pub declared_text : DeclaredVariable → List ℕ
 declared_text d = codes " \"" ++ d.name ++ codes "\":" ++ kind_text d.kind
 
+-- the line of the rule of drawing, which stands exactly where directions are drawn
+abbrev pub draw_header : Draw → List ℕ
+draw_header Up = []
+draw_header Directed = line (codes "#draw 2")
+
 -- the line of the locals, where they are written
 abbrev pub locals_header : Option (List DeclaredVariable) → List ℕ
 locals_header None = []
 locals_header (Some locals) = line (codes "#locals" ++ flat_map declared_text locals)
 
--- The seed, what the controller takes in, and what it gives out: the scenario's outputs and inputs. Then its locals.
-abbrev pub header_text : ℕ → List DeclaredVariable → List DeclaredVariable → Option (List DeclaredVariable) → List ℕ
-header_text seed outputs inputs locals =
+-- The seed, and the rule of drawing. Then what the controller takes in, and what it gives out: the scenario's outputs and
+-- inputs. Then its locals.
+abbrev pub header_text : ℕ → Draw → List DeclaredVariable → List DeclaredVariable → Option (List DeclaredVariable) → List ℕ
+header_text seed draw outputs inputs locals =
     line (codes "#seed " ++ decimal seed)
+    ++ draw_header draw
     ++ line (codes "#inputs" ++ flat_map declared_text outputs)
     ++ line (codes "#outputs" ++ flat_map declared_text inputs)
     ++ locals_header locals

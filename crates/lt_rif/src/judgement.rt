@@ -7,7 +7,7 @@ ghost use Rattle.lt_rif.specs.Judgement.{is_within, judged};
 use crate::fault::ValueFault;
 use crate::number::raw_of_word;
 use crate::slot::Slot;
-use lt_num::{Range, Value};
+use lt_num::{Interval, Value};
 
 /// The value that a word writes in a slot, where reals have so many decimals, 0 to 6.
 ///
@@ -33,7 +33,7 @@ pub fn judge(slot: Slot, word: &[u8], decimals: u32) -> Result<Value, ValueFault
 }
 
 // Whether a raw number is within a range, if there is one.
-fn is_within(range: Option<Range>, raw: i64) -> bool
+fn is_within(range: Option<Interval>, raw: i64) -> bool
     ensures { result ≡ is_within range raw }
 {
     match range {

@@ -1,6 +1,6 @@
 //! What a reply has to hold.
 
-use lt_num::{Kind, Range};
+use lt_num::{Interval, Kind};
 
 /// A place for one value of a reply.
 #[derive(Clone, Copy, PartialEq, Eq)]
@@ -9,7 +9,7 @@ pub struct Slot {
     pub kind: Kind,
 
     /// The raw numbers that its value may have; all up to 10^12 in size where there is none.
-    pub range: Option<Range>,
+    pub range: Option<Interval>,
 
     /// Whether its value is kept.
     pub keep: bool,

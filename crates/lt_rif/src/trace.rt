@@ -1,16 +1,17 @@
 //! The text of a trace: `docs/TRACE.md` has its form.
 
-ghost use Rattle.std.specs.Prelude.{◌≡◌, ◌≤◌, ◌<◌, ◌+◌, ◌^◌, map, length, drop};
+ghost use Rattle.std.specs.Prelude.{◌≡◌, ◌≤◌, ◌<◌, ◌+◌, ◌^◌, ◌++◌, map, length, drop};
 ghost use Rattle.std.specs.List.{flat_map};
 ghost use Rattle.std.specs.Option.{option_copied, option_map};
 ghost use Rattle.lt_num.specs.Bounds.{most_decimals};
 ghost use Rattle.lt_rif.specs.Room.{AddsText, HasRoom, room_for};
-ghost use Rattle.lt_rif.specs.Trace.{declared_variable, declared_text, header_text, kind_text, line_text, locals_header, locals_part, step_text};
+ghost use Rattle.lt_rif.specs.Trace.{declared_variable, declared_text, draw_header, header_text, kind_text, line, line_text, locals_header, locals_part, step_text};
 ghost use Rattle.lt_rif.specs.inner.Spaced.{after_space, step_layout};
 
 use crate::declared::Declared;
 use crate::values::{append_after_space, append_before_space, append_locals, append_spaced};
 use crate::writing::{append, append_number};
+use lt_draw::Draw;
 use lt_num::{Kind, Value};
 
 /// The bytes that are enough for a header, a line, or a step with an end line after it. The header, the line and
@@ -23,30 +24,40 @@ pub fn room_for(variables: usize, names: usize) -> usize
     256 + 32 * variables + names
 }
 
-/// Appends the header of a trace: the seed, what the controller takes in, what it gives out, and the scenario's
-/// locals, where they are written.
+/// Appends the header of a trace: the seed and the rule of drawing, what the controller takes in, what it gives out, and
+/// the scenario's locals, where they are written.
 pub fn write_header(
     into: &mut Vec<u8>,
     seed: u64,
+    draw: Draw,
     outputs: &[Declared],
     inputs: &[Declared],
     locals: Option<&[Declared]>,
 )
     requires { HasRoom into.old
-        (header_text seed (map declared_variable outputs.now) (map declared_variable inputs.now)
+        (header_text seed draw (map declared_variable outputs.now) (map declared_variable inputs.now)
         (option_map (map declared_variable) (option_copied locals))) }
     ensures { AddsText into.old into.new
-        (header_text seed (map declared_variable outputs.now) (map declared_variable inputs.now)
+        (header_text seed draw (map declared_variable outputs.now) (map declared_variable inputs.now)
         (option_map (map declared_variable) (option_copied locals.entry))) }
 {
     append(into, b"#seed ");
     append_number(into, seed);
-    append(into, b"\n#inputs");
-    append_declared(into, outputs);
-    append(into, b"\n#outputs");
-    append_declared(into, inputs);
     append(into, b"\n");
+    append_draw_header(into, draw);
+    append_variables(into, b"#inputs", outputs);
+    append_variables(into, b"#outputs", inputs);
     append_locals_header(into, locals);
+}
+
+// Appends the line of the rule of drawing, where directions are drawn.
+fn append_draw_header(into: &mut Vec<u8>, draw: Draw)
+    requires { HasRoom into.old (draw_header draw) }
+    ensures { AddsText into.old into.new (draw_header draw) }
+{
+    if draw == Draw::Directed {
+        append(into, b"#draw 2\n");
+    }
 }
 
 // Appends the line of the locals, where they are written.
@@ -57,10 +68,20 @@ fn append_locals_header(into: &mut Vec<u8>, locals: Option<&[Declared]>)
         (locals_header (option_map (map declared_variable) (option_copied locals.entry))) }
 {
     if let Some(locals) = locals {
-        append(into, b"#locals");
-        append_declared(into, locals);
-        append(into, b"\n");
+        append_variables(into, b"#locals", locals);
     }
+}
+
+// Appends the line of a mark and the variables that are declared after it.
+fn append_variables(into: &mut Vec<u8>, mark: &[u8], variables: &[Declared])
+    requires { HasRoom into.old
+        (line (mark.now ++ flat_map declared_text (map declared_variable variables.now))) }
+    ensures { AddsText into.old into.new
+        (line (mark.now ++ flat_map declared_text (map declared_variable variables.now))) }
+{
+    append(into, mark);
+    append_declared(into, variables);
+    append(into, b"\n");
 }
 
 // Appends a space, a quoted name and a kind for each variable.
