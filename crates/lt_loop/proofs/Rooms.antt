@@ -4,6 +4,7 @@ use Rattle.std.proofs.lemmas.List.{length-map}
 use Rattle.std.proofs.lemmas.List.Sums.{sum_by-cons, sum_by_more}
 use Rattle.std.specs.Prelude.{sum_by, unwrap_or}
 use Rattle.std.specs.Option.{option_map}
+use Rattle.lt_draw.specs.declared.directions.Draw.{Draw}
 use Rattle.lt_num.specs.Bounds.{most_decimals}
 use Rattle.lt_num.specs.declared.kind.Kind.{Kind}
 use Rattle.lt_num.specs.declared.value.Value.{Value}
@@ -71,11 +72,11 @@ pub one_text_more : (names : List (String Global)) (i : ℕ) (d : String Global)
 one_text_more names i d within = sum_by_more length_of names i d within
 
 -- a header, in room that is enough for more
-pub header_fits : RoomIsEnough → (seed : ℕ) (outputs inputs locals : List DeclaredVariable) (writes_locals : Bool) (names : ℕ) → seed < 2 ^ 64
-    → length (header_text seed outputs inputs (where_written writes_locals locals))
+pub header_fits : RoomIsEnough → (seed : ℕ) (draw : Draw) (outputs inputs locals : List DeclaredVariable) (writes_locals : Bool) (names : ℕ) → seed < 2 ^ 64
+    → length (header_text seed draw outputs inputs (where_written writes_locals locals))
     ≤ room_for (length outputs + length inputs + length locals) (names + names_length outputs + names_length inputs + names_length locals)
-header_fits law seed outputs inputs locals true names small = let fits = law.0 seed outputs inputs (Some locals) small in omega (arith, fits)
-header_fits law seed outputs inputs locals false names small = let fits = law.0 seed outputs inputs None small in omega (arith, fits)
+header_fits law seed draw outputs inputs locals true names small = let fits = law.0 seed draw outputs inputs (Some locals) small in omega (arith, fits)
+header_fits law seed draw outputs inputs locals false names small = let fits = law.0 seed draw outputs inputs None small in omega (arith, fits)
 
 -- locals that are declared where they are written
 pub shown_is : (writes_locals : Bool) (locals : List Declared) (shown : Option (List Declared)) → shown ≡ where_written writes_locals locals
@@ -86,10 +87,10 @@ shown_is false locals shown is = ap (option_map (map declared_variable)) is
 -- ---- the texts of a scene
 
 -- the header of a scene whose variables are declared so
-pub headed : (s : Scene) (seed : ℕ) (writes_locals : Bool) (outputs inputs locals : List DeclaredVariable)
+pub headed : (s : Scene) (seed : ℕ) (draw : Draw) (writes_locals : Bool) (outputs inputs locals : List DeclaredVariable)
     → outputs ≡ map declared_as s.outputs → inputs ≡ map declared_as s.inputs → locals ≡ map declared_as s.locals
-    → header_text seed outputs inputs (where_written writes_locals locals) ≡ header_in s seed writes_locals
-headed s seed writes_locals outputs inputs locals o i l = λ j. header_text seed (o j) (i j) (where_written writes_locals (l j))
+    → header_text seed draw outputs inputs (where_written writes_locals locals) ≡ header_in s seed draw writes_locals
+headed s seed draw writes_locals outputs inputs locals o i l = λ j. header_text seed draw (o j) (i j) (where_written writes_locals (l j))
 
 -- as many variables are declared as a scene has
 declared_as_many : (ds : List Declared) (vs : List Variable) → map declared_variable ds ≡ map declared_as vs → length ds ≡ length vs

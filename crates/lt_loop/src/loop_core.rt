@@ -41,8 +41,8 @@ pub struct Core<M: Machine> {
     ghost has_side: { IsTrue (has_side phase setup.controller setup.oracle) },
     ghost made: { HasMade phase written M.rules (M.state machine) } by { HasMade-prop phase written M.rules (M.state machine) },
     ghost writes: { writing writer ≡ writing_of (M.scene machine) setup.locals } by { same_writing-prop (writing writer) (writing_of (M.scene machine) setup.locals) },
-    ghost opens: { Opens phase (header_in (M.scene machine) setup.seed setup.locals)
-        writer.text.items } by { Opens-prop phase (header_in (M.scene machine) setup.seed setup.locals) writer.text.items },
+    ghost opens: { Opens phase (header_in (M.scene machine) setup.seed setup.draw setup.locals)
+        writer.text.items } by { Opens-prop phase (header_in (M.scene machine) setup.seed setup.draw setup.locals) writer.text.items },
     ghost asks: { (side_state controller).reading.slots ≡
         reply_slots setup.controller (M.scene machine) } by { same_slots-prop (side_state controller).reading.slots
             (reply_slots setup.controller (M.scene machine)) },
@@ -80,8 +80,8 @@ impl<M: Machine> Core<M> {
 
     /// The core of a run of which nothing was put out. All that it needs is reserved here.
     ///
-    /// The machine was made with the setup's seed and hasn't stepped. Where there is no controller its scenario has
-    /// no inputs. At most 1,000,000 steps are allowed.
+    /// The machine was made with the setup's seed and rule of drawing, and hasn't stepped. Where there is no controller its
+    /// scenario has no inputs. At most 1,000,000 steps are allowed.
     ///
     /// # Errors
     ///
@@ -106,7 +106,7 @@ impl<M: Machine> Core<M> {
         let inputs = first_inputs(alloc, slots.len(), machine.input_vars())?;
         let controller = Side::make(alloc, slots, machine.decimals())?;
         let oracle = Side::of_oracle(alloc, machine.decimals())?;
-        let writer = Writer::make(alloc, &machine, setup.seed, setup.locals)?;
+        let writer = Writer::make(alloc, &machine, setup.seed, setup.draw, setup.locals)?;
         Ok(Core {
             machine,
             setup,

@@ -13,6 +13,7 @@ ghost use Rattle.lt_loop.specs.inner.Writing.{header_in, length_of, names_of};
 use crate::machine::Machine;
 use crate::sizes::{end_is_sized, locals_are_sized};
 use crate::var::Var;
+use lt_draw::Draw;
 use lt_num::{Kind, Value};
 use lt_rif::{
     Declared, End, room_for, room_is_enough, values_are_sized, write_end, write_header, write_line,
@@ -82,17 +83,18 @@ impl Writer {
         alloc: Global,
         machine: &M,
         seed: u64,
+        draw: Draw,
         writes_locals: bool,
     ) -> Result<Writer, AllocError>
         ensures writes { IfOk result (λ w. writing w ≡
             writing_of (M.scene machine.now) writes_locals) }
         ensures header { IfOk result (λ w. w.text.items ≡
-            header_in (M.scene machine.now) seed writes_locals) }
+            header_in (M.scene machine.now) seed draw writes_locals) }
     {
         let Some(names) = with_texts(0, machine.names()) else {
             return Err(AllocError);
         };
-        let text = header(alloc, machine, seed, writes_locals, names)?;
+        let text = header(alloc, machine, seed, draw, writes_locals, names)?;
         let outputs = output_kinds(alloc, machine)?;
         let step = step_kinds(alloc, machine)?;
         let all = all_kinds(alloc, machine)?;
@@ -287,11 +289,12 @@ fn header<M: Machine>(
     alloc: Global,
     machine: &M,
     seed: u64,
+    draw: Draw,
     writes_locals: bool,
     names: u32,
 ) -> Result<Vec<u8>, AllocError>
     ensures text { IfOk result (λ text. text.items ≡
-        header_in (M.scene machine.now) seed writes_locals) }
+        header_in (M.scene machine.now) seed draw writes_locals) }
     ensures room { IfOk result (λ text. room_for (length (all_kinds (M.scene machine.now))) names ≤
         vec_capacity text) }
 {
@@ -301,6 +304,7 @@ fn header<M: Machine>(
     header_of(
         alloc,
         seed,
+        draw,
         &outputs,
         &inputs,
         &locals,
@@ -313,6 +317,7 @@ fn header<M: Machine>(
 fn header_of(
     alloc: Global,
     seed: u64,
+    draw: Draw,
     outputs: &[Declared],
     inputs: &[Declared],
     locals: &[Declared],
@@ -320,7 +325,7 @@ fn header_of(
     names: u32,
 ) -> Result<Vec<u8>, AllocError>
     ensures text { IfOk result (λ text. text.items ≡
-        header_text seed (map declared_variable outputs.now) (map declared_variable inputs.now)
+        header_text seed draw (map declared_variable outputs.now) (map declared_variable inputs.now)
         (where_written writes_locals (map declared_variable locals.now))) }
     ensures room { IfOk result (λ text.
         room_for (length outputs.now + length inputs.now + length locals.now) names ≤
@@ -333,7 +338,7 @@ fn header_of(
     room_is_enough();
     let shown = where_declared(writes_locals, locals);
     let mut text = Vec::with_capacity(alloc, room)?;
-    write_header(&mut text, seed, outputs, inputs, shown);
+    write_header(&mut text, seed, draw, outputs, inputs, shown);
     Ok(text)
 }
 

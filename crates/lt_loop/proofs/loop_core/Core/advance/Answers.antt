@@ -18,7 +18,7 @@ use Rattle.lt_loop.proofs.loop_core.Core.advance.Goals as goal
 pub returns-in-Fresh-clause-out : goal.returns-in-Fresh-clause-out
 returns-in-Fresh-clause-out g c =
     let s = core_state {b = g.M.Machine} c.args.self.now in
-    let text = subst (λ (p : Phase). Opens p (header_in s.plan.scene s.plan.seed s.plan.writes_locals) (last_text {b = g.M.Machine} c.args.self.now)) c.in-Fresh.is c.args.self.now.opens in
+    let text = subst (λ (p : Phase). Opens p (header_in s.plan.scene s.plan.seed s.plan.draw s.plan.writes_locals) (last_text {b = g.M.Machine} c.args.self.now)) c.in-Fresh.is c.args.self.now.opens in
     opens s (last_text {b = g.M.Machine} c.args.self.now) c.in-Fresh.is (text ∙ opening_is s.plan)
 
 pub returns-in-Fresh-clause-controller : goal.returns-in-Fresh-clause-controller
