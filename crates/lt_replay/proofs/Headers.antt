@@ -9,11 +9,13 @@ use Rattle.std.proofs.lemmas.Bool.Decides.{nat_tests}
 use Rattle.std.proofs.lemmas.Fmt.{digits_decimal}
 use Rattle.std.proofs.lemmas.List.Folds.{list_any-append}
 use Rattle.std.proofs.lemmas.Str.Parse.{digit_at, numerals_by_value, tells_all_ascii_digits, IsNumeralModel}
+use Rattle.lt_draw.specs.declared.directions.Draw.{Draw}
+use Rattle.lt_draw.specs.declared.directions.Draw.TheVariants.{Directed, Up}
 use Rattle.lt_num.specs.declared.kind.Kind.{Kind}
 use Rattle.lt_num.specs.declared.kind.Kind.TheVariants as kind
 use Rattle.lt_rif.specs.ReadBack.{AreOnLines}
 use Rattle.lt_rif.specs.Spelling.{Filler, comment, AreFillers, IsFiller, gap_text}
-use Rattle.lt_rif.specs.Trace.{DeclaredVariable, declared_text, header_text, kind_text, line, locals_header}
+use Rattle.lt_rif.specs.Trace.{DeclaredVariable, declared_text, draw_header, header_text, kind_text, line, locals_header}
 use Rattle.lt_rif.specs.Word.{class_of}
 
 -- ---- lines without a line feed
@@ -85,24 +87,35 @@ pub record Parts (text : List ℕ) : Type 0 where
   pub are : AreFillers gap
   pub is : text ≡ gap_text gap
 
+-- the line of the rule of drawing, where it stands, before such parts
+draw_then : (draw : Draw) (gap : List Filler) → AreFillers gap → Parts (draw_header draw ++ gap_text gap)
+unfolding class_of
+draw_then Up gap are = record { gap = gap; are = are; is = refl }
+draw_then Directed gap are = record { gap = comment (codes "#draw 2") ∷ gap; are = ((refl, refl), are); is = refl }
+
 locals_parts : (locals : Option (List DeclaredVariable)) → AreOnLines (unwrap_or locals []) → Parts (locals_header locals)
 locals_parts None are = record { gap = []; are = tt; is = refl }
 locals_parts (Some ds) are =
     let text = codes "#locals" ++ flat_map declared_text ds in
     record { gap = comment text ∷ []; are = (locals_comment ds are, tt); is = sym (append-nil (line text)) }
 
-pub header_parts : (seed : ℕ) (outputs inputs : List DeclaredVariable) (locals : Option (List DeclaredVariable)) → seed < 2 ^ 64 → AreOnLines outputs → AreOnLines inputs → AreOnLines (unwrap_or locals [])
-    → Parts (header_text seed outputs inputs locals)
-header_parts seed outputs inputs locals small outputs_are inputs_are locals_are =
+pub header_parts : (seed : ℕ) (draw : Draw) (outputs inputs : List DeclaredVariable) (locals : Option (List DeclaredVariable)) → seed < 2 ^ 64 → AreOnLines outputs → AreOnLines inputs → AreOnLines (unwrap_or locals [])
+    → Parts (header_text seed draw outputs inputs locals)
+header_parts seed draw outputs inputs locals small outputs_are inputs_are locals_are =
     let rest = locals_parts locals locals_are in
     let first = codes "#seed " ++ decimal seed in
     let second = codes "#inputs" ++ flat_map declared_text outputs in
     let third = codes "#outputs" ++ flat_map declared_text inputs in
+    let variables = comment second ∷ comment third ∷ rest.gap in
+    let variables_are : AreFillers variables = (inputs_comment outputs outputs_are, (outputs_comment inputs inputs_are, rest.are)) in
+    let after = draw_then draw variables variables_are in
     record {
-      gap = comment first ∷ comment second ∷ comment third ∷ rest.gap;
-      are = (seed_comment seed small, (inputs_comment outputs outputs_are, (outputs_comment inputs inputs_are, rest.are)));
+      gap = comment first ∷ after.gap;
+      are = (seed_comment seed small, after.are);
       is =
-          append_assoc (line first ++ line second) (line third) (locals_header locals)
-          ∙ append_assoc (line first) (line second) (line third ++ locals_header locals)
-          ∙ ap (λ (t : List ℕ). line first ++ (line second ++ (line third ++ t))) rest.is;
+          append_assoc (line first ++ draw_header draw ++ line second) (line third) (locals_header locals)
+          ∙ append_assoc (line first ++ draw_header draw) (line second) (line third ++ locals_header locals)
+          ∙ append_assoc (line first) (draw_header draw) (line second ++ (line third ++ locals_header locals))
+          ∙ ap (λ (t : List ℕ). line first ++ (draw_header draw ++ (line second ++ (line third ++ t)))) rest.is
+          ∙ ap (λ (t : List ℕ). line first ++ t) after.is;
     }

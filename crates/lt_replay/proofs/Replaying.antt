@@ -215,7 +215,7 @@ declared_lines false locals are = tt
 opening_parts : (plan : Plan) → IsTraceable plan.scene → plan.seed < 2 ^ 64 → Parts (opening_text plan)
 unfolding opening_text
 opening_parts plan can small =
-    header_parts plan.seed (map declared_as plan.scene.outputs) (map declared_as plan.scene.inputs) (where_written plan.writes_locals (map declared_as plan.scene.locals)) small can.outputs can.inputs
+    header_parts plan.seed plan.draw (map declared_as plan.scene.outputs) (map declared_as plan.scene.inputs) (where_written plan.writes_locals (map declared_as plan.scene.locals)) small can.outputs can.inputs
     (declared_lines plan.writes_locals (map declared_as plan.scene.locals) can.locals)
 
 opening_stays : (plan : Plan) → opening_text (replaying plan) ≡ opening_text plan

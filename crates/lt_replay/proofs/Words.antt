@@ -12,7 +12,7 @@ use Rattle.std.proofs.Math.Nat.{div-le_self}
 use Rattle.lt_num.specs.Bounds.{most_decimals}
 use Rattle.lt_num.specs.Text.{last_digits, decimals_text, size_text, text_of}
 use Rattle.lt_num.specs.declared.kind.Kind.{Kind}
-use Rattle.lt_num.specs.declared.range.Range.{Range}
+use Rattle.lt_num.specs.declared.interval.Interval.{Interval}
 use Rattle.lt_num.specs.declared.value.Value.{Value}
 use Rattle.lt_num.specs.declared.value.Value.TheVariants as value
 use Rattle.lt_rif.specs.Enough.{IsSized, RoomIsEnough}
@@ -89,7 +89,7 @@ cut_short true place n vs s is = absurd (cc is)
 cut_short false place n vs s is = absurd (cc is)
 
 -- the reply that a word's judgement makes whole
-judgement_was : (r : Begun) (text : List ℕ) (k : Kind) (range : Option Range) (j : Result Value ValueFault) (left s : Stream) (v : Value) (go : Begun → Reply) → r.values ≡ []
+judgement_was : (r : Begun) (text : List ℕ) (k : Kind) (range : Option Interval) (j : Result Value ValueFault) (left s : Stream) (v : Value) (go : Begun → Reply) → r.values ≡ []
     → go_on (with_judged r text (record { kind = k; range = range; keep = true }) [] j) left go ≡ whole (v ∷ []) s → j ≡ Ok v
 judgement_was r text k range (Ok u) left s v go none is = cc
 judgement_was r text k range (Err f) left s v go none is = absurd (cc is)
@@ -101,7 +101,7 @@ module _ (left s : Stream) (v : Value) where
   ends_short r text is = cut_short (nat_le longest (r.taken + length text + 1 + 0)) r.place (r.taken + length text + 1 + 0) (v ∷ []) s is
 
   -- the word that makes a reply whole is a value's, and was judged so
-  class_was : (r : Begun) (text : List ℕ) (k : Kind) (range : Option Range) (w : WordClass) → r.values ≡ [] → r.slots ≡ record { kind = k; range = range; keep = true } ∷ []
+  class_was : (r : Begun) (text : List ℕ) (k : Kind) (range : Option Interval) (w : WordClass) → r.values ≡ [] → r.slots ≡ record { kind = k; range = range; keep = true } ∷ []
       → go_on (with_class r text true w) left (λ q. reply_in true q (last [])) ≡ whole (v ∷ []) s
       → (w ≡ class.Value) × (judged r.decimals (record { kind = k; range = range; keep = true }) text ≡ Ok v)
   class_was r text k range class.Passed none slots is = absurd (ends_short r text is)
@@ -110,7 +110,7 @@ module _ (left s : Stream) (v : Value) where
       (refl, judgement_was r text k range _ left s v _ none (ap (λ (ss : List Slot). go_on (with_word r text ss) left (λ q. reply_in true q (last []))) (sym slots) ∙ is))
 
   -- it isn't too long either
-  room_was : (r : Begun) (text : List ℕ) (k : Kind) (range : Option Range) (too_long : Bool) → r.values ≡ [] → r.slots ≡ record { kind = k; range = range; keep = true } ∷ []
+  room_was : (r : Begun) (text : List ℕ) (k : Kind) (range : Option Interval) (too_long : Bool) → r.values ≡ [] → r.slots ≡ record { kind = k; range = range; keep = true } ∷ []
       → (if too_long then malformed fault.TooLong r.place else go_on (with_class r text true (class_of text)) left (λ q. reply_in true q (last []))) ≡ whole (v ∷ []) s
       → (class_of text ≡ class.Value) × (judged r.decimals (record { kind = k; range = range; keep = true }) text ≡ Ok v)
   room_was r text k range true none slots is = absurd (cc is)
@@ -136,7 +136,7 @@ abbrev before_word : List ℕ
 before_word = codes "#step 0" ++ 10 ∷ (codes "#outs" ++ 32 ∷ [])
 
 -- what such a step is read as, after what stands before its input
-step_of_word : (decimals : ℕ) (k : Kind) (range : Option Range) (text : List ℕ) → list_any is_blank text ≡ false
+step_of_word : (decimals : ℕ) (k : Kind) (range : Option Interval) (text : List ℕ) → list_any is_blank text ≡ false
     → reply_of decimals (record { kind = k; range = range; keep = true } ∷ []) (record { place = 0; bytes = before_word ++ (text ++ 10 ∷ []); is_closed = true })
     ≡ reply_in true (record { decimals = decimals; slots = record { kind = k; range = range; keep = true } ∷ []; values = []; is_comment = false; taken = 14; place = 0 }) (word text 10 [] (last []))
 unfolding class_of
