@@ -18,6 +18,7 @@ request asked = record {
   file = asked.file.now;
   limit = asked.limit;
   seed = asked.seed;
+  draw = asked.draw;
   decimals = asked.decimals;
   budget = asked.budget;
   node = given_word asked.node;

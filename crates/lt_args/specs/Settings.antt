@@ -39,6 +39,14 @@ most_seed = 18_446_744_073_709_551_615
 abbrev pub default_seed : ℕ
 default_seed = 0
 
+-- the greatest number of a rule of drawing that words may ask for; the least is 1
+abbrev pub most_draw : ℕ
+most_draw = 2
+
+-- the number of the rule where they don't say
+abbrev pub default_draw : ℕ
+default_draw = 1
+
 -- the greatest budget that words may ask for
 abbrev pub most_budget : ℕ
 most_budget = 1_000_000_000_000

@@ -13,4 +13,4 @@ usage_word usage.Both = codes "both"
 -- how the program is called
 abbrev pub usage_text : List ℕ
 usage_text =
-    codes "lurette MODE FILE [-l N] [--seed N] [--precision N] [--budget N] [--node NAME] [--sut CMD] [--oracle CMD] [--replay FILE] [--locals]"
+    codes "lurette MODE FILE [-l N] [--seed N] [--precision N] [--budget N] [--node NAME] [--sut CMD] [--oracle CMD] [--replay FILE] [--locals] [--draw N]"

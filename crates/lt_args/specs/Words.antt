@@ -1,5 +1,5 @@
 -- What the words of a call ask for.
-use Rattle.std.specs.Prelude.{◌≡◌, ℕ, ◌≤◌, nat_le, Bool, true, false, not, ◌&&◌, List, [], Ok, Err, None, Some, codes, option_map, unwrap_or, if◌then◌else◌}
+use Rattle.std.specs.Prelude.{◌≡◌, ℕ, ◌≤◌, nat_le, Bool, true, false, not, ◌&&◌, ◌==◌, List, [], Ok, Err, None, Some, codes, option_map, unwrap_or, if◌then◌else◌}
 use Rattle.std.specs.Option.{is_some}
 use Rattle.std.specs.Str.{all_ascii_digits, bytes_eq}
 use Rattle.std.specs.Str.Parse.{digits_value, without_leading_plus}
@@ -9,9 +9,11 @@ use Rattle.clap.specs.Faults.{fault_of}
 use Rattle.clap.specs.Simple.{matches_of}
 use Rattle.clap.specs.Takes.{takes}
 use Rattle.clap.specs.Walk.{Row, Text, first_of, is_empty, one_of}
+use Rattle.lt_draw.specs.declared.directions.Draw.{Draw}
+use Rattle.lt_draw.specs.declared.directions.Draw.TheVariants.{Directed, Up}
 use Rattle.lt_loop.specs.InputSource.{InputSource, from_nobody, from_program, from_trace}
 use Rattle.lt_args.specs.Command.{command}
-use Rattle.lt_args.specs.Settings.{most_steps, default_steps, most_number, default_seed, most_decimals, default_decimals, default_budget}
+use Rattle.lt_args.specs.Settings.{most_steps, default_steps, most_number, default_seed, default_draw, most_decimals, default_decimals, default_budget}
 use Rattle.lt_args.specs.declared.usage.UsageKind.{UsageKind}
 use Rattle.lt_args.specs.declared.usage.UsageKind.TheVariants as usage
 use Rattle.lt_args.specs.declared.usage.WordsRefusal.{WordsRefusal}
@@ -28,6 +30,8 @@ pub record Request : Type 0 where
   pub limit : ℕ
   -- the seed of what is drawn
   pub seed : ℕ
+  -- the rule by which it is drawn
+  pub draw : Draw
   -- how many decimals a real has
   pub decimals : ℕ
   -- the greatest need that a search may have
@@ -95,6 +99,10 @@ source_by None None = from_nobody
 abbrev pub source_in : List Row → InputSource
 source_in found = source_by (first_of (codes "sut") found) (first_of (codes "replay") found)
 
+-- the rule of drawing that has this number
+abbrev pub draw_of : ℕ → Draw
+draw_of number = if number == 2 then Directed else Up
+
 -- the request of a mode, from what was found in the words, with what holds where an option isn't given
 abbrev pub request_of : Mode → List Row → Request
 request_of mode found = record {
@@ -102,6 +110,7 @@ request_of mode found = record {
   file = word_at (codes "file") found;
   limit = unwrap_or (number_at (codes "limit") found) default_steps;
   seed = unwrap_or (number_at (codes "seed") found) default_seed;
+  draw = draw_of (unwrap_or (number_at (codes "draw") found) default_draw);
   decimals = unwrap_or (number_at (codes "precision") found) default_decimals;
   budget = unwrap_or (number_at (codes "budget") found) default_budget;
   node = first_of (codes "node") found;

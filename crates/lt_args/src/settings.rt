@@ -1,7 +1,7 @@
 //! Numbers that a call goes by: `docs/COMMAND.md` has them.
 
 ghost use Rattle.std.specs.Prelude.{◌≡◌};
-ghost use Rattle.lt_args.specs.Settings.{longest_text, longest_replay, most_steps, default_steps, most_number, most_decimals, default_decimals, most_seed, default_seed, most_budget, default_budget};
+ghost use Rattle.lt_args.specs.Settings.{longest_text, longest_replay, most_steps, default_steps, most_number, most_decimals, default_decimals, most_seed, default_seed, most_draw, default_draw, most_budget, default_budget};
 
 /// The longest text of a scenario, in bytes.
 pub const LONGEST_TEXT: usize = 1_048_576;
@@ -30,6 +30,12 @@ pub const MOST_SEED: u64 = u64::MAX;
 /// The seed where words don't say.
 pub const DEFAULT_SEED: u64 = 0;
 
+/// The greatest number of a rule of drawing that words may ask for. The least is 1.
+pub const MOST_DRAW: u64 = 2;
+
+/// The number of the rule of drawing where words don't say.
+pub const DEFAULT_DRAW: u64 = 1;
+
 /// The greatest budget that words may ask for.
 pub const MOST_BUDGET: u64 = 1_000_000_000_000;
 
@@ -47,6 +53,8 @@ pub fn settings_are_as_defined()
     ensures default_decimals { DEFAULT_DECIMALS ≡ default_decimals }
     ensures most_seed { MOST_SEED ≡ most_seed }
     ensures default_seed { DEFAULT_SEED ≡ default_seed }
+    ensures most_draw { MOST_DRAW ≡ most_draw }
+    ensures default_draw { DEFAULT_DRAW ≡ default_draw }
     ensures most_budget { MOST_BUDGET ≡ most_budget }
     ensures default_budget { DEFAULT_BUDGET ≡ default_budget }
 {}

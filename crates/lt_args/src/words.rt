@@ -4,14 +4,17 @@ ghost use Rattle.std.specs.Prelude.{◌≡◌, map, string_bytes, Ok, Err, IfErr
 ghost use Rattle.clap.specs.Words.{found_of, rows_of};
 ghost use Rattle.lt_loop.specs.InputSource.{source_of};
 ghost use Rattle.lt_args.specs.Asked.{request};
-ghost use Rattle.lt_args.specs.Words.{HasSmallNumber, HaveForm, IsOfMeaning, IsPromised, IsRefusedBy, IsWithin, asked_by, has_both, large_run, mode_of, request_of, requested, source_in, stress_of};
+ghost use Rattle.lt_args.specs.Words.{HasSmallNumber, HaveForm, IsOfMeaning, IsPromised, IsRefusedBy, IsWithin, asked_by, draw_of, has_both, large_run, mode_of, request_of, requested, source_in, stress_of};
 ghost use Rattle.lt_args.specs.inner.Fitting.{NumbersFit};
 
 use crate::command::command;
 use crate::found::{decimals_in, is_given, number_in, option_in, word_in};
-use crate::settings::{DEFAULT_BUDGET, DEFAULT_DECIMALS, DEFAULT_SEED, DEFAULT_STEPS, MOST_NUMBER};
+use crate::settings::{
+    DEFAULT_BUDGET, DEFAULT_DECIMALS, DEFAULT_DRAW, DEFAULT_SEED, DEFAULT_STEPS, MOST_NUMBER,
+};
 use crate::usage::{UsageKind, WordsRefusal};
 use clap::ArgMatches;
+use lt_draw::Draw;
 use lt_loop::InputSource;
 use std::alloc::Global;
 
@@ -43,6 +46,9 @@ pub struct Request<'a> {
     /// The seed of what is drawn.
     pub seed: u64,
 
+    /// The rule by which it is drawn.
+    pub draw: Draw,
+
     /// How many decimals a real has.
     pub decimals: u32,
 
@@ -63,8 +69,8 @@ pub struct Request<'a> {
 }
 
 /// What the words ask for, as clap reads them: MODE and FILE, which is `run FILE`, `print FILE` or `stress N`, and `-l N`, `--seed N`,
-/// `--precision N`, `--budget N`, `--node NAME`, `--sut CMD`, `--oracle CMD`, `--replay FILE` and `--locals`, in any order
-/// and each at most once. A run has no `--sut` beside `--replay`.
+/// `--precision N`, `--budget N`, `--node NAME`, `--sut CMD`, `--oracle CMD`, `--replay FILE`, `--locals` and
+/// `--draw N`, in any order and each at most once. A run has no `--sut` beside `--replay`.
 pub fn requested<'a>(alloc: Global, words: &'a [String]) -> Result<Request<'a>, WordsRefusal>
     ensures reads { MatchResult result
         (λ asked. requested (map string_bytes words.entry.now) ≡ Ok (request asked))
@@ -152,6 +158,17 @@ fn source_in<'a>(found: &ArgMatches<'a>) -> InputSource<'a>
     }
 }
 
+// The rule of drawing that has this number.
+fn draw_of(number: u64) -> Draw
+    ensures { result ≡ draw_of number }
+{
+    if number == 2 {
+        Draw::Directed
+    } else {
+        Draw::Up
+    }
+}
+
 // The request of a mode, from what was found in the words, with what holds where an option isn't given.
 fn request_in<'a>(mode: Mode, found: &ArgMatches<'a>) -> Request<'a>
     requires fits { NumbersFit (rows_of (found_of found.now)) }
@@ -164,6 +181,7 @@ fn request_in<'a>(mode: Mode, found: &ArgMatches<'a>) -> Request<'a>
         file: word_in(found, "file"),
         limit: number_in(found, "limit").unwrap_or(DEFAULT_STEPS),
         seed: number_in(found, "seed").unwrap_or(DEFAULT_SEED),
+        draw: draw_of(number_in(found, "draw").unwrap_or(DEFAULT_DRAW)),
         decimals: decimals_in(found).unwrap_or(DEFAULT_DECIMALS),
         budget: number_in(found, "budget").unwrap_or(DEFAULT_BUDGET),
         node: option_in(found, "node"),

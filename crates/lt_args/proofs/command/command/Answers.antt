@@ -17,4 +17,5 @@ returns c =
     let sut = c.in_ok-made-8.ensures ∙ ap₂ with_rule node c.with_word-2.ensures.rule in
     let oracle = c.in_ok-made-9.ensures ∙ ap₂ with_rule sut c.with_word-3.ensures.rule in
     let replay = c.in_ok-made-10.ensures ∙ ap₂ with_rule oracle c.with_word-4.ensures.rule in
-    IfOk-weaker c.with-11.result _ _ (λ made last. last ∙ ap₂ with_rule replay c.locals.ensures.rule) c.with-11.ensures
+    let locals = c.in_ok-made-11.ensures ∙ ap₂ with_rule replay c.locals.ensures.rule in
+    IfOk-weaker c.with-12.result _ _ (λ made last. last ∙ ap₂ with_rule locals c.with_number-4.ensures.rule) c.with-12.ensures
