@@ -5,38 +5,44 @@ use std::test::Fail;
 
 const ASKED: &str = r#"
 ## what is not given has a default
-run f ==> Run f; (100, 0, 2, 10000000); (None, None, None, None); false
-print f ==> Print f; (100, 0, 2, 10000000); (None, None, None, None); false
-print - ==> Print -; (100, 0, 2, 10000000); (None, None, None, None); false
-run '' ==> Run ; (100, 0, 2, 10000000); (None, None, None, None); false
+run f ==> Run f; (100, 0, 2, 10000000); (None, None, None, None); false; Up
+print f ==> Print f; (100, 0, 2, 10000000); (None, None, None, None); false; Up
+print - ==> Print -; (100, 0, 2, 10000000); (None, None, None, None); false; Up
+run '' ==> Run ; (100, 0, 2, 10000000); (None, None, None, None); false; Up
 
 ## options stand anywhere
-run f -l 12 --precision 3 --sut c --locals ==> Run f; (12, 0, 3, 10000000); (None, Some("c"), None, None); true
--l 12 --precision 3 --sut c --locals run f ==> Run f; (12, 0, 3, 10000000); (None, Some("c"), None, None); true
---locals run -l 12 --sut c f --precision 3 ==> Run f; (12, 0, 3, 10000000); (None, Some("c"), None, None); true
--l12 --locals --sut=c --precision=3 -- run f ==> Run f; (12, 0, 3, 10000000); (None, Some("c"), None, None); true
-run -l=12 --sut=c --precision=3 --locals f -- ==> Run f; (12, 0, 3, 10000000); (None, Some("c"), None, None); true
+run f -l 12 --precision 3 --sut c --locals ==> Run f; (12, 0, 3, 10000000); (None, Some("c"), None, None); true; Up
+-l 12 --precision 3 --sut c --locals run f ==> Run f; (12, 0, 3, 10000000); (None, Some("c"), None, None); true; Up
+--locals run -l 12 --sut c f --precision 3 ==> Run f; (12, 0, 3, 10000000); (None, Some("c"), None, None); true; Up
+-l12 --locals --sut=c --precision=3 -- run f ==> Run f; (12, 0, 3, 10000000); (None, Some("c"), None, None); true; Up
+run -l=12 --sut=c --precision=3 --locals f -- ==> Run f; (12, 0, 3, 10000000); (None, Some("c"), None, None); true; Up
 
 ## numbers may have a plus and zeros
-run f -l +5 --seed 007 --precision +02 --budget 0001 ==> Run f; (5, 7, 2, 1); (None, None, None, None); false
-run f -l+5 --seed=+007 --precision=06 --budget=+1000000000000 ==> Run f; (5, 7, 6, 1000000000000); (None, None, None, None); false
-run f -l 1000000 --seed 18446744073709551615 --precision 0 ==> Run f; (1000000, 18446744073709551615, 0, 10000000); (None, None, None, None); false
-run f -l 0 --seed=+18446744073709551615 ==> Run f; (0, 18446744073709551615, 2, 10000000); (None, None, None, None); false
+run f -l +5 --seed 007 --precision +02 --budget 0001 ==> Run f; (5, 7, 2, 1); (None, None, None, None); false; Up
+run f -l+5 --seed=+007 --precision=06 --budget=+1000000000000 ==> Run f; (5, 7, 6, 1000000000000); (None, None, None, None); false; Up
+run f -l 1000000 --seed 18446744073709551615 --precision 0 ==> Run f; (1000000, 18446744073709551615, 0, 10000000); (None, None, None, None); false; Up
+run f -l 0 --seed=+18446744073709551615 ==> Run f; (0, 18446744073709551615, 2, 10000000); (None, None, None, None); false; Up
+
+## a rule of drawing has a number
+run f --draw 1 ==> Run f; (100, 0, 2, 10000000); (None, None, None, None); false; Up
+run f --draw 2 ==> Run f; (100, 0, 2, 10000000); (None, None, None, None); false; Directed
+--draw=+02 run f --seed 7 ==> Run f; (100, 7, 2, 10000000); (None, None, None, None); false; Directed
+print f --draw 2 --locals ==> Print f; (100, 0, 2, 10000000); (None, None, None, None); true; Directed
 
 ## a large run is asked for by its number
-stress 6 ==> Stress(6) 6; (100, 0, 2, 10000000); (None, None, None, None); false
-stress 007 ==> Stress(7) 007; (100, 0, 2, 10000000); (None, None, None, None); false
-stress 0 ==> Stress(0) 0; (100, 0, 2, 10000000); (None, None, None, None); false
---sut c stress --replay=t 999999 ==> Stress(999999) 999999; (100, 0, 2, 10000000); (None, Some("c"), None, None); false
+stress 6 ==> Stress(6) 6; (100, 0, 2, 10000000); (None, None, None, None); false; Up
+stress 007 ==> Stress(7) 007; (100, 0, 2, 10000000); (None, None, None, None); false; Up
+stress 0 ==> Stress(0) 0; (100, 0, 2, 10000000); (None, None, None, None); false; Up
+--sut c stress --replay=t 999999 ==> Stress(999999) 999999; (100, 0, 2, 10000000); (None, Some("c"), None, None); false; Up
 
 ## words are taken as they stand
-run f --node n --oracle 'o -x 5' --sut '' ==> Run f; (100, 0, 2, 10000000); (Some("n"), Some(""), Some("o -x 5"), None); false
-run f --node=-x --sut=--locals --oracle= ==> Run f; (100, 0, 2, 10000000); (Some("-x"), Some("--locals"), Some(""), None); false
-run --replay=a=b -- -l ==> Run -l; (100, 0, 2, 10000000); (None, None, None, Some("a=b")); false
-print f --sut c --replay t --locals ==> Print f; (100, 0, 2, 10000000); (None, Some("c"), None, None); true
+run f --node n --oracle 'o -x 5' --sut '' ==> Run f; (100, 0, 2, 10000000); (Some("n"), Some(""), Some("o -x 5"), None); false; Up
+run f --node=-x --sut=--locals --oracle= ==> Run f; (100, 0, 2, 10000000); (Some("-x"), Some("--locals"), Some(""), None); false; Up
+run --replay=a=b -- -l ==> Run -l; (100, 0, 2, 10000000); (None, None, None, Some("a=b")); false; Up
+print f --sut c --replay t --locals ==> Print f; (100, 0, 2, 10000000); (None, Some("c"), None, None); true; Up
 "#;
 
 #[test]
 fn words_ask_for_what_they_say(rt: HostRuntime) -> Result<(), Fail> {
-    check(&rt, ASKED, 21)
+    check(&rt, ASKED, 25)
 }

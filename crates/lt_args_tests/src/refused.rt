@@ -31,7 +31,7 @@ run f -lh ==> Usage(Words)
 run f --version ==> Usage(Words)
 
 ## unknown options are refused
-run f --draw 3 ==> Usage(Words)
+run f --drawn 2 ==> Usage(Words)
 run f --zz=5 ==> Usage(Words)
 run f -x ==> Usage(Words)
 run f --see 5 ==> Usage(Words)
@@ -51,6 +51,7 @@ run f --node n --node m ==> Usage(Words)
 run f --sut c --sut c ==> Usage(Words)
 run f --oracle o --replay t --oracle o ==> Usage(Words)
 run f --locals --locals ==> Usage(Words)
+run f --draw 1 --draw 2 ==> Usage(Words)
 
 ## an option has its word and a flag has none
 run f -l ==> Usage(Words)
@@ -61,6 +62,7 @@ run f --replay -l 5 ==> Usage(Words)
 run f --oracle --locals ==> Usage(Words)
 run f --node -x ==> Usage(Words)
 run f --sut -- c ==> Usage(Words)
+run f --draw ==> Usage(Words)
 run f --locals=yes ==> Usage(Words)
 run f --locals= ==> Usage(Words)
 
@@ -83,6 +85,10 @@ run f --precision= ==> Usage(Words)
 print f --budget 0 ==> Usage(Words)
 run f --budget=00 ==> Usage(Words)
 print f --budget 1000000000001 ==> Usage(Words)
+run f --draw 0 ==> Usage(Words)
+run f --draw 3 ==> Usage(Words)
+run f --draw=up ==> Usage(Words)
+stress 6 --draw 3 ==> Usage(Words)
 
 ## an empty word is no number
 run f -l '' ==> Usage(Words)
@@ -115,5 +121,5 @@ run --replay t f --locals --sut c ==> Usage(Both)
 
 #[test]
 fn wrong_words_are_refused_by_their_kind(rt: HostRuntime) -> Result<(), Fail> {
-    check(&rt, REFUSED, 88)
+    check(&rt, REFUSED, 94)
 }

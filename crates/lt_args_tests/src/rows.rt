@@ -10,7 +10,8 @@ use std::alloc::{AllocError, Global};
 use std::process::Abort;
 use std::test::Fail;
 
-// What comes of words, in a line: the mode and the file, the numbers, the words of options, and whether locals are asked for.
+// What comes of words, in a line: the mode and the file, the numbers, the words of options, whether locals are
+// asked for, and the rule of drawing.
 fn answered(alloc: Global, words: &[String]) -> Result<String, AllocError> {
     match requested(alloc, words) {
         Ok(of) => {
@@ -18,8 +19,8 @@ fn answered(alloc: Global, words: &[String]) -> Result<String, AllocError> {
             let (sut, replay) = sources_of(of.inputs);
             let words = (of.node, sut, of.oracle, replay);
             format!(in alloc;
-                "{:?} {}; {numbers:?}; {words:?}; {}",
-                of.mode, of.file, of.locals
+                "{:?} {}; {numbers:?}; {words:?}; {}; {:?}",
+                of.mode, of.file, of.locals, of.draw
             )
         }
         Err(refusal) => format!(in alloc; "{refusal:?}"),
