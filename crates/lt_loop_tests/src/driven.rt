@@ -5,6 +5,7 @@ ghost use Rattle.lt_loop.specs.Event.{WantsTell};
 
 use crate::alone::Alone;
 use crate::echo::Echo;
+use lt_draw::Draw;
 use lt_drive::{DriveEnd, drive};
 use lt_io::{MemSink, ScriptLink};
 use lt_loop::{Core, Machine, Setup, Talk, Wants};
@@ -93,6 +94,7 @@ fn three_steps<'a>(controller: Said<'a>, oracle: Said<'a>) -> Script<'a> {
 fn drive_echo(alloc: Global, script: Script<'_>, header: &str) -> Result<String, Fail> {
     let setup = Setup {
         seed: 0,
+        draw: Draw::Up,
         limit: u64::from(script.limit),
         locals: false,
         controller: if script.replays {
@@ -110,6 +112,7 @@ fn drive_echo(alloc: Global, script: Script<'_>, header: &str) -> Result<String,
 fn drive_alone(alloc: Global) -> Result<String, Fail> {
     let setup = Setup {
         seed: 0,
+        draw: Draw::Up,
         limit: 4,
         locals: false,
         controller: Talk::Nobody,

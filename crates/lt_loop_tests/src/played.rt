@@ -5,6 +5,7 @@ ghost use Rattle.lt_loop.specs.Event.{WantsTell};
 
 use crate::alone::Alone;
 use crate::echo::Echo;
+use lt_draw::Draw;
 use lt_io::{Calls, MemSink, MemSpawner, ScriptLink};
 use lt_loop::{Core, InputSource, Machine, Setup, Talk, Wants};
 use lt_session::{SessionEnd, Sides, play};
@@ -35,6 +36,7 @@ fn spawner_of(alloc: Global, programs: &[Program<'_>]) -> Result<MemSpawner, Fai
 fn play_echo(alloc: Global, sides: Sides<'_>, programs: &[Program<'_>]) -> Result<String, Fail> {
     let setup = Setup {
         seed: 0,
+        draw: Draw::Up,
         limit: 2,
         locals: false,
         controller: match sides.inputs {
@@ -139,23 +141,44 @@ Driven(Ended(Limit)), asked for [], 0 faults"#;
     check(&rt, rt.alloc(), sides, &[], due)
 }
 
-#[test]
-fn a_run_without_a_controller_starts_nothing(rt: HostRuntime) -> Result<(), Fail> {
+// Plays a run of one step at most of the machine that has no inputs, by a rule of drawing.
+fn play_alone(alloc: Global, draw: Draw) -> Result<String, Fail> {
     let setup = Setup {
         seed: 0,
+        draw,
         limit: 1,
         locals: false,
         controller: Talk::Nobody,
         oracle: false,
     };
-    let mut core = Core::make(rt.alloc(), Alone::make(rt.alloc())?, setup)?;
+    let mut core = Core::make(alloc, Alone::make(alloc)?, setup)?;
     let sides = Sides {
         inputs: InputSource::Nobody,
         replay: &[],
         oracle: None,
     };
-    let found = play_over(rt.alloc(), &mut core, sides, &[("car", "7\n", &[])])?;
+    play_over(alloc, &mut core, sides, &[("car", "7\n", &[])])
+}
+
+#[test]
+fn a_run_without_a_controller_starts_nothing(rt: HostRuntime) -> Result<(), Fail> {
+    let found = play_alone(rt.alloc(), Draw::Up)?;
     let due = r#"#seed 0
+#inputs "x":int
+#outputs
+#step 1
+5 #outs
+#end limit 1
+Driven(Ended(Limit)), asked for [], 0 faults"#;
+    assert_eq!(rt; found.as_str(), due);
+    Ok(())
+}
+
+#[test]
+fn a_trace_says_where_directions_are_drawn(rt: HostRuntime) -> Result<(), Fail> {
+    let found = play_alone(rt.alloc(), Draw::Directed)?;
+    let due = r#"#seed 0
+#draw 2
 #inputs "x":int
 #outputs
 #step 1
