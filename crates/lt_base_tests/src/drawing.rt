@@ -1,8 +1,8 @@
-//! That words, picks and targets are those that other programs make.
+//! That words, picks, targets and directions are those that other programs make, or that the rules say.
 
 use crate::rows::{check, halves, numbers_of};
 use crate::subject::Subject;
-use lt_draw::{StepWords, pick, sum_of, target, word};
+use lt_draw::{StepWords, downward, pick, sum_of, target, word};
 use lt_num::Range;
 use std::alloc::Global;
 use std::test::Fail;
@@ -111,7 +111,7 @@ pub fn put_pick(found: &mut String, alloc: Global, given: &str) -> Result<(), Fa
     Ok(())
 }
 
-// The ends of a range and a word, with the number that it aims at.
+// The ends of a range, its step where it has one, and a word, with the number that it aims at.
 const TARGETS: &str = "
 -3 3 by 6 ==> 3
 -3 3 by 7 ==> -3
@@ -120,6 +120,16 @@ const TARGETS: &str = "
 -9223372036854775808 9223372036854775807 by 0 ==> -9223372036854775808
 -9223372036854775808 9223372036854775807 by 18446744073709551615 ==> 9223372036854775807
 -9223372036854775808 9223372036854775806 by 18446744073709551615 ==> -9223372036854775808
+
+the points of a range with a step
+0 100 step 25 by 3 ==> 75
+0 100 step 25 by 4 ==> 100
+0 100 step 25 by 7 ==> 50
+0 9 step 4 by 5 ==> 8
+0 9 step 4 by 6 ==> 0
+-7 -1 step 3 by 1 ==> -4
+3 7 step 100 by 18446744073709551615 ==> 3
+-9223372036854775808 9223372036854775807 step 9223372036854775807 by 5 ==> 9223372036854775806
 
 a first variable, which nothing constrains, has the values that another program wrote in a trace: by a seed at each step
 0 3 by 2689535733758285068 at 1 ==> 3
@@ -142,15 +152,41 @@ a first variable, which nothing constrains, has the values that another program 
 /// Puts the number of a range that a word aims at, or that of a seed at a step for its first variable.
 pub fn put_target(found: &mut String, given: &str) -> Result<(), Fail> {
     let (range, drawn) = halves(given, " by ")?;
-    let (low, high) = halves(range, " ")?;
-    let (low, high) = (low.parse()?, high.parse()?);
+    let range = range_of(range)?;
     let word = match drawn.split_once(" at ") {
         Some((seed, step)) => StepWords::new(seed.parse()?, step.parse()?).word(FIRST_VARIABLE),
         None => drawn.parse()?,
     };
-    if low <= high {
-        write!(found, "{}", target(Range { low, high }, word))?;
+    if range.low <= range.high && range.step >= 1 {
+        write!(found, "{}", target(range, word))?;
     }
+    Ok(())
+}
+
+// The range of these ends, and with this step, where there is one.
+fn range_of(words: &str) -> Result<Range, Fail> {
+    let (ends, step) = words.split_once(" step ").unwrap_or((words, "1"));
+    let (low, high) = halves(ends, " ")?;
+    Ok(Range {
+        low: low.parse()?,
+        high: high.parse()?,
+        step: step.parse()?,
+    })
+}
+
+// A word, with whether it says downward.
+const DIRECTIONS: &str = "
+0 ==> false
+1 ==> true
+6411218084291373563 ==> true
+8542392665323216598 ==> false
+18446744073709551614 ==> false
+18446744073709551615 ==> true
+";
+
+/// Puts whether a word says downward.
+pub fn put_direction(found: &mut String, given: &str) -> Result<(), Fail> {
+    write!(found, "{}", downward(given.parse()?))?;
     Ok(())
 }
 
@@ -158,5 +194,6 @@ pub fn put_target(found: &mut String, given: &str) -> Result<(), Fail> {
 fn draws_are_those_of_other_programs(rt: HostRuntime) -> Result<(), Fail> {
     check(&rt, rt.alloc(), &Subject::Words, WORDS, 21)?;
     check(&rt, rt.alloc(), &Subject::Picks, PICKS, 11)?;
-    check(&rt, rt.alloc(), &Subject::Targets, TARGETS, 22)
+    check(&rt, rt.alloc(), &Subject::Targets, TARGETS, 30)?;
+    check(&rt, rt.alloc(), &Subject::Directions, DIRECTIONS, 6)
 }

@@ -12,7 +12,7 @@ ghost use Rattle.lt_rif.specs.Reading.{reading, given};
 
 use crate::rows::{bytes_of, check, halves, kind_of};
 use crate::subject::Subject;
-use lt_num::{Kind, Range, Value};
+use lt_num::{Interval, Kind, Value};
 use lt_rif::{Closing, Fed, Reader, Slot};
 use std::alloc::Global;
 use std::test::Fail;
@@ -444,7 +444,7 @@ fn slots_of(alloc: Global, text: &str) -> Result<Vec<Slot>, Fail> {
 fn slot_of(text: &str) -> Result<Slot, Fail> {
     let kept = text.strip_prefix("skipped ");
     let (word, range) = match kept.unwrap_or(text).split_once(" [") {
-        Some((word, ends)) => (word, Some(range_of(ends)?)),
+        Some((word, ends)) => (word, Some(interval_of(ends)?)),
         None => (kept.unwrap_or(text), None),
     };
     Ok(Slot {
@@ -454,11 +454,11 @@ fn slot_of(text: &str) -> Result<Slot, Fail> {
     })
 }
 
-// The range between ends, as `-9;9]`.
-fn range_of(ends: &str) -> Result<Range, Fail> {
+// The interval between ends, as `-9;9]`.
+fn interval_of(ends: &str) -> Result<Interval, Fail> {
     let (low, high) = halves(ends, ";")?;
     let high = high.strip_suffix(']').ok_or("a bracket")?;
-    Ok(Range {
+    Ok(Interval {
         low: low.parse()?,
         high: high.parse()?,
     })

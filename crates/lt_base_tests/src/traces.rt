@@ -9,6 +9,7 @@ ghost use Rattle.lt_rif.specs.Trace.{declared_variable, IsNamed};
 
 use crate::rows::check;
 use crate::subject::Subject;
+use lt_draw::Draw;
 use lt_num::{Arith, Kind, Value};
 use lt_rif::{
     Declared, End, ValueFault, Who, room_for, room_is_enough, write_end, write_header, write_line,
@@ -27,6 +28,7 @@ a line of no values at 6 ==> "\n"
 
 a header declares variables
 a header ==> "#seed 7\n#inputs \"temp\":real\n#outputs \"heat\":bool\n"
+a header where directions are drawn ==> "#seed 7\n#draw 2\n#inputs \"temp\":real\n#outputs \"heat\":bool\n"
 a header with a local ==> "#seed 0\n#inputs\n#outputs \"heat\":bool\n#locals \"gust.1\":int\n"
 
 steps and ends are lines
@@ -48,7 +50,7 @@ end Budget ==> "#step 3\n#outs\n#end budget 170141183460469231731687303715884105
 
 #[test]
 fn traces_are_written_as_lines(rt: HostRuntime) -> Result<(), Fail> {
-    check(&rt, rt.alloc(), &Subject::Traces, TEXTS, 19)
+    check(&rt, rt.alloc(), &Subject::Traces, TEXTS, 20)
 }
 
 /// Puts the text of what a row names.
@@ -80,7 +82,8 @@ fn text_of(alloc: Global, name: &str) -> Result<Vec<u8>, Fail> {
         "a line at 2" => line(alloc, &VALUES, &KINDS_OF_VALUES, 2),
         "a line at 0" => line(alloc, &VALUES, &KINDS_OF_VALUES, 0),
         "a line of no values at 6" => line(alloc, &[], &[], 6),
-        "a header" => header_of_output(alloc),
+        "a header" => header_of_output(alloc, Draw::Up),
+        "a header where directions are drawn" => header_of_output(alloc, Draw::Directed),
         "a header with a local" => header_of_local(alloc),
         "a step with a local" => {
             let locals = [Some(Value::Num(-12))];
@@ -131,6 +134,7 @@ fn line(alloc: Global, values: &[Value], kinds: &[Kind], decimals: u32) -> Resul
 fn header(
     alloc: Global,
     seed: u64,
+    draw: Draw,
     outputs: &[Declared],
     inputs: &[Declared],
     locals: Option<&[Declared]>,
@@ -143,12 +147,12 @@ fn header(
 {
     room_is_enough();
     let mut into = Vec::with_capacity(alloc, room_for(100, 100))?;
-    write_header(&mut into, seed, outputs, inputs, locals);
+    write_header(&mut into, seed, draw, outputs, inputs, locals);
     Ok(into)
 }
 
 // A header with an output of the scenario and an input.
-fn header_of_output(alloc: Global) -> Result<Vec<u8>, Fail> {
+fn header_of_output(alloc: Global, draw: Draw) -> Result<Vec<u8>, Fail> {
     let outputs = [Declared {
         name: String::from_str(alloc, "temp")?,
         kind: Kind::Real,
@@ -157,7 +161,7 @@ fn header_of_output(alloc: Global) -> Result<Vec<u8>, Fail> {
         name: String::from_str(alloc, "heat")?,
         kind: Kind::Bool,
     }];
-    header(alloc, 7, &outputs, &inputs, None)
+    header(alloc, 7, draw, &outputs, &inputs, None)
 }
 
 // A header with an input of the scenario and a local.
@@ -170,7 +174,7 @@ fn header_of_local(alloc: Global) -> Result<Vec<u8>, Fail> {
         name: String::from_str(alloc, "gust.1")?,
         kind: Kind::Int,
     }];
-    header(alloc, 0, &[], &inputs, Some(&locals))
+    header(alloc, 0, Draw::Up, &[], &inputs, Some(&locals))
 }
 
 // A step, and the end line after it with the same number, in the room that is enough for both.
