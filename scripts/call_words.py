@@ -6,7 +6,9 @@ Nothing is judged here. Words that the program refuses are handed to it as they 
 from collections import namedtuple
 
 # The options that a word belongs to.
-VALUED = ("-l", "--seed", "--precision", "--budget", "--node", "--sut", "--oracle", "--replay")
+VALUED = (
+    "-l", "--seed", "--precision", "--budget", "--node", "--sut", "--oracle", "--replay", "--draw"
+)
 
 # What a call says: its role ("mode", "file" or the option's name), and the text of it, which stands
 # in the word of this number from this letter on.

@@ -108,6 +108,8 @@ def trace_of(text):
     seed = rest_of(lines, "#seed")
     if not re.fullmatch("[0-9]+", seed):
         raise lines.wrong("#seed S is due here")
+    if lines.peek() == "#draw 2":
+        lines.take()
     variables = declared(lines, "#inputs") + declared(lines, "#outputs")
     if lines.peek().startswith("#locals"):
         variables += declared(lines, "#locals")

@@ -31,6 +31,10 @@ class Reading(unittest.TestCase):
         self.assertEqual(trace.steps, [[18.0, True, False, None], [17.5, False, True, -3.0]])
         self.assertEqual(draw_trace.bad_step(trace), 2)
 
+    def test_a_trace_may_name_the_rule_of_drawing(self):
+        drawn = draw_trace.trace_of(TRACE.replace("#seed 7\n", "#seed 7\n#draw 2\n"))
+        self.assertEqual(drawn, draw_trace.trace_of(TRACE))
+
     def test_a_step_without_inputs_or_outputs(self):
         trace = draw_trace.trace_of("#seed 0\n#inputs\n#outputs\n#step 1\n#outs\n#end normal 1\n")
         self.assertEqual((trace.variables, trace.steps), ([], [[]]))
@@ -43,6 +47,8 @@ class Reading(unittest.TestCase):
 
     def test_other_texts_are_refused_with_a_line(self):
         self.assertEqual(self.refused("#seed 7\n", ""), "line 1: #seed is due here")
+        wanted = "line 2: #inputs is due here"
+        self.assertEqual(self.refused("#seed 7\n", "#seed 7\n#draw 3\n"), wanted)
         self.assertEqual(self.refused('"door":bool', "door"), 'line 2: door is not "NAME":KIND')
         self.assertEqual(self.refused("#step 2", "#step 3"), "line 7: #step 2 is due here")
         self.assertEqual(self.refused("18.00 t", "18.00 1"), "line 6: 1 is no value of door")

@@ -22,6 +22,8 @@ class Words(unittest.TestCase):
     def test_files_and_commands_are_found_in_any_order(self):
         wanted = [("-l", "5"), ("mode", "run"), ("--sut", "a b"), ("file", "f"), ("--replay", "t")]
         self.assertEqual(self.roles("-l5 run --sut 'a b' --locals f --replay=t"), wanted)
+        wanted = [("mode", "run"), ("--draw", "2"), ("file", "f")]
+        self.assertEqual(self.roles("run --draw 2 f"), wanted)
 
     def test_what_stands_behind_two_dashes_is_plain(self):
         self.assertEqual(self.roles("run -- -f"), [("mode", "run"), ("file", "-f")])
