@@ -153,13 +153,13 @@ same_oracle (Some word) = refl
 
 -- what the core of a run is told
 abbrev pub told_by : CodeRequest → Setup
-told_by r = record { seed = r.seed; limit = r.limit; locals = r.locals; controller = talk_of (request r).inputs; oracle = is_some r.oracle }
+told_by r = record { seed = r.seed; draw = r.draw; limit = r.limit; locals = r.locals; controller = talk_of (request r).inputs; oracle = is_some r.oracle }
 
-module _ (r : CodeRequest) (s : Scene) (sc : core.Scene) (setup : Setup) (m : State) (is_scene : sc ≡ known_scene s) (is_setup : setup ≡ told_by r) (is_state : m ≡ started s r.seed r.budget) where
+module _ (r : CodeRequest) (s : Scene) (sc : core.Scene) (setup : Setup) (m : State) (is_scene : sc ≡ known_scene s) (is_setup : setup ≡ told_by r) (is_state : m ≡ started s r.seed r.budget r.draw) where
   plan_is : view.plan_of sc setup ≡ plan_of (request r) s
   plan_is =
       ap (λ x. view.plan_of x setup) is_scene ∙ ap (view.plan_of (known_scene s)) is_setup
-      ∙ ap (λ (b : Bool). record { scene = known_scene s; seed = r.seed; writes_locals = r.locals; controller = talk_of (request r).inputs; has_oracle = b }) (some_word r.oracle)
+      ∙ ap (λ (b : Bool). record { scene = known_scene s; seed = r.seed; draw = r.draw; writes_locals = r.locals; controller = talk_of (request r).inputs; has_oracle = b }) (some_word r.oracle)
 
   course_is : (at : CoreState State) → at.plan ≡ view.plan_of sc setup → at.written ≡ 0 →
       ((c o : Rest) → resume at c o ≡ play_of scenario_rules (view.plan_of sc setup) setup.limit m (view.stream_of c) (view.stream_of o)) → IsContinuationOf (request r) s (continuation_of at)

@@ -28,6 +28,7 @@ abbrev pub plan_of : Request → Scene → Plan
 plan_of request scene = record {
   scene = known_scene scene;
   seed = request.seed;
+  draw = request.draw;
   writes_locals = request.locals;
   controller = talk_of request.inputs;
   has_oracle = is_some request.oracle;
@@ -36,7 +37,7 @@ plan_of request scene = record {
 -- the run of a scenario on the two streams: what it puts out, and how it ends
 abbrev pub run_of : Request → Scene → Rest → Rest → Play
 run_of request scene controller oracle =
-    play_of scenario_rules (plan_of request scene) request.limit (started scene request.seed request.budget) (stream_of controller) (stream_of oracle)
+    play_of scenario_rules (plan_of request scene) request.limit (started scene request.seed request.budget request.draw) (stream_of controller) (stream_of oracle)
 
 -- this is the course of that run, of which nothing was put out
 pub record IsContinuationOf (request : Request) (scene : Scene) (k : Continuation) : Type 0 where

@@ -22,7 +22,8 @@ use std::alloc::Global;
 
 /// Does what the words after the program's name ask for: `run FILE` reads the scenario FILE, runs it for at
 /// most as many steps as `-l N` says, 100 where it isn't given, and writes the trace; `print FILE` writes the
-/// program that FILE spells as text; `stress N` makes the large run of the number N, and writes its line. `--seed N` names what is drawn, else 0 does. With `--precision N` a real has N
+/// program that FILE spells as text; `stress N` makes the large run of the number N, and writes its line. `--seed N` names
+/// what is drawn, else 0 does, and by `--draw 2` the directions of variables are drawn too. With `--precision N` a real has N
 /// decimals, else 2; no search is begun whose need is over `--budget N`, else 10,000,000; and `--node NAME` names the
 /// node that is run, else the first one. `--sut CMD` starts the controller, which is told the outputs of each instant and
 /// answers its inputs; `--replay FILE` takes them from an earlier trace; `--oracle CMD` starts a program that judges each

@@ -7,7 +7,7 @@ use std::test::Fail;
 fn what_is_drawn_is_named_by_the_seed(rt: HostRuntime) -> Result<(), Fail> {
     // The same call twice writes the same.
     for _ in 0..2 {
-        check_rows(&rt, "", 22, DRAWN)?;
+        check_rows(&rt, "", 27, DRAWN)?;
     }
     Ok(())
 }
@@ -92,6 +92,41 @@ f is node n() returns (x, y: int [0;3]) = loop x + y = 3
 > #seed 0\n#inputs "x":int "y":int\n#outputs
 > #step 1\n0 3 #outs\n#step 2\n0 3 #outs\n#step 3\n1 2 #outs\n#step 4\n0 3 #outs
 > #end limit 4
+
+## by the second rule of drawing each variable has a direction of its own
+
+-- Nothing is said of a target, so it is taken in each direction.
+$ run f -l 3 --draw 2
+f is node n() returns (x: int [0;999]) = loop true
+> #seed 0\n#draw 2\n#inputs "x":int\n#outputs
+> #step 1\n928 #outs\n#step 2\n576 #outs\n#step 3\n865 #outs
+> #end limit 3
+
+$ run f --draw 2
+f is node n() returns (x: int [0;3]) = x = 1
+> #seed 0\n#draw 2\n#inputs "x":int\n#outputs
+> #step 1\n1 #outs\n#end normal 1
+
+-- The targets are 8, 6, 5, 4, 8, and the second, the third and the last lead downward.
+$ run f -l 5 --draw 2
+f is node n() returns (x: int [0;9] = 5) = exist d: int [-1;1] in loop x = pre x + d
+> #seed 0\n#draw 2\n#inputs "x":int\n#outputs
+> #step 1\n4 #outs\n#step 2\n5 #outs\n#step 3\n5 #outs\n#step 4\n4 #outs\n#step 5\n5 #outs
+> #end limit 5
+
+$ run f -l 5 --draw 1
+f is node n() returns (x: int [0;9] = 5) = exist d: int [-1;1] in loop x = pre x + d
+> #seed 0\n#inputs "x":int\n#outputs
+> #step 1\n4 #outs\n#step 2\n3 #outs\n#step 3\n2 #outs\n#step 4\n1 #outs\n#step 5\n0 #outs
+> #end limit 5
+
+-- Three more targets are 7, 5, 4, and only the last of them leads downward. The fifth step goes down to 7, and up it would be 2.
+$ run f -l 8 --draw 2
+f is node n() returns (x: int [0;9]) = loop (x = 2 or x = 7)
+> #seed 0\n#draw 2\n#inputs "x":int\n#outputs
+> #step 1\n2 #outs\n#step 2\n2 #outs\n#step 3\n2 #outs\n#step 4\n7 #outs
+> #step 5\n7 #outs\n#step 6\n7 #outs\n#step 7\n7 #outs\n#step 8\n2 #outs
+> #end limit 8
 
 ## an alternative without weight is never taken
 f is node n() returns (x: int [0;3]) = { |0: x = 1 |3: x = 2 }

@@ -149,7 +149,7 @@ t is "t t "
 c says "t "
 
 $ run f --sut c --replay t
-= 2 lurette: usage: both\nlurette MODE FILE [-l N] [--seed N] [--precision N] [--budget N] [--node NAME] [--sut CMD] [--oracle CMD] [--replay FILE] [--locals]
+= 2 lurette: usage: both\nlurette MODE FILE [-l N] [--seed N] [--precision N] [--budget N] [--node NAME] [--sut CMD] [--oracle CMD] [--replay FILE] [--locals] [--draw N]
 files 0
 
 $ print f --sut c --replay t

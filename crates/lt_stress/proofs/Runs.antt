@@ -1,6 +1,7 @@
 -- What a run that was driven against a plant is.
 use Rattle.std.proofs.Common.{◌≡◌, ◌≤◌, ℕ, ◌+◌, Bool, true, false, List, [], ◌∷◌, ◌++◌, None, Some, IfSome, refl, ap, sym, subst, ◌∙◌, arith}
 use Rattle.std.specs.declared.option.Option.{Option}
+use Rattle.lt_draw.specs.declared.directions.Draw.TheVariants.{Up}
 use Rattle.lt_drive.specs.Drive.{Continuation, IsDriven, ended, failed, untraced}
 use Rattle.lt_drive.specs.Interaction.{IsReceived, received_then, text_to}
 use Rattle.lt_io.specs.Outside.{Links, Outside}
@@ -66,15 +67,15 @@ ran_so n scene e steps sum None so run = tt
 ran_so n scene e steps sum (Some r) so run = subst (λ (x : Ran). HasRun n scene x.end x.steps x.sum) (sym so.0) (run so.1)
 
 -- the course of a core that was just made
-pub course_made : (n : ℕ) (scene : Scene) (k : Continuation) (known : CoreScene) (state : State) (setup : Setup) → k.written ≡ 0 → known ≡ known_scene scene → state ≡ started scene n default_budget →
-    setup ≡ record { seed = n; limit = limit_of n; locals = false; controller = talk.Live; oracle = false } →
+pub course_made : (n : ℕ) (scene : Scene) (k : Continuation) (known : CoreScene) (state : State) (setup : Setup) → k.written ≡ 0 → known ≡ known_scene scene → state ≡ started scene n default_budget Up →
+    setup ≡ record { seed = n; draw = Up; limit = limit_of n; locals = false; controller = talk.Live; oracle = false } →
     ((c o : Rest) → k.play c o ≡ play_of scenario_rules (plan_of known setup) setup.limit state (stream_of c) (stream_of o)) → IsContinuationOf n scene k
 course_made n scene k known state setup unwritten is_known is_state is_setup plays = record {
   unwritten = unwritten;
   plays = λ c o. plays c o
       ∙ ap (λ (x : CoreScene). play_of scenario_rules (plan_of x setup) setup.limit state (stream_of c) (stream_of o)) is_known
       ∙ ap (λ (x : State). play_of scenario_rules (plan_of (known_scene scene) setup) setup.limit x (stream_of c) (stream_of o)) is_state
-      ∙ ap (λ (x : Setup). play_of scenario_rules (plan_of (known_scene scene) x) x.limit (started scene n default_budget) (stream_of c) (stream_of o)) is_setup;
+      ∙ ap (λ (x : Setup). play_of scenario_rules (plan_of (known_scene scene) x) x.limit (started scene n default_budget Up) (stream_of c) (stream_of o)) is_setup;
 }
 
 -- a trace that keeps nothing never fails

@@ -1,5 +1,6 @@
 -- The run of a number.
 use Rattle.std.specs.Prelude.{◌≡◌, ℕ, false, List, [], None, Ok, Err}
+use Rattle.lt_draw.specs.declared.directions.Draw.TheVariants.{Up}
 use Rattle.lt_drive.specs.Interaction.{text_to}
 use Rattle.lt_drive.specs.Told.{closed}
 use Rattle.lt_loop.specs.CoreView.{stream_of}
@@ -26,14 +27,15 @@ IsSceneOf n scene = IsScenarioAnswer default_decimals None (scenario_text (varia
 abbrev pub IsRefusedFor : ℕ → Refusal → Type 0
 IsRefusedFor n reason = IsScenarioAnswer default_decimals None (scenario_text (variables_of n)) (Err reason)
 
--- what the run is told before it begins: its seed is the number, and there is a controller and no oracle
+-- what the run is told before it begins: its seed is the number, each variable goes up from its target, and there is a
+-- controller and no oracle
 abbrev pub plan_of : ℕ → Scene → Plan
-plan_of n scene = record { scene = known_scene scene; seed = n; writes_locals = false; controller = talk.Live; has_oracle = false }
+plan_of n scene = record { scene = known_scene scene; seed = n; draw = Up; writes_locals = false; controller = talk.Live; has_oracle = false }
 
 -- the run of the scenario on what comes of the two sides
 abbrev pub run_of : ℕ → Scene → Rest → Rest → Play
 run_of n scene controller oracle =
-    play_of scenario_rules (plan_of n scene) (limit_of n) (started scene n default_budget) (stream_of controller) (stream_of oracle)
+    play_of scenario_rules (plan_of n scene) (limit_of n) (started scene n default_budget Up) (stream_of controller) (stream_of oracle)
 
 -- This is the run of a number: the run of its scenario in which the controller's replies are those of the plant to the lines
 -- that this very run has for the controller.

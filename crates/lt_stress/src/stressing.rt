@@ -22,6 +22,7 @@ use crate::report::report;
 use crate::scenario::{limit_of, scenario_text, variables_of};
 use crate::stressed::Stressed;
 use lt_args::{DEFAULT_BUDGET, DEFAULT_DECIMALS};
+use lt_draw::Draw;
 use lt_drive::{DriveEnd, drive};
 use lt_frontend::{Unprepared, scenario_of};
 use lt_io::{Failed, Sink, put};
@@ -104,7 +105,7 @@ fn play(alloc: Global, number: u64, scenario: Scenario) -> Option<Ran>
     let Ok(mut plant) = Plant::make(alloc, number) else {
         return None;
     };
-    let Ok(player) = Player::make(alloc, scenario, number, DEFAULT_BUDGET) else {
+    let Ok(player) = Player::make(alloc, scenario, number, DEFAULT_BUDGET, Draw::Up) else {
         return None;
     };
     let Ok(mut core) = Core::make(alloc, player, setup(number)) else {
@@ -117,6 +118,7 @@ fn play(alloc: Global, number: u64, scenario: Scenario) -> Option<Ran>
 fn setup(number: u64) -> Setup
     ensures { result ≡ record {
       seed = number;
+      draw = Draw.Up;
       limit = limit_of number;
       locals = false;
       controller = Talk.Live;
@@ -125,6 +127,7 @@ fn setup(number: u64) -> Setup
 {
     Setup {
         seed: number,
+        draw: Draw::Up,
         limit: limit_of(number),
         locals: false,
         controller: Talk::Live,
