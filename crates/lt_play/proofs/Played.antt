@@ -2,6 +2,7 @@
 use Rattle.std.proofs.Common.{◌≡◌, ◌+◌, ◌<◌, ◌≤◌, ℕ, zero, suc, Bool, true, false, ◌&&◌, nat_lt, List, [], ◌∷◌, length, map, Some, None, if◌then◌else◌, ℤ, refl, ap, sym, ◌∙◌, subst, arith}
 use Rattle.std.proofs.lemmas.List.{length-map}
 use Rattle.std.specs.declared.option.Option.{Option}
+use Rattle.lt_draw.specs.declared.directions.Draw.{Draw}
 use Rattle.lt_num.specs.declared.value.Value.{Value}
 use Rattle.lt_formula.specs.Expression.{Expression}
 use Rattle.lt_space.specs.Formula.{Formula}
@@ -61,7 +62,7 @@ values_length : (k : ℕ) (vs : List Variable) (raws : List ℤ) → length (val
 values_length k [] raws = refl
 values_length k (v ∷ vs) raws = ap suc (values_length (suc k) vs raws)
 
-module _ (s : Scene) (seed most : ℕ) (c : Configuration) (inputs : List Value) where
+module _ (s : Scene) (seed : ℕ) (draw : Draw) (most : ℕ) (c : Configuration) (inputs : List Value) where
   go_leads : (ls : Lasts) (n : Process Expression) (solution : Option (List ℤ)) → LeadsOn s c (go_instant s c inputs ls n solution)
   go_leads ls n None = tt
   go_leads ls n (Some raws) = (refl, values_length 0 s.outputs raws)
@@ -70,22 +71,22 @@ module _ (s : Scene) (seed most : ℕ) (c : Configuration) (inputs : List Value)
   tested_leads true need ls n solution = tt
   tested_leads false need ls n solution = go_leads ls n solution
 
-  leaf_leads : (o : Leaf) → LeadsOn s c (leaf_instant s seed most c inputs o)
+  leaf_leads : (o : Leaf) → LeadsOn s c (leaf_instant s seed draw most c inputs o)
   leaf_leads vanish = tt
   leaf_leads nothing = tt
   leaf_leads (raised z) = tt
   leaf_leads (faulty f) = tt
-  leaf_leads (go f ls n) = tested_leads (nat_lt most (need_of s ls f)) (need_of s ls f) ls n (solution_of s (words_of seed c) ls f)
+  leaf_leads (go f ls n) = tested_leads (nat_lt most (need_of s ls f)) (need_of s ls f) ls n (solution_of s draw (words_of seed c) ls f)
 
-  taken_leads : (m : Option (Met Formula (Process Expression))) → LeadsOn s c (taken_instant s seed most c inputs m)
+  taken_leads : (m : Option (Met Formula (Process Expression))) → LeadsOn s c (taken_instant s seed draw most c inputs m)
   taken_leads None = tt
   taken_leads (Some m) = leaf_leads m.outlook
 
-  size_leads : (large : Bool) → LeadsOn s c (if large then too_large else taken_instant s seed most c inputs (taken_in s seed most c inputs))
+  size_leads : (large : Bool) → LeadsOn s c (if large then too_large else taken_instant s seed draw most c inputs (taken_in s seed draw most c inputs))
   size_leads true = tt
-  size_leads false = taken_leads (taken_in s seed most c inputs)
+  size_leads false = taken_leads (taken_in s seed draw most c inputs)
 
-  instant_leads : LeadsOn s c (instant_of s seed most c inputs)
+  instant_leads : LeadsOn s c (instant_of s seed draw most c inputs)
   instant_leads = size_leads (is_too_large s c)
 
 -- ---- what a step leaves
@@ -112,7 +113,7 @@ answered_leaves m c locals too_large h = (refl, tt, λ e. absurd (cc e))
 answered_leaves m c locals (i.budget n) h = (refl, tt, λ e. absurd (cc e))
 
 step_leaves : (m : State) (p : Phase) (inputs : List Value) → Leaves m p (step_in m p inputs)
-step_leaves m (running c locals) inputs = answered_leaves m c locals (instant_of m.scene m.seed m.budget c inputs) (instant_leads m.scene m.seed m.budget c inputs)
+step_leaves m (running c locals) inputs = answered_leaves m c locals (instant_of m.scene m.seed m.draw m.budget c inputs) (instant_leads m.scene m.seed m.draw m.budget c inputs)
 step_leaves m finished inputs = (refl, tt, λ e. absurd (cc e))
 
 -- what a step of the code tells
@@ -163,8 +164,8 @@ module _ (old new : State) (inputs : List Value) where
   one_more steps.Ended h n v e = absurd (cc)
 
 -- a machine that hasn't stepped made none
-pub starts_shown : (m : State) (s : Scene) (seed budget : ℕ) → m ≡ started s seed budget → IsShown m
-starts_shown m s seed budget is = let P : State → Type 0 = IsShown in subst P (sym is) (λ more. absurd (omega (arith, more)))
+pub starts_shown : (m : State) (s : Scene) (seed budget : ℕ) (draw : Draw) → m ≡ started s seed budget draw → IsShown m
+starts_shown m s seed budget draw is = let P : State → Type 0 = IsShown in subst P (sym is) (λ more. absurd (omega (arith, more)))
 
 -- a machine that made an instant shows a value for each output
 pub all_shown : (m : State) → IsShown m → (n : ℕ) → made_in m.phase ≡ Some (n + 1) → length (outputs_in m.phase) ≡ length (known_scene m.scene).outputs

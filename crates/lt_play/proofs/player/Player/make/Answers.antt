@@ -8,7 +8,7 @@ use Rattle.lt_play.proofs.player.Player.make.Goals as goal
 
 pub invariant_of-result : goal.invariant_of-result
 invariant_of-result c = record {
-  shows = starts_shown (machine_state c.in_ok-machine.machine) (scene c.args.scenario) c.args.seed c.args.budget c.in_ok-machine.ensures;
+  shows = starts_shown (machine_state c.in_ok-machine.machine) (scene c.args.scenario) c.args.seed c.args.budget c.args.draw c.in_ok-machine.ensures;
   inputs_are = c.in_ok-inputs.ensures ∙ ap (λ (vs : List Variable). map known_variable vs) c.input_vars.ensures;
   outputs_are = c.in_ok-outputs.ensures ∙ ap (λ (vs : List Variable). map known_variable vs) c.output_vars.ensures;
   locals_are = c.in_ok-locals.ensures ∙ ap (λ (vs : List Variable). map known_variable vs) c.local_vars.ensures;
