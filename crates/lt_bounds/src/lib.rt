@@ -18,7 +18,7 @@ mod sums;
 mod tightening;
 
 pub use laws::no_point_is_lost;
-pub use places::{places_within, points_within, value_at, values_within};
+pub use places::{multiple_under, places_within, points_within, value_at, values_within};
 pub use rows::Rows;
 pub use sums::{greatest_of, least_of};
 pub use tightening::{Tight, cut_in_row, tighten};

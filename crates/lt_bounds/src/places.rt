@@ -118,9 +118,9 @@ pub fn points_within(scale: Scale, values: Interval) -> Option<Interval>
     }
 }
 
-// The greatest multiple of a step that isn't over a number.
-fn multiple_under(number: i64, step: i64) -> i64
-    requires number { unsigned_abs number ≤ 2 * most_raw }
+/// The greatest multiple of a step that isn't over a number.
+pub fn multiple_under(number: i64, step: i64) -> i64
+    requires number { unsigned_abs number ≤ 8 * most_raw }
     requires step { (pos 0 <ℤ step) × (step ≤ℤ pos most_raw) }
     ensures under { result ≤ℤ number }
     ensures near { number ≤ℤ (result +ℤ pos most_raw) }
@@ -131,10 +131,10 @@ fn multiple_under(number: i64, step: i64) -> i64
 
 // A number by a step, rounded down.
 fn rounded_down(number: i64, step: i64) -> i64
-    requires number { unsigned_abs number ≤ 2 * most_raw }
+    requires number { unsigned_abs number ≤ 8 * most_raw }
     requires step { pos 0 <ℤ step }
     ensures value { result ≡ int_div_euclid number step }
-    ensures size { unsigned_abs result ≤ 2 * most_raw }
+    ensures size { unsigned_abs result ≤ 8 * most_raw }
 {
     if step == 1 {
         number
@@ -145,10 +145,10 @@ fn rounded_down(number: i64, step: i64) -> i64
 
 // A number by a step, rounded up.
 fn rounded_up(number: i64, step: i64) -> i64
-    requires number { unsigned_abs number ≤ 2 * most_raw }
+    requires number { unsigned_abs number ≤ 8 * most_raw }
     requires step { pos 0 <ℤ step }
     ensures value { result ≡ neg_ℤ (int_div_euclid (neg_ℤ number) step) }
-    ensures size { unsigned_abs result ≤ 2 * most_raw }
+    ensures size { unsigned_abs result ≤ 8 * most_raw }
 {
     -rounded_down(-number, step)
 }
