@@ -6,6 +6,8 @@ pub mod Gates
 pub mod Boxes
 -- Wide points.
 mod Wides
+-- Values of places in wide points.
+mod Places
 -- Boxes on a stack.
 mod Stacks
 -- What is known of parts.
@@ -16,5 +18,7 @@ mod SumLemmas
 mod Comparisons
 -- Gates of equal signs.
 mod Ties
+-- Differences of values, in steps.
+mod Stepping
 -- Bounds on the differences of variables.
 mod Bounds

@@ -4,6 +4,8 @@ pub mod Domains
 pub mod Kleene
 -- Points with the signs of gates.
 pub mod Wide
+-- Points of variables with steps.
+pub mod Points
 -- Words of private contracts.
 pub mod inner
 -- Gates of equal signs.

@@ -26,7 +26,7 @@ pub(crate) struct Span {
     pub(crate) greatest: i128,
 }
 
-/// What is known over a box of the formula of a gate, by what is known of the gates before it. `truth values` is room
+/// What is known over a box of the formula of a gate, by what is known of the gates before it. `kleenes` is room
 /// for a truth value of each of these. Reals have so many decimals.
 pub fn evaluate(
     circuit: &Circuit,

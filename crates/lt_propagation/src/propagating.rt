@@ -10,6 +10,7 @@ ghost use Rattle.lt_space.specs.CircuitView.{circuit_formulas, circuit_len, circ
 ghost use Rattle.lt_space.specs.Evaluated.{Where};
 ghost use Rattle.lt_space.specs.Formula.{choice, holds};
 ghost use Rattle.lt_propagation.specs.Domains.{AreDomains};
+ghost use Rattle.lt_propagation.specs.Points.{AreScales, KeepsPoints};
 ghost use Rattle.lt_propagation.specs.Ties.{AreTies};
 ghost use Rattle.lt_propagation.specs.Kleene.{Agrees};
 ghost use Rattle.lt_propagation.specs.Wide.{Keeps, wide};
@@ -21,46 +22,53 @@ use crate::differences::narrow_by_differences;
 use crate::evaluation::evaluate_flag;
 use crate::kleene::Kleene;
 use crate::narrowing::{demand, kleene_at, narrow};
+use crate::points::narrow_to_points;
 use crate::propagator::Propagator;
 use crate::tying::tie_gate;
+use lt_formula::Scale;
 use lt_num::Interval;
 use lt_space::{Circuit, Gate};
 
 // How often each gate is looked at, at most, on average.
 const MOST_LOOKS: u64 = 8;
 
-/// Narrows a box by what the gates say, and says whether it may have wide points. Only those gates are looked at that the agenda
-/// has, and those beside a place that is narrowed then: whoever narrowed the box before has noted what changed. Where
-/// that doesn't come to an end soon, comparisons of differences are taken together, once. Nothing is left on the agenda.
+/// Narrows a box by what the gates say, and to values that places have, and says whether it may have wide points of such
+/// values. Only those gates are looked at that the agenda has, and those beside a place that is narrowed then: whoever narrowed
+/// the box before has noted what changed. Where that doesn't come to an end soon, comparisons of differences are taken
+/// together, once. Nothing is left on the agenda.
 pub fn propagate(
     circuit: &Circuit,
     same: &[u32],
     root: u32,
     decimals: u32,
-    count: usize,
+    scales: &[Scale],
     ranges: &mut [Interval],
     propagator: &mut Propagator,
 ) -> bool
     requires ties { AreTies circuit.now same.now }
     requires root { root < circuit_len circuit.now }
     requires decimals { decimals ≤ most_decimals }
-    requires long { length ranges.old ≡ count + circuit_len circuit.now }
+    requires scales { AreScales scales.now }
+    requires long { length ranges.old ≡ length scales.now + circuit_len circuit.now }
     requires domains { AreDomains ranges.old }
-    ensures keeps { Keeps decimals circuit.now result ranges.old ranges.new }
+    ensures keeps { KeepsPoints decimals circuit.now scales.now result ranges.old ranges.new }
     ensures narrower { IsNarrower ranges.old ranges.new }
     ensures domains { AreDomains ranges.new }
 {
+    let mut is_pointed = !propagator.has_steps;
     for _ in 0..MOST_LOOKS * (u64::from(root) + 1) {
-        let Some(number) = propagator.agenda.take() else {
+        let number = propagator.agenda.take();
+        if is_pointed && number.is_none() {
             return true;
-        };
-        if !look_within(
+        }
+        is_pointed = number.is_none() || !propagator.has_steps;
+        if !look_or_point(
             circuit,
             same,
             root,
             number,
             decimals,
-            count,
+            scales,
             ranges,
             &mut propagator.agenda,
         ) {
@@ -68,17 +76,53 @@ pub fn propagate(
             return false;
         }
     }
-    let alive = narrow_by_differences(
+    let is_alive = narrow_by_differences(
         circuit,
         root,
         decimals,
-        count,
+        scales,
         ranges,
         &mut propagator.matrix,
         &mut propagator.agenda,
     );
     propagator.agenda.clear();
-    alive
+    is_alive
+}
+
+// Narrows a box by what one gate says, if there is one, and else to values that places have.
+fn look_or_point(
+    circuit: &Circuit,
+    same: &[u32],
+    root: u32,
+    number: Option<u32>,
+    decimals: u32,
+    scales: &[Scale],
+    ranges: &mut [Interval],
+    agenda: &mut Agenda,
+) -> bool
+    requires ties { AreTies circuit.now same.now }
+    requires root { root < circuit_len circuit.now }
+    requires decimals { decimals ≤ most_decimals }
+    requires scales { AreScales scales.now }
+    requires long { length ranges.old ≡ length scales.now + circuit_len circuit.now }
+    requires domains { AreDomains ranges.old }
+    ensures keeps { KeepsPoints decimals circuit.now scales.now result ranges.old ranges.new }
+    ensures narrower { IsNarrower ranges.old ranges.new }
+    ensures domains { AreDomains ranges.new }
+{
+    match number {
+        Some(number) => look_within(
+            circuit,
+            same,
+            root,
+            number,
+            decimals,
+            scales.len(),
+            ranges,
+            agenda,
+        ),
+        None => narrow_to_points(scales, ranges, agenda),
+    }
 }
 
 // Narrows a box by what one gate says, if that isn't behind the root.

@@ -4,8 +4,9 @@ ghost use Rattle.std.specs.Prelude.{◌<◌};
 ghost use Rattle.lt_space.specs.CircuitView.{circuit_len};
 
 use crate::agenda::Agenda;
+use crate::points::have_steps;
 use lt_diff::Matrix;
-use lt_formula::Memory;
+use lt_formula::{Memory, Scale};
 use lt_num::Interval;
 use lt_space::Circuit;
 use std::alloc::Global;
@@ -19,6 +20,9 @@ pub struct Propagator {
 
     /// Room for bounds on the differences of variables.
     pub matrix: Matrix,
+
+    /// Whether some variable has values that are more than 1 apart.
+    pub has_steps: bool,
 }
 
 impl Propagator {
@@ -34,14 +38,16 @@ impl Propagator {
         Ok(Propagator {
             agenda: Agenda::make(alloc, variables, gates)?,
             matrix: Matrix::make(alloc, variables + 1)?,
+            has_steps: false,
         })
     }
 
-    /// Finds out which gates up to a root stand beside which places. Nothing waits then.
-    pub fn prepare(&mut self, circuit: &Circuit, same: &[u32], root: u32, variables: usize)
+    /// Finds out which gates up to a root stand beside which places, and whether some variable has steps. Nothing waits then.
+    pub fn prepare(&mut self, circuit: &Circuit, same: &[u32], root: u32, scales: &[Scale])
         requires { root < circuit_len circuit.now }
     {
-        self.agenda.prepare(circuit, same, root, variables);
+        self.agenda.prepare(circuit, same, root, scales.len());
+        self.has_steps = have_steps(scales);
     }
 
     /// Notes what says something of a box of whose gates nothing is known.

@@ -8,13 +8,14 @@ ghost use Rattle.lt_num.specs.declared.interval.Interval.{Interval};
 ghost use Rattle.lt_space.specs.CircuitView.{circuit_len};
 ghost use Rattle.lt_propagation.specs.Domains.{AreDomains};
 ghost use Rattle.lt_propagation.specs.Ties.{AreTies};
-ghost use Rattle.lt_propagation.specs.Wide.{wide};
+ghost use Rattle.lt_propagation.specs.Points.{AreScales, wide_at};
 ghost use Rattle.lt_propagation.specs.inner.Choices.{IsChoice, IsSplitAt};
 
 use crate::choosing::{Choice, choose};
 use crate::kleene::Kleene;
 use crate::propagating::propagate;
 use crate::propagator::Propagator;
+use lt_formula::Scale;
 use lt_num::Interval;
 use lt_space::Circuit;
 
@@ -37,12 +38,14 @@ pub struct Room {
     pub propagator: Propagator,
 }
 
-/// Whether it was found out, in so many steps, that a box has no wide point. Where this is false, nothing is known.
+/// Whether it was found out, in so many steps, that a box has no wide point of values that places have. Where this is false,
+/// nothing is known.
 pub fn refute(
     circuit: &Circuit,
     same: &[u32],
     root: u32,
     decimals: u32,
+    scales: &[Scale],
     hard: &[bool],
     room: &mut Room,
     steps: u64,
@@ -50,11 +53,13 @@ pub fn refute(
     requires ties { AreTies circuit.now same.now }
     requires root { root < circuit_len circuit.now }
     requires decimals { decimals ≤ most_decimals }
+    requires scales { AreScales scales.now }
+    requires hard { length hard.now ≡ length scales.now }
     requires long { length room.old.current.items ≡ length hard.now + circuit_len circuit.now }
     requires domains { AreDomains room.old.current.items }
     requires kleenes { circuit_len circuit.now ≤ vec_capacity room.old.kleenes }
-    ensures refuted { result ≡ true → (values : List ℤ) →
-        IsInBox room.old.current.items (wide decimals circuit.now values) → ⊥ }
+    ensures refuted { result ≡ true → (places : List ℤ) →
+        IsInBox room.old.current.items (wide_at decimals circuit.now scales.now places) → ⊥ }
     ensures stack { vec_capacity room.old.stack ≤ vec_capacity room.new.stack }
     ensures current { length room.new.current.items ≡ length room.old.current.items }
     ensures capacity { vec_capacity room.new.current ≡ vec_capacity room.old.current }
@@ -65,6 +70,7 @@ pub fn refute(
         same,
         root,
         decimals,
+        scales,
         hard,
         &mut room.current,
         &mut room.stack,
@@ -81,6 +87,7 @@ fn search(
     same: &[u32],
     root: u32,
     decimals: u32,
+    scales: &[Scale],
     hard: &[bool],
     current: &mut [Interval],
     stack: &mut Vec<Interval>,
@@ -92,11 +99,13 @@ fn search(
     requires ties { AreTies circuit.now same.now }
     requires root { root < circuit_len circuit.now }
     requires decimals { decimals ≤ most_decimals }
+    requires scales { AreScales scales.now }
+    requires hard { length hard.now ≡ length scales.now }
     requires long { length current.old ≡ length hard.now + circuit_len circuit.now }
     requires domains { AreDomains current.old }
     requires kleenes { circuit_len circuit.now ≤ vec_capacity kleenes.old }
-    ensures refuted { result ≡ true → (values : List ℤ) →
-        IsInBox current.old (wide decimals circuit.now values) → ⊥ }
+    ensures refuted { result ≡ true → (places : List ℤ) →
+        IsInBox current.old (wide_at decimals circuit.now scales.now places) → ⊥ }
     ensures stack { vec_capacity stack.old ≤ vec_capacity stack.new }
     ensures kleenes { vec_capacity kleenes.new ≡ vec_capacity kleenes.old }
 {
@@ -109,15 +118,7 @@ fn search(
             return false;
         }
         left -= 1;
-        if propagate(
-            circuit,
-            same,
-            root,
-            decimals,
-            hard.len(),
-            current,
-            propagator,
-        ) {
+        if propagate(circuit, same, root, decimals, scales, current, propagator) {
             let Some(choice) = choose(circuit, root, hard, current, kleenes) else {
                 return false;
             };

@@ -1,8 +1,6 @@
-use Rattle.std.proofs.Common.{◌≡◌, Bool, List, ℤ, ap, sym, subst}
-use Rattle.lt_formula.specs.Box.{IsInBox}
+use Rattle.std.proofs.Common.{◌≡◌, Bool, List, ℤ, sym, subst}
 use Rattle.lt_space.specs.Circuit.{formula_at}
 use Rattle.lt_space.specs.CircuitView.{circuit_formulas}
-use Rattle.lt_space.specs.Evaluated.{Where}
 use Rattle.lt_space.specs.Formula.{Formula, holds}
 use Rattle.lt_propagation.specs.Kleene.{Agrees}
 use Rattle.lt_propagation.specs.Wide.{wide}
