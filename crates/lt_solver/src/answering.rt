@@ -111,7 +111,7 @@ pub(crate) fn answer_within(
     room.boxes
         .refuter
         .propagator
-        .prepare(space.circuit(), &room.same, space.root(), targets.len());
+        .prepare(space.circuit(), &room.same, space.root(), &room.scales);
     if search(
         space,
         &room.same,

@@ -9,7 +9,7 @@ ghost use Rattle.lt_space.specs.SpaceView.{space_circuit, space_decimals, space_
 ghost use Rattle.lt_propagation.specs.Domains.{AreDomains};
 ghost use Rattle.lt_propagation.specs.Ties.{AreTies};
 ghost use Rattle.lt_propagation.specs.Kleene.{kleene_of};
-ghost use Rattle.lt_propagation.specs.Wide.{wide};
+ghost use Rattle.lt_propagation.specs.Points.{AreScales, wide_at};
 ghost use Rattle.lt_solver.specs.inner.Dive.{Covers, Leads};
 ghost use Rattle.lt_solver.specs.inner.Points.{AreFixed, first_point};
 ghost use Rattle.lt_solver.specs.inner.Classified.{Classifies, passes};
@@ -238,28 +238,31 @@ fn classify_propagated(
         return BoxStatus::Solved;
     }
     copy_box(widened, &mut room.current);
-    if is_refuted(space, same, hard, steps, room) {
+    if is_refuted(space, same, scales, hard, steps, room) {
         return BoxStatus::Infeasible;
     }
     BoxStatus::Undecided(variable)
 }
 
-// Whether it is found out that a box has no wide point.
+// Whether it is found out that a box has no wide point of values that places have.
 fn is_refuted(
     space: &Space,
     same: &[u32],
+    scales: &[Scale],
     hard: &[bool],
     steps: u64,
     room: &mut lt_propagation::Room,
 ) -> bool
     requires ties { AreTies (space_circuit space.now) same.now }
+    requires scales { AreScales scales.now }
+    requires hard { length hard.now ≡ length scales.now }
     requires long { length room.old.current.items ≡
         length hard.now + circuit_len (space_circuit space.now) }
     requires domains { AreDomains room.old.current.items }
     requires kleenes { circuit_len (space_circuit space.now) ≤ vec_capacity room.old.kleenes }
-    ensures refuted { result ≡ true → (values : List ℤ) →
+    ensures refuted { result ≡ true → (places : List ℤ) →
         IsInBox room.old.current.items
-        (wide (space_decimals space.now) (space_circuit space.now) values) → ⊥ }
+        (wide_at (space_decimals space.now) (space_circuit space.now) scales.now places) → ⊥ }
     ensures capacity { vec_capacity room.new.current ≡ vec_capacity room.old.current }
     ensures kleenes { vec_capacity room.new.kleenes ≡ vec_capacity room.old.kleenes }
 {
@@ -268,6 +271,7 @@ fn is_refuted(
         same,
         space.root(),
         space.decimals(),
+        scales,
         hard,
         room,
         steps,

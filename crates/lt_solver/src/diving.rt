@@ -7,7 +7,7 @@ ghost use Rattle.lt_num.specs.Bounds.{most_decimals, most_raw};
 ghost use Rattle.lt_space.specs.CircuitView.{circuit_len};
 ghost use Rattle.lt_propagation.specs.Domains.{AreDomains};
 ghost use Rattle.lt_propagation.specs.Ties.{AreTies};
-ghost use Rattle.lt_propagation.specs.Wide.{Keeps};
+ghost use Rattle.lt_propagation.specs.Points.{AreScales, KeepsPoints};
 ghost use Rattle.lt_solver.specs.inner.Points.{AreFixed};
 ghost use Rattle.lt_solver.specs.inner.Dive.{Covers, Leads, test_of};
 
@@ -58,7 +58,7 @@ pub(crate) fn dive(
             same,
             root,
             decimals,
-            starts.len(),
+            scales,
             i,
             value_at(scales[i], first),
             ranges,
@@ -76,7 +76,7 @@ fn propagate_fixed(
     same: &[u32],
     root: u32,
     decimals: u32,
-    count: usize,
+    scales: &[Scale],
     variable: usize,
     value: i64,
     ranges: &mut [Interval],
@@ -85,11 +85,12 @@ fn propagate_fixed(
     requires ties { AreTies circuit.now same.now }
     requires root { root < circuit_len circuit.now }
     requires decimals { decimals ≤ most_decimals }
-    requires long { length ranges.old ≡ count + circuit_len circuit.now }
-    requires within { variable < count }
+    requires scales { AreScales scales.now }
+    requires long { length ranges.old ≡ length scales.now + circuit_len circuit.now }
+    requires within { variable < length scales.now }
     requires value { unsigned_abs value ≤ most_raw }
     requires domains { AreDomains ranges.old }
-    ensures keeps { Keeps decimals circuit.now result
+    ensures keeps { KeepsPoints decimals circuit.now scales.now result
         (slice_set ranges.old variable (record { low = value; high = value })) ranges.new }
     ensures domains { AreDomains ranges.new }
 {
@@ -102,5 +103,5 @@ fn propagate_fixed(
         return true;
     }
     propagator.note(variable);
-    propagate(circuit, same, root, decimals, count, ranges, propagator)
+    propagate(circuit, same, root, decimals, scales, ranges, propagator)
 }

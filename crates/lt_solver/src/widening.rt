@@ -7,11 +7,10 @@ ghost use Rattle.lt_formula.specs.Box.{IsInBox};
 ghost use Rattle.lt_formula.specs.Translation.{values_at};
 ghost use Rattle.lt_space.specs.CircuitView.{circuit_len};
 ghost use Rattle.lt_space.specs.Evaluated.{Where};
-ghost use Rattle.lt_space.specs.Formula.{holds};
 ghost use Rattle.lt_space.specs.SpaceView.{space_circuit, space_decimals, space_formula, space_root};
 ghost use Rattle.lt_propagation.specs.Domains.{AreDomains};
 ghost use Rattle.lt_propagation.specs.Ties.{AreTies};
-ghost use Rattle.lt_propagation.specs.Wide.{wide};
+ghost use Rattle.lt_propagation.specs.Points.{AreScales, wide_at};
 ghost use Rattle.lt_solver.specs.inner.Dive.{Covers};
 ghost use Rattle.lt_solver.specs.inner.Classified.{passes};
 
@@ -46,7 +45,7 @@ pub(crate) fn propagate_box(
     ensures domains { AreDomains widened.new }
     ensures narrower { IsNarrower current.old current.new }
 {
-    if !propagate_demanded(space, same, current.len(), widened, propagator) {
+    if !propagate_demanded(space, same, scales, widened, propagator) {
         return false;
     }
     narrow_places(scales, widened, current)
@@ -118,18 +117,20 @@ pub(crate) fn copy_box(ranges: &[Interval], copy: &mut Vec<Interval>)
 fn propagate_demanded(
     space: &Space,
     same: &[u32],
-    count: usize,
+    scales: &[Scale],
     ranges: &mut [Interval],
     propagator: &mut Propagator,
 ) -> bool
     requires ties { AreTies (space_circuit space.now) same.now }
-    requires long { length ranges.old ≡ count + circuit_len (space_circuit space.now) }
+    requires scales { AreScales scales.now }
+    requires long { length ranges.old ≡ length scales.now + circuit_len (space_circuit space.now) }
     requires domains { AreDomains ranges.old }
-    ensures keeps { (values : List ℤ) →
-        IsInBox ranges.old (wide (space_decimals space.now) (space_circuit space.now) values) →
-        holds (space_decimals space.now) values (space_formula space.now) ≡ true →
-        Where result
-        (IsInBox ranges.new (wide (space_decimals space.now) (space_circuit space.now) values)) }
+    ensures keeps { (places : List ℤ) →
+        IsInBox ranges.old
+        (wide_at (space_decimals space.now) (space_circuit space.now) scales.now places) →
+        passes space.now scales.now places ≡ true →
+        Where result (IsInBox ranges.new
+        (wide_at (space_decimals space.now) (space_circuit space.now) scales.now places)) }
     ensures narrower { IsNarrower ranges.old ranges.new }
     ensures domains { AreDomains ranges.new }
 {
@@ -138,7 +139,7 @@ fn propagate_demanded(
         space.circuit(),
         space.root(),
         true,
-        count,
+        scales.len(),
         ranges,
         &mut propagator.agenda,
     ) {
@@ -149,7 +150,7 @@ fn propagate_demanded(
         same,
         space.root(),
         space.decimals(),
-        count,
+        scales,
         ranges,
         propagator,
     )

@@ -37,13 +37,13 @@ search-requires c =
     let many = starts_count scope ranges targets down c.requires.targets in
     let most = mul-le (levels_of starts box) (length box) (length box * 42) (length box) (levels_most starts box) (omega arith) in
     let same : c.deref_mut-2.result.now ≡ box = c.deref_mut-2.ensures.value ∙ c.write_places.ensures.current in
-    let begun : c.deref-4.result.now ≡ starts = c.deref-4.ensures.value ∙ c.write_places.ensures.starts in
-    let told : c.deref-3.result.now ≡ scales_of places = c.deref-3.ensures.value ∙ c.write_places.ensures.scales in
+    let begun : c.deref-5.result.now ≡ starts = c.deref-5.ensures.value ∙ c.write_places.ensures.starts in
+    let told : c.deref-4.result.now ≡ scales_of places = c.deref-4.ensures.value ∙ c.write_places.ensures.scales in
     rw (same, begun, told) (record {
       scaled = all_scaled scope ranges targets down c.requires.domains;
       few = omega (arith, long, c.requires.few);
       starts = many ∙ sym long;
-      ties = subst (λ (xs : List ℕ). AreTies (space_circuit c.args.space.now) xs) (sym c.deref-2.ensures.value) (subst (λ (k : Circuit). AreTies k c.find_ties.new.same.items) c.circuit-2.ensures c.find_ties.ensures.ties);
+      ties = subst (λ (xs : List ℕ). AreTies (space_circuit c.args.space.now) xs) (sym c.deref-3.ensures.value) (subst (λ (k : Circuit). AreTies k c.find_ties.new.same.items) c.circuit-2.ensures c.find_ties.ensures.ties);
       hard = omega (arith, length-take (length targets) c.hard.result.now, c.hard.ensures.len, c.requires.targets, c.requires.few, long);
       stack = omega (arith, most, ap (λ n. n * 42 * n) long, c.requires.roomy.stack);
       widened = omega (arith, long, c.requires.roomy.wide.widened);
@@ -78,26 +78,26 @@ pub returns-then-search-clause-tells : goal.returns-then-search-clause-tells
 returns-then-search-clause-tells c =
     let new = c.search.new.current in
     let box = c.deref_mut-2.ensures.value ∙ c.write_places.ensures.current in
-    let begun = c.deref-4.ensures.value ∙ c.write_places.ensures.starts in
-    let told = c.deref-3.ensures.value ∙ c.write_places.ensures.scales in
+    let begun = c.deref-5.ensures.value ∙ c.write_places.ensures.starts in
+    let told = c.deref-4.ensures.value ∙ c.write_places.ensures.scales in
     let long = narrower_length c.deref_mut-2.result.now new c.search.ensures.narrower in
     let last = c.deref-then-search-3.ensures.value ∙ refilled c.write_places.new.current.len c.write_places.new.current.items new c.write_places.new.current.ok.0 (long ∙ ap length c.deref_mut-2.ensures.value) in
-    let starts = c.deref-then-search-2.ensures.value ∙ sym c.deref-4.ensures.value in
-    let scales = c.deref-then-search.ensures.value ∙ sym c.deref-3.ensures.value in
+    let starts = c.deref-then-search-2.ensures.value ∙ sym c.deref-5.ensures.value in
+    let scales = c.deref-then-search.ensures.value ∙ sym c.deref-4.ensures.value in
     let need_is = c.measure-need.ensures.need ∙ (λ i. need (formula_at (circuit_formulas (c.circuit.ensures i)) (c.root.ensures.root i)) c.args.scope.now c.args.ranges.now) in (
       omega (arith, need_is, c.if-need-from.false, c.from.ensures),
-      found_some c.args.space.now c.args.scope.now c.args.ranges.now c.args.targets.now c.args.down.now c.requires.domains c.requires.points c.deref-3.result.now c.deref_mut-2.result.now c.deref-4.result.now told box begun (first_point c.deref-4.result.now new) c.if-search.ensures.found
+      found_some c.args.space.now c.args.scope.now c.args.ranges.now c.args.targets.now c.args.down.now c.requires.domains c.requires.points c.deref-4.result.now c.deref_mut-2.result.now c.deref-5.result.now told box begun (first_point c.deref-5.result.now new) c.if-search.ensures.found
           ∙ ap Some (sym (c.write_first.ensures ∙ (λ i. values_at (scales i) (first_point (starts i) (last i))))),
     )
 
 pub returns-else-search-clause-tells : goal.returns-else-search-clause-tells
 returns-else-search-clause-tells c =
     let box = c.deref_mut-2.ensures.value ∙ c.write_places.ensures.current in
-    let begun = c.deref-4.ensures.value ∙ c.write_places.ensures.starts in
-    let told = c.deref-3.ensures.value ∙ c.write_places.ensures.scales in
+    let begun = c.deref-5.ensures.value ∙ c.write_places.ensures.starts in
+    let told = c.deref-4.ensures.value ∙ c.write_places.ensures.scales in
     let need_is = c.measure-need.ensures.need ∙ (λ i. need (formula_at (circuit_formulas (c.circuit.ensures i)) (c.root.ensures.root i)) c.args.scope.now c.args.ranges.now) in (
       omega (arith, need_is, c.if-need-from.false, c.from.ensures),
-      found_none c.args.space.now c.args.scope.now c.args.ranges.now c.args.targets.now c.args.down.now c.requires.domains c.requires.points c.deref-3.result.now c.deref_mut-2.result.now c.deref-4.result.now told box begun c.if-search.ensures.found,
+      found_none c.args.space.now c.args.scope.now c.args.ranges.now c.args.targets.now c.args.down.now c.requires.domains c.requires.points c.deref-4.result.now c.deref_mut-2.result.now c.deref-5.result.now told box begun c.if-search.ensures.found,
     )
 
 pub returns-then-search-clause-roomy : goal.returns-then-search-clause-roomy
