@@ -4,7 +4,7 @@ use mathlib.Core.Former.{Count}
 use Rattle.lt_ast.specs.Syntax as s
 use Rattle.lt_ast.specs.inner.Lists.{arguments_of, alternatives_of, traces_of, groups_of}
 use Rattle.lt_ast.specs.inner.Rows.{maybe_exp, part_of, weighed, group_of}
-use Rattle.lt_ast.specs.View.{word, interval, argument, argument_row, trace, trace_row, alternative, alternatives, part_row, groupings, group_row, maybe_exp as held_exp}
+use Rattle.lt_ast.specs.View.{word, written_range, argument, argument_row, trace, trace_row, alternative, alternatives, part_row, groupings, group_row, maybe_exp as held_exp}
 use Rattle.lt_ast.specs.declared.expr.Arg.{Arg}
 use Rattle.lt_ast.specs.declared.expr.Expr.{Row_of-Arg, end_of-Arg, more_of-Arg, items-the_row-Arg, items_hidden-the_row-Arg-0}
 use Rattle.lt_ast.specs.declared.trace.TraceExpr.{TraceExpr, Row_of-TraceExpr, end_of-TraceExpr, more_of-TraceExpr, items-the_row-TraceExpr, items_hidden-the_row-TraceExpr-1}
@@ -37,7 +37,7 @@ part_row-list (more_of-Part w t rest) = λ i. s.alternative (alternative-held w 
 group_row-list : {n : Count} (k : Row_of-Group n) → group_row k ≡ groups_of (map group_of (items-the_row-Group n k))
 group_row-list end_of-Group = refl
 group_row-list (more_of-Group names kind by_ref range first rest) =
-    λ i. s.one_group (s.grouping (map word names.items.items) kind by_ref (interval range) (exp-held first i)) (group_row-list rest i)
+    λ i. s.one_group (s.grouping (map word names.items.items) kind by_ref (written_range range) (exp-held first i)) (group_row-list rest i)
 
 -- of the list in a tree
 pub traces_list : (v : Vec TraceExpr Global) → trace_row (hidden-the_row-TraceExpr-1 v) ≡ traces_of (map trace v.items)

@@ -16,10 +16,11 @@ pub record Figure : Type 0 where
   pub text : List ℕ
   pub span : Span
 
--- a range: its low end and its high end
-pub record Interval : Type 0 where
+-- a range: its low end, its high end, and its step where it has one
+pub record WrittenRange : Type 0 where
   pub low : Figure
   pub high : Figure
+  pub step : Option Figure
 
 mutual
   -- an expression
@@ -83,7 +84,7 @@ mutual
 
   -- names of a type, whether by ref, their range, and their first value
   pub data Grouping : Type 0 where
-    grouping : List Word → TypeName → Bool → Option Interval → MaybeExp → Grouping
+    grouping : List Word → TypeName → Bool → Option WrittenRange → MaybeExp → Grouping
 
   -- groups, in order
   pub data Groupings : Type 0 where

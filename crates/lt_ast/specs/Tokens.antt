@@ -11,7 +11,7 @@ use Rattle.lt_ast.specs.declared.expr.BinOp.{BinOp}
 use Rattle.lt_ast.specs.declared.expr.BinOp.TheVariants as b
 use Rattle.lt_ast.specs.Signs.{spelled}
 use Rattle.lt_ast.specs.Syntax as s
-use Rattle.lt_ast.specs.Syntax.{Word, Figure, Interval, Exp, Argument, Arguments, Limits, Braces, Alternative, Alternatives, Trace, Traces, Grouping, Groupings, MaybeExp, MaybeTrace, Parameters, Meaning, Macro, Declaration}
+use Rattle.lt_ast.specs.Syntax.{Word, Figure, WrittenRange, Exp, Argument, Arguments, Limits, Braces, Alternative, Alternatives, Trace, Traces, Grouping, Groupings, MaybeExp, MaybeTrace, Parameters, Meaning, Macro, Declaration}
 
 -- a token: its sign and its bytes
 pub record Written : Type 0 where
@@ -93,10 +93,15 @@ abbrev pub names_tokens : List Word → List Written
 names_tokens [] = []
 names_tokens (w ∷ ws) = name_token w ∷ more_names ws
 
+-- a step after its sign, where there is one
+abbrev pub step_tokens : Option Figure → List Written
+step_tokens None = []
+step_tokens (Some f) = mark Semicolon ∷ figure_tokens f
+
 -- a range, where there is one
-abbrev pub interval_tokens : Option Interval → List Written
-interval_tokens None = []
-interval_tokens (Some r) = mark OpenBracket ∷ (figure_tokens r.low ++ (mark Semicolon ∷ (figure_tokens r.high ++ (mark CloseBracket ∷ []))))
+abbrev pub range_tokens : Option WrittenRange → List Written
+range_tokens None = []
+range_tokens (Some r) = mark OpenBracket ∷ (figure_tokens r.low ++ (mark Semicolon ∷ (figure_tokens r.high ++ (step_tokens r.step ++ (mark CloseBracket ∷ [])))))
 
 -- Lists with a sign between their parts are written as a first part and the parts after it, each after the sign.
 abbrev mutual
@@ -168,7 +173,7 @@ abbrev mutual
   -- a group
   pub grouping_tokens : Grouping → List Written
   grouping_tokens (s.grouping ws kind by_ref range first) =
-      names_tokens ws ++ (mark Colon ∷ (mark (type_sign kind) ∷ (marked_if by_ref Ref ++ (interval_tokens range ++ first_tokens first))))
+      names_tokens ws ++ (mark Colon ∷ (mark (type_sign kind) ∷ (marked_if by_ref Ref ++ (range_tokens range ++ first_tokens first))))
 
   -- groups with semicolons between them
   pub groupings_tokens : Groupings → List Written

@@ -1,7 +1,7 @@
 -- The syntax that a value of the code stands for.
 use Rattle.std.specs.Prelude.{List, Option, Some, None, map, string_bytes}
 use Rattle.lt_ast.specs.Syntax as s
-use Rattle.lt_ast.specs.Syntax.{Word, Figure, Interval, Exp, Argument, Arguments, Limits, Braces, Alternative, Alternatives, Trace, Traces, Grouping, Groupings, MaybeExp, MaybeTrace, Parameters, Meaning, Macro, Declaration}
+use Rattle.lt_ast.specs.Syntax.{Word, Figure, WrittenRange, Exp, Argument, Arguments, Limits, Braces, Alternative, Alternatives, Trace, Traces, Grouping, Groupings, MaybeExp, MaybeTrace, Parameters, Meaning, Macro, Declaration}
 use Rattle.lt_ast.specs.declared.name.Name.{Name}
 use Rattle.lt_ast.specs.declared.name.Names.{Names}
 use Rattle.lt_ast.specs.declared.name.Literal.{Literal}
@@ -37,10 +37,15 @@ words ns = map word ns.items.items
 abbrev pub figure : Literal → Figure
 figure l = record { minus = l.minus; text = string_bytes l.text; span = l.span }
 
+-- a step, where there is one
+abbrev pub written_step : Option Literal → Option Figure
+written_step None = None
+written_step (Some l) = Some (figure l)
+
 -- a range, where there is one
-abbrev pub interval : Option Range → Option Interval
-interval None = None
-interval (Some r) = Some (record { low = figure r.low; high = figure r.high })
+abbrev pub written_range : Option Range → Option WrittenRange
+written_range None = None
+written_range (Some r) = Some (record { low = figure r.low; high = figure r.high; step = written_step r.step })
 
 abbrev mutual
   -- an expression
@@ -108,7 +113,7 @@ abbrev mutual
   -- the groups of a list
   pub group_row : {m : _} → Row_of-Group m → Groupings
   group_row end_of-Group = s.no_groups
-  group_row (more_of-Group names kind by_ref range first rest) = s.one_group (s.grouping (words names) kind by_ref (interval range) (maybe_exp first)) (group_row rest)
+  group_row (more_of-Group names kind by_ref range first rest) = s.one_group (s.grouping (words names) kind by_ref (written_range range) (maybe_exp first)) (group_row rest)
 
   -- an expression, where there is one
   pub maybe_exp : Held-Group-first → MaybeExp

@@ -46,6 +46,9 @@ pub struct Range {
 
     /// Its high end.
     pub high: Literal,
+
+    /// Its step, if one is written.
+    pub step: Option<Literal>,
 }
 
 /// Names of one type.

@@ -5,8 +5,8 @@ ghost use Rattle.std.specs.List.{flat_map};
 ghost use Rattle.lt_ast.specs.Printed.{joined, printed, spaced};
 ghost use Rattle.lt_ast.specs.inner.Rows.{Writes, behind, separated, tokens_of_name, tokens_of_argument, tokens_of_trace, tokens_of_part, tokens_of_group, call_tokens, maybe_exp, maybe_trace, params_tokens, IsOperand};
 ghost use Rattle.lt_ast.specs.Signs.{spelled};
-ghost use Rattle.lt_ast.specs.Tokens.{alternatives_tokens, binary_sign, braced_tokens, declaration_tokens, exp_tokens, figure_tokens, first_tokens, groupings_tokens, handler_tokens, in_braces, in_parentheses, interval_tokens, limits_tokens, macro_rest, mark, marked_if, meaning_tokens, number_token, traces_tokens, trace_tokens, type_sign, unary_sign, flag_sign, names_tokens};
-ghost use Rattle.lt_ast.specs.View.{alternatives, braced, declaration, exp, figure, groupings, interval, limits, macro, meaning, program as declarations, trace, words};
+ghost use Rattle.lt_ast.specs.Tokens.{alternatives_tokens, binary_sign, braced_tokens, declaration_tokens, exp_tokens, figure_tokens, first_tokens, groupings_tokens, handler_tokens, in_braces, in_parentheses, limits_tokens, macro_rest, mark, marked_if, meaning_tokens, number_token, traces_tokens, trace_tokens, type_sign, unary_sign, flag_sign, names_tokens, range_tokens, step_tokens};
+ghost use Rattle.lt_ast.specs.View.{alternatives, braced, declaration, exp, figure, groupings, limits, macro, meaning, program as declarations, trace, words, written_range, written_step};
 
 use crate::expr::{Arg, Args, BinOp, Expr, UnOp};
 use crate::group::{Group, Groups, Range, TypeName};
@@ -75,8 +75,20 @@ fn put_literal(out: &mut String, literal: &Literal) -> Result<(), AllocError>
     put(out, &literal.text)
 }
 
+fn put_step(out: &mut String, step: &Option<Literal>) -> Result<(), AllocError>
+    ensures { Writes result out.old out.new (step_tokens (written_step step.now)) }
+{
+    match step {
+        None => Ok(()),
+        Some(step) => {
+            put_sign(out, Sign::Semicolon)?;
+            put_literal(out, step)
+        }
+    }
+}
+
 fn put_range(out: &mut String, range: &Option<Range>) -> Result<(), AllocError>
-    ensures { Writes result out.old out.new (interval_tokens (interval range.now)) }
+    ensures { Writes result out.old out.new (range_tokens (written_range range.now)) }
 {
     match range {
         None => Ok(()),
@@ -85,6 +97,7 @@ fn put_range(out: &mut String, range: &Option<Range>) -> Result<(), AllocError>
             put_literal(out, &range.low)?;
             put_sign(out, Sign::Semicolon)?;
             put_literal(out, &range.high)?;
+            put_step(out, &range.step)?;
             put_sign(out, Sign::CloseBracket)
         }
     }

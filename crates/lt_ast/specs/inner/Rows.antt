@@ -20,7 +20,7 @@ use Rattle.lt_ast.specs.Syntax as s
 use Rattle.lt_ast.specs.Syntax.{Exp, MaybeExp, MaybeTrace}
 use Rattle.lt_ast.specs.Tokens.{Written, mark, name_token, in_parentheses, argument_tokens, trace_tokens, alternative_tokens, grouping_tokens, exp_tokens, binary_sign, groupings_tokens}
 use Rattle.lt_ast.specs.Printed.{spaced}
-use Rattle.lt_ast.specs.View.{word, words, exp, argument, trace, interval, groupings}
+use Rattle.lt_ast.specs.View.{word, words, exp, argument, trace, written_range, groupings}
 
 -- Where a call answers Ok, it wrote these tokens after what was written, each after a blank.
 abbrev pub Writes : {E : Type 0} → Result (Unit {0}) E → String Global → String Global → List Written → Type 0
@@ -72,7 +72,7 @@ tokens_of_part p = alternative_tokens (part_of p)
 
 -- a group
 abbrev pub group_of : Group → s.Grouping
-group_of g = s.grouping (words g.names) g.kind g.by_ref (interval g.range) (maybe_exp g.first)
+group_of g = s.grouping (words g.names) g.kind g.by_ref (written_range g.range) (maybe_exp g.first)
 
 -- the tokens of a group
 abbrev pub tokens_of_group : Group → List Written
