@@ -9,16 +9,16 @@ use Rattle.lt_ast.specs.declared.group.TypeName.TheVariants as ty
 use Rattle.lt_ast.specs.declared.expr.BinOp.{BinOp}
 use Rattle.lt_ast.specs.declared.expr.BinOp.TheVariants as b
 use Rattle.lt_ast.specs.Syntax as s
-use Rattle.lt_ast.specs.Syntax.{Word, Figure, Interval, Exp, Argument, Arguments, Limits, Braces, Alternative, Alternatives, Trace, Traces, Grouping, Groupings, MaybeExp, MaybeTrace, Parameters, Meaning, Macro, Declaration}
+use Rattle.lt_ast.specs.Syntax.{Word, Figure, WrittenRange, Exp, Argument, Arguments, Limits, Braces, Alternative, Alternatives, Trace, Traces, Grouping, Groupings, MaybeExp, MaybeTrace, Parameters, Meaning, Macro, Declaration}
 use Rattle.lt_ast.specs.Tokens.{binary_sign, type_sign}
 use Rattle.lt_parser.specs.Lexemes.{Lexemes, lexeme, IsNotFirst}
 use Rattle.lt_parser.specs.Precedence.{rank, under, Stands, left_least, right_least, IsNoOperator}
 use Rattle.lt_ast.specs.Places.{across, span_of}
-use Rattle.lt_parser.specs.Grammar.{IsNoWeight, opened, MayOpen, Place, whole, item, Ends, DerivesNames, DerivesMoreNames, DerivesNumber, DerivesFigure, DerivesRange, DerivesRef, DerivesExp, DerivesArgument, DerivesArguments, DerivesMoreArguments, DerivesBraced, DerivesChoice, DerivesMoreAlternatives, DerivesAlternative, DerivesTraces, DerivesMoreTraces, DerivesLimits, DerivesBound, DerivesGrouping, DerivesFirst, DerivesGroups, DerivesMoreGroups, DerivesParameters, DerivesMeaning, DerivesMacro, DerivesTrace, DerivesSequence, DerivesMoreItems, DerivesHandler, Means, HasAlternative, HasTrace, HasGroup, DerivesDeclaration, SpellsWithin}
-use Rattle.lt_parser.specs.inner.Reading.{Goal, Stop, done, a_list, outcome, onward, operand, allowed, opens, top, cap, an_exp, more_exp, some_arguments, more_arguments, an_argument, an_item, more_items, a_handler, some_limits, a_bound, some_braced, after_first, an_alternative, after_weight, more_alternatives, more_traces, some_groups, more_groups, more_names, a_type, a_ref, a_range, a_figure, a_first, some_parameters, declarations, a_trace, names, a_group, groups, a_meaning, a_macro, a_sign, a_name, paren_goal, if_goal, sequence_of}
+use Rattle.lt_parser.specs.Grammar.{IsNoWeight, opened, MayOpen, Place, whole, item, Ends, DerivesNames, DerivesMoreNames, DerivesNumber, DerivesFigure, DerivesRange, DerivesStep, DerivesRef, DerivesExp, DerivesArgument, DerivesArguments, DerivesMoreArguments, DerivesBraced, DerivesChoice, DerivesMoreAlternatives, DerivesAlternative, DerivesTraces, DerivesMoreTraces, DerivesLimits, DerivesBound, DerivesGrouping, DerivesFirst, DerivesGroups, DerivesMoreGroups, DerivesParameters, DerivesMeaning, DerivesMacro, DerivesTrace, DerivesSequence, DerivesMoreItems, DerivesHandler, Means, HasAlternative, HasTrace, HasGroup, DerivesDeclaration, SpellsWithin}
+use Rattle.lt_parser.specs.inner.Reading.{Goal, Stop, done, a_list, outcome, onward, operand, allowed, opens, top, cap, an_exp, more_exp, some_arguments, more_arguments, an_argument, an_item, more_items, a_handler, some_limits, a_bound, some_braced, after_first, an_alternative, after_weight, more_alternatives, more_traces, some_groups, more_groups, more_names, a_type, a_ref, a_range, a_step, a_figure, a_first, some_parameters, declarations, a_trace, names, a_group, groups, a_meaning, a_macro, a_sign, a_name, paren_goal, if_goal, sequence_of}
 use Rattle.lt_parser.specs.Program.{SpellsAtMostOne}
 use Rattle.lt_parser.specs.inner.Reading.{ReadsTheSpelled}
-use Rattle.lt_parser.proofs.Skips.{enter, Heads, ends, no_call, no_item, no_handler, no_ref, no_range, no_first, no_parameters, no_name, no_limits}
+use Rattle.lt_parser.proofs.Skips.{enter, Heads, ends, no_call, no_item, no_handler, no_ref, no_range, no_step, no_first, no_parameters, no_name, no_limits}
 use Rattle.lt_parser.proofs.Operators.{stands_zero, looser, left_rank, left_top, right_top, cap_right, under_top, top_under, take_unary, take_binary}
 use Rattle.lt_parser.proofs.Begins.{closed, head_op, differs, item_value, argument_value, arguments_first, alternative_value, side_first, arguments_closed, no_weight, braced_first, unweighted_by}
 
@@ -61,12 +61,17 @@ reads_signed true text at most ts rest x k = ap (outcome most (a_figure k)) x.3 
 reads_figure : (f : Figure) (most : ℕ) (ts rest : Lexemes) → DerivesFigure ts f rest → (k : Figure → Goal) → outcome most (a_figure k) ts ≡ outcome most (k f) rest
 reads_figure f most ts rest x k = reads_signed f.minus f.text f.span most ts rest x k
 
-reads_range : (r : Option Interval) (most : ℕ) (ts rest : Lexemes) → DerivesRange ts r rest → (k : Option Interval → Goal) → outcome most (a_range k) ts ≡ outcome most (k r) rest
+reads_step : (f : Option Figure) (most : ℕ) (ts rest : Lexemes) → DerivesStep ts f rest → (k : Option Figure → Goal) → outcome most (a_step k) ts ≡ outcome most (k f) rest
+reads_step None most ts rest x k = ap (outcome most (a_step k)) x.0 ∙ no_step most k rest x.1
+reads_step (Some f) most ts rest x k = ap (outcome most (a_step k)) x.3 ∙ reads_figure f most x.2 rest x.4 (λ g. k (Some g))
+
+reads_range : (r : Option WrittenRange) (most : ℕ) (ts rest : Lexemes) → DerivesRange ts r rest → (k : Option WrittenRange → Goal) → outcome most (a_range k) ts ≡ outcome most (k r) rest
 reads_range None most ts rest x k = ap (outcome most (a_range k)) x.0 ∙ no_range most k rest x.1
 reads_range (Some r) most ts rest x k =
     ap (outcome most (a_range k)) x.3
-    ∙ reads_figure r.low most x.2 (lexeme t.Semicolon x.4 x.5 ∷ x.6) x.7 (λ low. a_sign t.Semicolon (λ p. a_figure (λ high. a_sign t.CloseBracket (λ q. k (Some (record { low = low; high = high }))))))
-    ∙ reads_figure r.high most x.6 (lexeme t.CloseBracket x.8 x.9 ∷ rest) x.10 (λ high. a_sign t.CloseBracket (λ q. k (Some (record { low = r.low; high = high }))))
+    ∙ reads_figure r.low most x.2 (lexeme t.Semicolon x.4 x.5 ∷ x.6) x.7 (λ low. a_sign t.Semicolon (λ p. a_figure (λ high. a_step (λ stride. a_sign t.CloseBracket (λ q. k (Some (record { low = low; high = high; step = stride })))))))
+    ∙ reads_figure r.high most x.6 x.8 x.9 (λ high. a_step (λ stride. a_sign t.CloseBracket (λ q. k (Some (record { low = r.low; high = high; step = stride })))))
+    ∙ reads_step r.step most x.8 (lexeme t.CloseBracket x.10 x.11 ∷ rest) x.12 (λ stride. a_sign t.CloseBracket (λ q. k (Some (record { low = r.low; high = r.high; step = stride }))))
 
 reads_ref : (c : Bool) (most : ℕ) (ts rest : Lexemes) → DerivesRef ts c rest → (k : Bool → Goal) → outcome most (a_ref k) ts ≡ outcome most (k c) rest
 reads_ref false most ts rest x k = ap (outcome most (a_ref k)) x.0 ∙ no_ref most k rest x.1

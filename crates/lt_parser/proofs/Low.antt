@@ -11,10 +11,10 @@ use Rattle.lt_ast.specs.declared.expr.UnOp.TheVariants as u
 use Rattle.lt_ast.specs.declared.expr.BinOp.{BinOp}
 use Rattle.lt_ast.specs.declared.expr.BinOp.TheVariants as b
 use Rattle.lt_ast.specs.Syntax as s
-use Rattle.lt_ast.specs.Syntax.{Word, Figure, Interval, Exp, Argument, Arguments, Limits, Braces, Alternative, Alternatives, Trace, Traces, Grouping, Groupings, MaybeExp, MaybeTrace, Parameters, Meaning, Macro, Declaration}
+use Rattle.lt_ast.specs.Syntax.{Word, Figure, WrittenRange, Exp, Argument, Arguments, Limits, Braces, Alternative, Alternatives, Trace, Traces, Grouping, Groupings, MaybeExp, MaybeTrace, Parameters, Meaning, Macro, Declaration}
 use Rattle.lt_parser.specs.Precedence.{rank, operator}
 use Rattle.lt_ast.specs.Places.{across, span_of}
-use Rattle.lt_parser.specs.inner.Reading.{Goal, Move, stuck, next, opens, step, extend, operand, allowed, top, done, a_sign, a_name, an_exp, more_exp, a_right_side, after_name, some_arguments, more_arguments, an_argument, an_item, more_items, a_handler, some_limits, a_bound, some_braced, after_first, an_alternative, after_weight, more_alternatives, more_traces, some_groups, more_groups, more_names, a_type, a_ref, a_range, a_figure, a_digits, a_list, a_first, some_parameters, declarations, a_trace, after_group_name, groups, a_meaning, a_macro, sequence_of, begin_exp, begin_item, begin_argument, begin_alternative, begins_item, right_side_low, unary_goal, if_goal}
+use Rattle.lt_parser.specs.inner.Reading.{Goal, Move, stuck, next, opens, step, extend, operand, allowed, top, done, a_sign, a_name, an_exp, more_exp, a_right_side, after_name, some_arguments, more_arguments, an_argument, an_item, more_items, a_handler, some_limits, a_bound, some_braced, after_first, an_alternative, after_weight, more_alternatives, more_traces, some_groups, more_groups, more_names, a_type, a_ref, a_range, a_step, a_figure, a_digits, a_list, a_first, some_parameters, declarations, a_trace, after_group_name, groups, a_meaning, a_macro, sequence_of, begin_exp, begin_item, begin_argument, begin_alternative, begins_item, right_side_low, unary_goal, if_goal}
 
 -- Each number of levels in a want, and in all that is wanted after it, is at most this one.
 abbrev pub Low : ℕ → Goal → Type 0
@@ -44,7 +44,8 @@ Low n (more_groups d end k) = (d ≤ n) × ((x : Groupings) → Low n (k x))
 Low n (more_names k) = (x : List Word) → Low n (k x)
 Low n (a_type k) = (x : TypeName) → Low n (k x)
 Low n (a_ref k) = (x : Bool) → Low n (k x)
-Low n (a_range k) = (x : Option Interval) → Low n (k x)
+Low n (a_range k) = (x : Option WrittenRange) → Low n (k x)
+Low n (a_step k) = (x : Option Figure) → Low n (k x)
 Low n (a_figure k) = (x : Figure) → Low n (k x)
 Low n (a_digits p k) = (x : Figure) → Low n (k x)
 Low n (a_list d k) = (d ≤ n) × ((x : Groupings) → Low n (k x))
@@ -232,8 +233,10 @@ low_step (a_type k) n t.Trace w at h = h ty.Trace
 low_step (a_type k) n sign w at h = tt
 low_step (a_ref k) n t.Ref w at h = h true
 low_step (a_ref k) n sign w at h = low_step (k false) n sign w at (h false)
-low_step (a_range k) n t.OpenBracket w at h = λ low p high q. h (Some (record { low = low; high = high }))
+low_step (a_range k) n t.OpenBracket w at h = λ low p high stride q. h (Some (record { low = low; high = high; step = stride }))
 low_step (a_range k) n sign w at h = low_step (k None) n sign w at (h None)
+low_step (a_step k) n t.Semicolon w at h = λ f. h (Some f)
+low_step (a_step k) n sign w at h = low_step (k None) n sign w at (h None)
 low_step (a_figure k) n t.Number w at h = h (record { minus = false; text = w; span = at })
 low_step (a_figure k) n t.Minus w at h = h
 low_step (a_figure k) n sign w at h = tt

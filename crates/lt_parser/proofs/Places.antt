@@ -7,7 +7,7 @@ use Rattle.lt_ast.specs.Syntax as s
 use Rattle.lt_ast.specs.Syntax.{Declaration}
 use Rattle.lt_parser.specs.Lexemes.{Lexeme, Lexemes, lexeme}
 use Rattle.lt_parser.specs.Program.{IsViableWithin, NoneContinues, IsUnexpected, IsTooDeep}
-use Rattle.lt_parser.specs.inner.Reading.{Goal, Move, stuck, next, opens, Stop, unexpected, too_deep, step, finish, onward, outcome, done, more_exp, after_name, more_items, a_handler, some_limits, after_weight, more_names, a_ref, a_range, a_first, some_parameters, declarations, UnexpectedIsExact, TooDeepIsExact}
+use Rattle.lt_parser.specs.inner.Reading.{Goal, Move, stuck, next, opens, Stop, unexpected, too_deep, step, finish, onward, outcome, done, more_exp, after_name, more_items, a_handler, some_limits, after_weight, more_names, a_ref, a_range, a_step, a_first, some_parameters, declarations, UnexpectedIsExact, TooDeepIsExact}
 use Rattle.lt_parser.proofs.Complete.{spelled_is_read}
 use Rattle.lt_parser.proofs.Low.{Low, LowMove, low_step}
 use Rattle.lt_parser.proofs.Sound.{Accepts, Accepted, back, accepted_is_spelled, read_is_spelled}
@@ -55,6 +55,7 @@ unexpected_end (after_weight d v k) left e = unexpected_end (k (s.unweighted (s.
 unexpected_end (more_names k) left e = unexpected_end (k []) left e
 unexpected_end (a_ref k) left e = unexpected_end (k false) left e
 unexpected_end (a_range k) left e = unexpected_end (k None) left e
+unexpected_end (a_step k) left e = unexpected_end (k None) left e
 unexpected_end (a_first d k) left e = unexpected_end (k s.no_exp) left e
 unexpected_end (some_parameters d k) left e = unexpected_end (k s.no_parameters) left e
 unexpected_end (declarations k) left e = unexpected_end (k []) left e
@@ -72,6 +73,7 @@ not_deep_end (after_weight d v k) left e = not_deep_end (k (s.unweighted (s.valu
 not_deep_end (more_names k) left e = not_deep_end (k []) left e
 not_deep_end (a_ref k) left e = not_deep_end (k false) left e
 not_deep_end (a_range k) left e = not_deep_end (k None) left e
+not_deep_end (a_step k) left e = not_deep_end (k None) left e
 not_deep_end (a_first d k) left e = not_deep_end (k s.no_exp) left e
 not_deep_end (some_parameters d k) left e = not_deep_end (k s.no_parameters) left e
 not_deep_end (declarations k) left e = not_deep_end (k []) left e

@@ -7,11 +7,11 @@ use Rattle.lt_ast.specs.declared.sign.Sign.TheVariants as t
 use Rattle.lt_ast.specs.declared.span.Span.{Span}
 use Rattle.lt_ast.specs.declared.expr.BinOp.{BinOp}
 use Rattle.lt_ast.specs.Syntax as s
-use Rattle.lt_ast.specs.Syntax.{Word, Exp, Arguments, Limits, Traces, MaybeExp, MaybeTrace, Parameters, Interval}
+use Rattle.lt_ast.specs.Syntax.{Word, Figure, Exp, Arguments, Limits, Traces, MaybeExp, MaybeTrace, Parameters, WrittenRange}
 use Rattle.lt_parser.specs.Lexemes.{Lexemes, lexeme, IsNotFirst}
 use Rattle.lt_parser.specs.Precedence.{rank, operator}
 use Rattle.lt_ast.specs.Places.{across, span_of}
-use Rattle.lt_parser.specs.inner.Reading.{Goal, Move, too_deep, outcome, onward, operand, stuck, extend, step, top, more_exp, after_name, more_items, a_handler, some_limits, a_ref, a_range, a_first, some_parameters, more_names}
+use Rattle.lt_parser.specs.inner.Reading.{Goal, Move, too_deep, outcome, onward, operand, stuck, extend, step, top, more_exp, after_name, more_items, a_handler, some_limits, a_ref, a_range, a_step, a_first, some_parameters, more_names}
 
 -- A level that may be opened is.
 pub enter : (most d : ℕ) → d ≤ most → (goal : Goal) (m : Lexemes) → (if nat_le d most then outcome most goal m else Err (too_deep (suc (length m)))) ≡ outcome most goal m
@@ -37,10 +37,15 @@ no_ref most k [] h = refl
 no_ref most k (lexeme t.Ref w at ∷ us) h = absurd (h w at us refl)
 no_ref most k (lexeme sign w at ∷ us) h = refl
 
-pub no_range : (most : ℕ) (k : Option Interval → Goal) (ts : Lexemes) → IsNotFirst t.OpenBracket ts → outcome most (a_range k) ts ≡ outcome most (k None) ts
+pub no_range : (most : ℕ) (k : Option WrittenRange → Goal) (ts : Lexemes) → IsNotFirst t.OpenBracket ts → outcome most (a_range k) ts ≡ outcome most (k None) ts
 no_range most k [] h = refl
 no_range most k (lexeme t.OpenBracket w at ∷ us) h = absurd (h w at us refl)
 no_range most k (lexeme sign w at ∷ us) h = refl
+
+pub no_step : (most : ℕ) (k : Option Figure → Goal) (ts : Lexemes) → IsNotFirst t.Semicolon ts → outcome most (a_step k) ts ≡ outcome most (k None) ts
+no_step most k [] h = refl
+no_step most k (lexeme t.Semicolon w at ∷ us) h = absurd (h w at us refl)
+no_step most k (lexeme sign w at ∷ us) h = refl
 
 pub no_first : (most : ℕ) (d : ℕ) (k : MaybeExp → Goal) (ts : Lexemes) → IsNotFirst t.Equal ts → outcome most (a_first d k) ts ≡ outcome most (k s.no_exp) ts
 no_first most d k [] h = refl

@@ -13,13 +13,13 @@ use Rattle.lt_ast.specs.declared.expr.UnOp.TheVariants as u
 use Rattle.lt_ast.specs.declared.expr.BinOp.{BinOp}
 use Rattle.lt_ast.specs.declared.expr.BinOp.TheVariants as b
 use Rattle.lt_ast.specs.Syntax as s
-use Rattle.lt_ast.specs.Syntax.{Word, Figure, Interval, Exp, Argument, Arguments, Limits, Braces, Alternative, Alternatives, Trace, Traces, Grouping, Groupings, MaybeExp, MaybeTrace, Parameters, Meaning, Macro, Declaration}
+use Rattle.lt_ast.specs.Syntax.{Word, Figure, WrittenRange, Exp, Argument, Arguments, Limits, Braces, Alternative, Alternatives, Trace, Traces, Grouping, Groupings, MaybeExp, MaybeTrace, Parameters, Meaning, Macro, Declaration}
 use Rattle.lt_ast.specs.Tokens.{binary_sign, type_sign}
 use Rattle.lt_parser.specs.Lexemes.{Lexemes, lexeme, IsNotFirst}
 use Rattle.lt_parser.specs.Precedence.{rank, operator, Stands, left_least, right_least, side_least, IsNoOperator}
 use Rattle.lt_ast.specs.Places.{across, span_of}
-use Rattle.lt_parser.specs.Grammar.{IsNoWeight, opened, MayOpen, whole, item, DerivesNames, DerivesMoreNames, DerivesFigure, DerivesRange, DerivesRef, DerivesExp, DerivesArgument, DerivesArguments, DerivesMoreArguments, DerivesBraced, DerivesMoreAlternatives, DerivesAlternative, DerivesMoreTraces, DerivesLimits, DerivesBound, DerivesGrouping, DerivesFirst, DerivesGroups, DerivesMoreGroups, DerivesParameters, DerivesMeaning, DerivesMacro, DerivesTrace, DerivesMoreItems, DerivesHandler, Means, DerivesDeclaration, SpellsWithin}
-use Rattle.lt_parser.specs.inner.Reading.{Goal, ReadIsSpelled, too_deep, Move, stuck, next, opens, Stop, outcome, onward, step, finish, extend, operand, allowed, top, cap, done, a_sign, a_name, an_exp, more_exp, a_right_side, after_name, some_arguments, more_arguments, an_argument, an_item, more_items, a_handler, some_limits, a_bound, some_braced, after_first, an_alternative, after_weight, more_alternatives, more_traces, some_groups, more_groups, more_names, a_type, a_ref, a_range, a_figure, a_digits, a_list, a_first, some_parameters, declarations, a_trace, names, a_group, groups, a_meaning, a_macro, sequence_of, begin_exp, begin_item, begin_argument, begin_alternative, begins_item, right_side_low, unary_goal, if_goal}
+use Rattle.lt_parser.specs.Grammar.{IsNoWeight, opened, MayOpen, whole, item, DerivesNames, DerivesMoreNames, DerivesFigure, DerivesRange, DerivesStep, DerivesRef, DerivesExp, DerivesArgument, DerivesArguments, DerivesMoreArguments, DerivesBraced, DerivesMoreAlternatives, DerivesAlternative, DerivesMoreTraces, DerivesLimits, DerivesBound, DerivesGrouping, DerivesFirst, DerivesGroups, DerivesMoreGroups, DerivesParameters, DerivesMeaning, DerivesMacro, DerivesTrace, DerivesMoreItems, DerivesHandler, Means, DerivesDeclaration, SpellsWithin}
+use Rattle.lt_parser.specs.inner.Reading.{Goal, ReadIsSpelled, too_deep, Move, stuck, next, opens, Stop, outcome, onward, step, finish, extend, operand, allowed, top, cap, done, a_sign, a_name, an_exp, more_exp, a_right_side, after_name, some_arguments, more_arguments, an_argument, an_item, more_items, a_handler, some_limits, a_bound, some_braced, after_first, an_alternative, after_weight, more_alternatives, more_traces, some_groups, more_groups, more_names, a_type, a_ref, a_range, a_step, a_figure, a_digits, a_list, a_first, some_parameters, declarations, a_trace, names, a_group, groups, a_meaning, a_macro, sequence_of, begin_exp, begin_item, begin_argument, begin_alternative, begins_item, right_side_low, unary_goal, if_goal}
 use Rattle.lt_parser.proofs.Complete.{spelled_is_read}
 use Rattle.lt_parser.proofs.Skips.{Heads}
 use Rattle.lt_parser.proofs.Operators.{looser}
@@ -61,7 +61,8 @@ Accepts most (more_groups d end k) ts = (x : Groupings) × (m : Lexemes) × Deri
 Accepts most (more_names k) ts = (x : List Word) × (m : Lexemes) × DerivesMoreNames ts x m × Accepts most (k x) m
 Accepts most (a_type k) ts = (x : TypeName) × (w : List ℕ) × (p : Span) × (m : Lexemes) × (ts ≡ lexeme (type_sign x) w p ∷ m) × Accepts most (k x) m
 Accepts most (a_ref k) ts = (x : Bool) × (m : Lexemes) × DerivesRef ts x m × Accepts most (k x) m
-Accepts most (a_range k) ts = (x : Option Interval) × (m : Lexemes) × DerivesRange ts x m × Accepts most (k x) m
+Accepts most (a_range k) ts = (x : Option WrittenRange) × (m : Lexemes) × DerivesRange ts x m × Accepts most (k x) m
+Accepts most (a_step k) ts = (x : Option Figure) × (m : Lexemes) × DerivesStep ts x m × Accepts most (k x) m
 Accepts most (a_figure k) ts = (x : Figure) × (m : Lexemes) × DerivesFigure ts x m × Accepts most (k x) m
 Accepts most (a_digits p k) ts = (text : List ℕ) × (q : Span) × (m : Lexemes) × (ts ≡ lexeme t.Number text q ∷ m) × Accepts most (k (record { minus = true; text = text; span = across p q })) m
 Accepts most (a_list d k) ts =
@@ -609,8 +610,11 @@ back (a_range k) most t.OpenBracket w at ts a =
     let c = a.3 in
     let h = c.4 in
     let z = h.3 in
-    (Some (record { low = a.0; high = h.0 }), z.2, (w, at, ts, refl, c.0, c.1, c.2, subst (λ l. DerivesFigure ts a.0 l) c.3 a.2, z.0, z.1, subst (λ l. DerivesFigure c.2 h.0 l) z.3 h.2), z.4)
+    let e = z.3 in
+    (Some (record { low = a.0; high = h.0; step = z.0 }), e.2, (w, at, ts, refl, c.0, c.1, c.2, subst (λ l. DerivesFigure ts a.0 l) c.3 a.2, h.1, h.2, e.0, e.1, subst (λ l. DerivesStep h.1 z.0 l) e.3 z.2), e.4)
 back (a_range k) most sign w at ts a = (None, lexeme sign w at ∷ ts, (refl, not_first_by t.OpenBracket sign w at ts refl), back (k None) most sign w at ts a)
+back (a_step k) most t.Semicolon w at ts a = (Some a.0, a.1, (w, at, ts, refl, a.2), a.3)
+back (a_step k) most sign w at ts a = (None, lexeme sign w at ∷ ts, (refl, not_first_by t.Semicolon sign w at ts refl), back (k None) most sign w at ts a)
 back (a_figure k) most t.Number w at ts a = (record { minus = false; text = w; span = at }, ts, refl, a)
 back (a_figure k) most t.Minus w at ts a = (record { minus = true; text = a.0; span = across at a.1 }, a.2, (w, at, a.1, ap (λ l. lexeme t.Minus w at ∷ l) a.3, refl), a.4)
 back (a_figure k) most sign w at ts a = absurd a
@@ -683,6 +687,7 @@ finished (after_weight d v k) most x e = (s.unweighted (s.value v), [], (λ star
 finished (more_names k) most x e = ([], [], (refl, none t.Comma), finished (k []) most x e)
 finished (a_ref k) most x e = (false, [], (refl, none t.Ref), finished (k false) most x e)
 finished (a_range k) most x e = (None, [], (refl, none t.OpenBracket), finished (k None) most x e)
+finished (a_step k) most x e = (None, [], (refl, none t.Semicolon), finished (k None) most x e)
 finished (a_first d k) most x e = (s.no_exp, [], (refl, none t.Equal), finished (k s.no_exp) most x e)
 finished (some_parameters d k) most x e = (s.no_parameters, [], (refl, none t.Open), finished (k s.no_parameters) most x e)
 finished (declarations k) most x e = ([], [], refl, finished (k []) most x e)

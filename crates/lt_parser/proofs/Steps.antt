@@ -15,7 +15,7 @@ use Rattle.lt_ast.specs.inner.Lists.{arguments_of}
 use Rattle.lt_ast.specs.View.{argument, exp, word}
 use Rattle.lt_ast.proofs.Public.{arguments_list}
 use Rattle.lt_ast.specs.Syntax as s
-use Rattle.lt_ast.specs.Syntax.{Word, Exp, Argument, Arguments, Limits, Braces, Alternative, Alternatives, Trace, Traces, Grouping, Groupings, MaybeExp, MaybeTrace, Parameters, Declaration, Interval}
+use Rattle.lt_ast.specs.Syntax.{Word, Exp, Argument, Arguments, Limits, Braces, Alternative, Alternatives, Trace, Traces, Grouping, Groupings, MaybeExp, MaybeTrace, Parameters, Declaration, WrittenRange}
 use Rattle.lt_parser.specs.declared.refusal.Refusal.{Refusal}
 use Rattle.lt_parser.specs.declared.refusal.Refusal.TheVariants as r
 use Rattle.lt_parser.specs.declared.token.Token.{Token}

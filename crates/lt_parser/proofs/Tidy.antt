@@ -11,14 +11,14 @@ use Rattle.lt_ast.specs.declared.expr.UnOp.TheVariants as u
 use Rattle.lt_ast.specs.declared.expr.BinOp.{BinOp}
 use Rattle.lt_ast.specs.declared.expr.BinOp.TheVariants as b
 use Rattle.lt_ast.specs.Syntax as s
-use Rattle.lt_ast.specs.Syntax.{Word, Figure, Interval, Exp, Argument, Arguments, Limits, Braces, Alternative, Alternatives, Trace, Traces, Grouping, Groupings, MaybeExp, MaybeTrace, Parameters, Meaning, Macro, Declaration}
+use Rattle.lt_ast.specs.Syntax.{Word, Figure, WrittenRange, Exp, Argument, Arguments, Limits, Braces, Alternative, Alternatives, Trace, Traces, Grouping, Groupings, MaybeExp, MaybeTrace, Parameters, Meaning, Macro, Declaration}
 use Rattle.lt_parser.specs.Lexemes.{Lexemes, lexeme, IsNotFirst}
 use Rattle.lt_parser.specs.Precedence.{rank, operator}
 use Rattle.lt_ast.specs.Places.{across, span_of}
 use Rattle.lt_parser.proofs.Skips.{Heads}
 use Rattle.lt_parser.proofs.Begins.{same_first, none_some, closed}
 use Rattle.lt_parser.proofs.Sound.{Accepts, not_first_by}
-use Rattle.lt_parser.specs.inner.Reading.{Goal, Move, stuck, next, opens, step, extend, operand, allowed, top, done, a_sign, a_name, an_exp, more_exp, a_right_side, after_name, some_arguments, more_arguments, an_argument, an_item, more_items, a_handler, some_limits, a_bound, some_braced, after_first, an_alternative, after_weight, more_alternatives, more_traces, some_groups, more_groups, more_names, a_type, a_ref, a_range, a_figure, a_digits, a_list, a_first, some_parameters, declarations, a_trace, after_group_name, groups, a_meaning, a_macro, sequence_of, begin_exp, begin_item, begin_argument, begin_alternative, begins_item, right_side_low, unary_goal, if_goal}
+use Rattle.lt_parser.specs.inner.Reading.{Goal, Move, stuck, next, opens, step, extend, operand, allowed, top, done, a_sign, a_name, an_exp, more_exp, a_right_side, after_name, some_arguments, more_arguments, an_argument, an_item, more_items, a_handler, some_limits, a_bound, some_braced, after_first, an_alternative, after_weight, more_alternatives, more_traces, some_groups, more_groups, more_names, a_type, a_ref, a_range, a_step, a_figure, a_digits, a_list, a_first, some_parameters, declarations, a_trace, after_group_name, groups, a_meaning, a_macro, sequence_of, begin_exp, begin_item, begin_argument, begin_alternative, begins_item, right_side_low, unary_goal, if_goal}
 
 abbrev pub here : Span
 here = record { start = 0; end = 0 }
@@ -58,6 +58,7 @@ head (more_names k) = head (k [])
 head (a_type k) = Some t.Bool
 head (a_ref k) = head (k false)
 head (a_range k) = head (k None)
+head (a_step k) = head (k None)
 head (a_figure k) = Some t.Number
 head (a_digits p k) = Some t.Number
 head (a_list d k) = Some t.Open
@@ -131,7 +132,8 @@ Tidy (more_groups d end k) = (after_group (Some end) ≡ true) × ((x : Grouping
 Tidy (more_names k) = (x : List Word) → Tidy (k x) × (after_names (head (k x)) ≡ true)
 Tidy (a_type k) = (x : TypeName) → Tidy (k x)
 Tidy (a_ref k) = (x : Bool) → Tidy (k x) × (after_group (head (k x)) ≡ true)
-Tidy (a_range k) = (x : Option Interval) → Tidy (k x) × (after_group (head (k x)) ≡ true)
+Tidy (a_range k) = (x : Option WrittenRange) → Tidy (k x) × (after_group (head (k x)) ≡ true)
+Tidy (a_step k) = (x : Option Figure) → Tidy (k x) × (head (k x) ≡ Some t.CloseBracket)
 Tidy (a_figure k) = (x : Figure) → Tidy (k x)
 Tidy (a_digits p k) = (x : Figure) → Tidy (k x)
 Tidy (a_list d k) = (d ≡ 0) × ((x : Groupings) → Tidy (k x))
@@ -319,8 +321,10 @@ tidy_step (a_type k) t.Trace w at h = h ty.Trace
 tidy_step (a_type k) sign w at h = tt
 tidy_step (a_ref k) t.Ref w at h = (h true).0
 tidy_step (a_ref k) sign w at h = tidy_step (k false) sign w at (h false).0
-tidy_step (a_range k) t.OpenBracket w at h = λ low p high q. (h (Some (record { low = low; high = high }))).0
+tidy_step (a_range k) t.OpenBracket w at h = λ low p high stride. ((λ q. (h (Some (record { low = low; high = high; step = stride }))).0), refl)
 tidy_step (a_range k) sign w at h = tidy_step (k None) sign w at (h None).0
+tidy_step (a_step k) t.Semicolon w at h = λ f. (h (Some f)).0
+tidy_step (a_step k) sign w at h = tidy_step (k None) sign w at (h None).0
 tidy_step (a_figure k) t.Number w at h = h (record { minus = false; text = w; span = at })
 tidy_step (a_figure k) t.Minus w at h = h
 tidy_step (a_figure k) sign w at h = tt
@@ -377,6 +381,7 @@ words (more_names k) = words (k [])
 words (a_type k) = lexeme t.Bool [] here ∷ words (k ty.Bool)
 words (a_ref k) = words (k false)
 words (a_range k) = words (k None)
+words (a_step k) = words (k None)
 words (a_figure k) = lexeme t.Number [] here ∷ words (k some_figure)
 words (a_digits p k) = lexeme t.Number [] here ∷ words (k (record { minus = true; text = []; span = across p here }))
 words (a_list d k) = lexeme t.Open [] here ∷ (lexeme t.Close [] here ∷ words (k s.no_groups))
@@ -416,6 +421,7 @@ first_words (more_names k) = first_words (k [])
 first_words (a_type k) = ([], here, words (k ty.Bool), refl)
 first_words (a_ref k) = first_words (k false)
 first_words (a_range k) = first_words (k None)
+first_words (a_step k) = first_words (k None)
 first_words (a_figure k) = ([], here, words (k some_figure), refl)
 first_words (a_digits p k) = ([], here, words (k (record { minus = true; text = []; span = across p here })), refl)
 first_words (a_list d k) = ([], here, (lexeme t.Close [] here ∷ words (k s.no_groups)), refl)
@@ -462,6 +468,9 @@ not_colon h bad q e r = false_is_true (sym q ∙ sym (ap is_colon r) ∙ e)
 
 not_number : (h : Option Sign) (bad : Sign) → is_number (Some bad) ≡ false → is_number h ≡ true → h ≡ Some bad → ⊥
 not_number h bad q e r = false_is_true (sym q ∙ sym (ap is_number r) ∙ e)
+
+not_bracket : (h : Option Sign) → h ≡ Some t.CloseBracket → h ≡ Some t.Semicolon → ⊥
+not_bracket h e r = cc
 
 pub completes : (g : Goal) (most : ℕ) → 1 ≤ most → Tidy g → Accepts most g (words g)
 completes (done xs) most le h = refl
@@ -512,6 +521,8 @@ completes (a_type k) most le h = (ty.Bool, [], here, words (k ty.Bool), refl, co
 completes (a_ref k) most le h = (false, words (k false), (refl, not_in (head (k false)) t.Ref (words (k false)) (first_words (k false)) (not_group (head (k false)) t.Ref refl (h false).1)), completes (k false) most le (h false).0)
 completes (a_range k) most le h =
     (None, words (k None), (refl, not_in (head (k None)) t.OpenBracket (words (k None)) (first_words (k None)) (not_group (head (k None)) t.OpenBracket refl (h None).1)), completes (k None) most le (h None).0)
+completes (a_step k) most le h =
+    (None, words (k None), (refl, not_in (head (k None)) t.Semicolon (words (k None)) (first_words (k None)) (not_bracket (head (k None)) (h None).1)), completes (k None) most le (h None).0)
 completes (a_figure k) most le h = (some_figure, words (k some_figure), refl, completes (k some_figure) most le (h some_figure))
 completes (a_digits p k) most le h = let x : Figure = record { minus = true; text = []; span = across p here } in ([], here, words (k x), refl, completes (k x) most le (h x))
 completes (a_list d k) most le h =

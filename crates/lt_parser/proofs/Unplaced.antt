@@ -9,13 +9,13 @@ use Rattle.lt_ast.specs.declared.expr.UnOp.TheVariants as u
 use Rattle.lt_ast.specs.declared.expr.BinOp.{BinOp}
 use Rattle.lt_ast.specs.declared.expr.BinOp.TheVariants as b
 use Rattle.lt_ast.specs.Syntax as s
-use Rattle.lt_ast.specs.Syntax.{Word, Figure, Interval, Exp, Argument, Arguments, Limits, Braces, Alternative, Alternatives, Trace, Traces, Grouping, Groupings, MaybeExp, MaybeTrace, Parameters, Meaning, Macro, Declaration}
+use Rattle.lt_ast.specs.Syntax.{Word, Figure, WrittenRange, Exp, Argument, Arguments, Limits, Braces, Alternative, Alternatives, Trace, Traces, Grouping, Groupings, MaybeExp, MaybeTrace, Parameters, Meaning, Macro, Declaration}
 use Rattle.lt_ast.specs.Tokens.{binary_sign, type_sign}
 use Rattle.lt_parser.specs.Lexemes.{Lexemes, lexeme, IsNotFirst}
 use Rattle.lt_parser.specs.Precedence.{Stands, under, left_least, side_least, right_least, IsNoOperator}
 use Rattle.lt_ast.specs.Places.{across, span_of}
-use Rattle.lt_parser.specs.Grammar.{IsNoWeight, opened, Place, whole, item, Ends, DerivesNames, DerivesMoreNames, DerivesNumber, DerivesFigure, DerivesRange, DerivesRef, DerivesExp, DerivesArgument, DerivesArguments, DerivesMoreArguments, DerivesBraced, DerivesChoice, DerivesUnweighted, DerivesMoreAlternatives, DerivesAlternative, DerivesTraces, DerivesMoreTraces, DerivesLimits, DerivesBound, DerivesGrouping, DerivesFirst, DerivesGroups, DerivesMoreGroups, DerivesParameters, DerivesMeaning, DerivesMacro, DerivesTrace, DerivesSequence, DerivesMoreItems, DerivesHandler, Means, HasAlternative, HasTrace, HasGroup, DerivesDeclaration, SpellsWithin}
-use Rattle.lt_parser.specs.Unplaced.{nowhere, unplaced_word, unplaced_words, unplaced_figure, unplaced_range, unplaced_exp, unplaced_argument, unplaced_arguments, unplaced_limits, unplaced_braces, unplaced_alternative, unplaced_alternatives, unplaced_traces, unplaced_grouping, unplaced_groupings, unplaced_first, unplaced_handler, unplaced_parameters, unplaced_meaning, unplaced_macro, unplaced_trace, unplaced_declaration, unplaced, AreAlike, SpelledElsewhere}
+use Rattle.lt_parser.specs.Grammar.{IsNoWeight, opened, Place, whole, item, Ends, DerivesNames, DerivesMoreNames, DerivesNumber, DerivesFigure, DerivesRange, DerivesStep, DerivesRef, DerivesExp, DerivesArgument, DerivesArguments, DerivesMoreArguments, DerivesBraced, DerivesChoice, DerivesUnweighted, DerivesMoreAlternatives, DerivesAlternative, DerivesTraces, DerivesMoreTraces, DerivesLimits, DerivesBound, DerivesGrouping, DerivesFirst, DerivesGroups, DerivesMoreGroups, DerivesParameters, DerivesMeaning, DerivesMacro, DerivesTrace, DerivesSequence, DerivesMoreItems, DerivesHandler, Means, HasAlternative, HasTrace, HasGroup, DerivesDeclaration, SpellsWithin}
+use Rattle.lt_parser.specs.Unplaced.{nowhere, unplaced_word, unplaced_words, unplaced_figure, unplaced_range, unplaced_step, unplaced_exp, unplaced_argument, unplaced_arguments, unplaced_limits, unplaced_braces, unplaced_alternative, unplaced_alternatives, unplaced_traces, unplaced_grouping, unplaced_groupings, unplaced_first, unplaced_handler, unplaced_parameters, unplaced_meaning, unplaced_macro, unplaced_trace, unplaced_declaration, unplaced, AreAlike, SpelledElsewhere}
 
 -- TOKENS
 
@@ -232,19 +232,28 @@ number_again true text at rest h x =
 figure_again : (f : Figure) {ts us : Lexemes} (rest : Lexemes) → Alike ts us → DerivesFigure ts f rest → Again Figure (DerivesFigure us) unplaced_figure f rest
 figure_again f rest h x = number_again f.minus f.text f.span rest h x
 
+-- a step, where it is there
+step_again : (f : Option Figure) {ts us : Lexemes} (rest : Lexemes) → Alike ts us → DerivesStep ts f rest → Again (Option Figure) (DerivesStep us) unplaced_step f rest
+step_again None {us = us} rest h x = let k = along x.0 h in record { tree = None; left = us; derives = (refl, unfirst t.Semicolon k x.1); like = k; same = refl }
+step_again (Some f) rest h x =
+    let k = first x.3 h in
+    let l = figure_again f rest k.like x.4 in
+    record { tree = Some l.tree; left = l.left; derives = (x.0, k.at, k.left, k.is, l.derives); like = l.like; same = λ i. Some (l.same i) }
+
 -- a range, where it is there
-range_again : (r : Option Interval) {ts us : Lexemes} (rest : Lexemes) → Alike ts us → DerivesRange ts r rest → Again (Option Interval) (DerivesRange us) unplaced_range r rest
+range_again : (r : Option WrittenRange) {ts us : Lexemes} (rest : Lexemes) → Alike ts us → DerivesRange ts r rest → Again (Option WrittenRange) (DerivesRange us) unplaced_range r rest
 range_again None {us = us} rest h x = let k = along x.0 h in record { tree = None; left = us; derives = (refl, unfirst t.OpenBracket k x.1); like = k; same = refl }
 range_again (Some r) rest h x =
     let k = first x.3 h in
     let l = before (figure_again r.low (lexeme t.Semicolon x.4 x.5 ∷ x.6) k.like x.7) in
-    let m = before (figure_again r.high (lexeme t.CloseBracket x.8 x.9 ∷ rest) l.1.like x.10) in
+    let m = figure_again r.high x.8 l.1.like x.9 in
+    let n = before (step_again r.step (lexeme t.CloseBracket x.10 x.11 ∷ rest) m.like x.12) in
     record {
-      tree = Some (record { low = l.1.tree; high = m.1.tree });
-      left = m.1.left;
-      derives = (x.0, k.at, k.left, k.is, x.4, l.0, l.1.left, l.1.derives, x.8, m.0, m.1.derives);
-      like = m.1.like;
-      same = λ i. Some (record { low = l.1.same i; high = m.1.same i });
+      tree = Some (record { low = l.1.tree; high = m.tree; step = n.1.tree });
+      left = n.1.left;
+      derives = (x.0, k.at, k.left, k.is, x.4, l.0, l.1.left, l.1.derives, m.left, m.derives, x.10, n.0, n.1.derives);
+      like = n.1.like;
+      same = λ i. Some (record { low = l.1.same i; high = m.same i; step = n.1.same i });
     }
 
 -- `ref`, where it is there

@@ -11,10 +11,10 @@ use Rattle.lt_ast.specs.declared.expr.BinOp.{BinOp}
 use Rattle.lt_ast.specs.declared.expr.BinOp.TheVariants as b
 use Rattle.lt_ast.specs.Signs.{spelled}
 use Rattle.lt_ast.specs.Syntax as s
-use Rattle.lt_ast.specs.Syntax.{Word, Figure, Interval, Exp, Argument, Arguments, Limits, Braces, Alternative, Alternatives, Trace, Traces, Grouping, Groupings, MaybeExp, MaybeTrace, Parameters, Meaning, Macro, Declaration}
-use Rattle.lt_ast.specs.Tokens.{Written, mark, name_token, number_token, marked_if, figure_tokens, flag_sign, unary_sign, binary_sign, type_sign, more_names, names_tokens, interval_tokens, exp_tokens, argument_tokens, arguments_tokens, more_arguments, limits_tokens, braced_tokens, alternative_tokens, alternatives_tokens, more_alternatives, trace_tokens, traces_tokens, more_traces, grouping_tokens, groupings_tokens, more_groupings, first_tokens, handler_tokens, parameters_tokens, meaning_tokens, macro_rest, declaration_tokens, tokens_of}
+use Rattle.lt_ast.specs.Syntax.{Word, Figure, WrittenRange, Exp, Argument, Arguments, Limits, Braces, Alternative, Alternatives, Trace, Traces, Grouping, Groupings, MaybeExp, MaybeTrace, Parameters, Meaning, Macro, Declaration}
+use Rattle.lt_ast.specs.Tokens.{Written, mark, name_token, number_token, marked_if, figure_tokens, flag_sign, unary_sign, binary_sign, type_sign, more_names, names_tokens, range_tokens, step_tokens, exp_tokens, argument_tokens, arguments_tokens, more_arguments, limits_tokens, braced_tokens, alternative_tokens, alternatives_tokens, more_alternatives, trace_tokens, traces_tokens, more_traces, grouping_tokens, groupings_tokens, more_groupings, first_tokens, handler_tokens, parameters_tokens, meaning_tokens, macro_rest, declaration_tokens, tokens_of}
 use Rattle.lt_parser.specs.Lexemes.{Lexemes, lexeme}
-use Rattle.lt_parser.specs.Grammar.{opened, Place, whole, item, DerivesNames, DerivesMoreNames, DerivesNumber, DerivesFigure, DerivesRange, DerivesRef, DerivesExp, DerivesArgument, DerivesArguments, DerivesMoreArguments, DerivesBraced, DerivesChoice, DerivesUnweighted, DerivesMoreAlternatives, DerivesAlternative, DerivesTraces, DerivesMoreTraces, DerivesLimits, DerivesBound, DerivesGrouping, DerivesFirst, DerivesGroups, DerivesMoreGroups, DerivesParameters, DerivesMeaning, DerivesMacro, DerivesTrace, DerivesSequence, DerivesMoreItems, DerivesHandler, HasAlternative, HasTrace, DerivesDeclaration, SpellsWithin}
+use Rattle.lt_parser.specs.Grammar.{opened, Place, whole, item, DerivesNames, DerivesMoreNames, DerivesNumber, DerivesFigure, DerivesRange, DerivesStep, DerivesRef, DerivesExp, DerivesArgument, DerivesArguments, DerivesMoreArguments, DerivesBraced, DerivesChoice, DerivesUnweighted, DerivesMoreAlternatives, DerivesAlternative, DerivesTraces, DerivesMoreTraces, DerivesLimits, DerivesBound, DerivesGrouping, DerivesFirst, DerivesGroups, DerivesMoreGroups, DerivesParameters, DerivesMeaning, DerivesMacro, DerivesTrace, DerivesSequence, DerivesMoreItems, DerivesHandler, HasAlternative, HasTrace, DerivesDeclaration, SpellsWithin}
 use Rattle.lt_parser.specs.Written.{written_of, IsSpelled, AreSpelled, WrittenAsSpelled}
 
 -- Where each of them has the letters of its sign, they are written with these tokens and then the rest, and so has each of the rest.
@@ -128,12 +128,17 @@ figure_written f ts rest x = number_written f.minus f.text f.span ts rest x
 plain_written : (f : Figure) (ts rest : Lexemes) → f.minus ≡ false → ts ≡ lexeme t.Number f.text f.span ∷ rest → Writes ts (figure_tokens f) rest
 plain_written f ts rest e x = subst (λ c. Writes ts (marked_if c t.Minus ++ (number_token f.text ∷ [])) rest) (sym e) (from x (put_number f.text))
 
+-- a step, where it is there
+step_written : (f : Option Figure) (ts rest : Lexemes) → DerivesStep ts f rest → Writes ts (step_tokens f) rest
+step_written None ts rest x = from x.0 none
+step_written (Some f) ts rest x = from x.3 (put t.Semicolon refl (figure_written f x.2 rest x.4))
+
 -- a range, where it is there
-range_written : (r : Option Interval) (ts rest : Lexemes) → DerivesRange ts r rest → Writes ts (interval_tokens r) rest
+range_written : (r : Option WrittenRange) (ts rest : Lexemes) → DerivesRange ts r rest → Writes ts (range_tokens r) rest
 range_written None ts rest x = from x.0 none
 range_written (Some r) ts rest x =
     from x.3 (put t.OpenBracket refl (then (figure_written r.low x.2 (lexeme t.Semicolon x.4 x.5 ∷ x.6) x.7) (put t.Semicolon refl
-    (then (figure_written r.high x.6 (lexeme t.CloseBracket x.8 x.9 ∷ rest) x.10) (put t.CloseBracket refl none)))))
+    (then (figure_written r.high x.6 x.8 x.9) (then (step_written r.step x.8 (lexeme t.CloseBracket x.10 x.11 ∷ rest) x.12) (put t.CloseBracket refl none))))))
 
 -- `ref`, where it is there
 ref_written : (c : Bool) (ts rest : Lexemes) → DerivesRef ts c rest → Writes ts (marked_if c t.Ref) rest

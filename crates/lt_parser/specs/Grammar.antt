@@ -12,7 +12,7 @@ use Rattle.lt_ast.specs.declared.group.TypeName.TheVariants as ty
 use Rattle.lt_ast.specs.declared.expr.BinOp.{BinOp}
 use Rattle.lt_ast.specs.declared.expr.BinOp.TheVariants as b
 use Rattle.lt_ast.specs.Syntax as s
-use Rattle.lt_ast.specs.Syntax.{Word, Figure, Interval, Exp, Argument, Arguments, Limits, Braces, Alternative, Alternatives, Trace, Traces, Grouping, Groupings, MaybeExp, MaybeTrace, Parameters, Meaning, Macro, Declaration}
+use Rattle.lt_ast.specs.Syntax.{Word, Figure, WrittenRange, Exp, Argument, Arguments, Limits, Braces, Alternative, Alternatives, Trace, Traces, Grouping, Groupings, MaybeExp, MaybeTrace, Parameters, Meaning, Macro, Declaration}
 use Rattle.lt_ast.specs.Tokens.{flag_sign, unary_sign, binary_sign, type_sign}
 use Rattle.lt_parser.specs.Lexemes.{lexeme, Lexemes, IsNotFirst}
 use Rattle.lt_parser.specs.Precedence.{Stands, under, left_least, right_least, IsNoOperator}
@@ -41,13 +41,19 @@ DerivesNumber ts true text at rest =
 abbrev pub DerivesFigure : Lexemes → Figure → Lexemes → Type 0
 DerivesFigure ts f rest = DerivesNumber ts f.minus f.text f.span rest
 
+-- a step, where it is there
+abbrev pub DerivesStep : Lexemes → Option Figure → Lexemes → Type 0
+DerivesStep ts None rest = (ts ≡ rest) × IsNotFirst t.Semicolon rest
+DerivesStep ts (Some f) rest = (w : List ℕ) × (p : Span) × (m : Lexemes) × (ts ≡ lexeme t.Semicolon w p ∷ m) × DerivesFigure m f rest
+
 -- a range, where it is there
-abbrev pub DerivesRange : Lexemes → Option Interval → Lexemes → Type 0
+abbrev pub DerivesRange : Lexemes → Option WrittenRange → Lexemes → Type 0
 DerivesRange ts None rest = (ts ≡ rest) × IsNotFirst t.OpenBracket rest
 DerivesRange ts (Some r) rest =
     (w : List ℕ) × (p : Span) × (m : Lexemes) × (ts ≡ lexeme t.OpenBracket w p ∷ m)
     × (w' : List ℕ) × (p' : Span) × (m' : Lexemes) × DerivesFigure m r.low (lexeme t.Semicolon w' p' ∷ m')
-    × (w'' : List ℕ) × (p'' : Span) × DerivesFigure m' r.high (lexeme t.CloseBracket w'' p'' ∷ rest)
+    × (m'' : Lexemes) × DerivesFigure m' r.high m''
+    × (w'' : List ℕ) × (p'' : Span) × DerivesStep m'' r.step (lexeme t.CloseBracket w'' p'' ∷ rest)
 
 -- `ref`, where it is there
 abbrev pub DerivesRef : Lexemes → Bool → Lexemes → Type 0

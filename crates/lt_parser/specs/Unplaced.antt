@@ -2,7 +2,7 @@
 use Rattle.std.specs.Prelude.{◌≡◌, ℕ, List, [], ◌∷◌, map, Option, Some, None}
 use Rattle.lt_ast.specs.declared.span.Span.{Span}
 use Rattle.lt_ast.specs.Syntax as s
-use Rattle.lt_ast.specs.Syntax.{Word, Figure, Interval, Exp, Argument, Arguments, Limits, Braces, Alternative, Alternatives, Trace, Traces, Grouping, Groupings, MaybeExp, MaybeTrace, Parameters, Meaning, Macro, Declaration}
+use Rattle.lt_ast.specs.Syntax.{Word, Figure, WrittenRange, Exp, Argument, Arguments, Limits, Braces, Alternative, Alternatives, Trace, Traces, Grouping, Groupings, MaybeExp, MaybeTrace, Parameters, Meaning, Macro, Declaration}
 use Rattle.lt_parser.specs.Lexemes.{Lexeme, lexeme, Lexemes}
 use Rattle.lt_parser.specs.Grammar.{SpellsWithin}
 
@@ -20,14 +20,19 @@ unplaced_word n = record { text = n.text; span = nowhere }
 abbrev pub unplaced_figure : Figure → Figure
 unplaced_figure f = record { minus = f.minus; text = f.text; span = nowhere }
 
+-- a step without its place, or none
+abbrev pub unplaced_step : Option Figure → Option Figure
+unplaced_step None = None
+unplaced_step (Some f) = Some (unplaced_figure f)
+
 -- a range without its places
-abbrev pub unplaced_interval : Interval → Interval
-unplaced_interval r = record { low = unplaced_figure r.low; high = unplaced_figure r.high }
+abbrev pub unplaced_written : WrittenRange → WrittenRange
+unplaced_written r = record { low = unplaced_figure r.low; high = unplaced_figure r.high; step = unplaced_step r.step }
 
 -- a range without its places, or none
-abbrev pub unplaced_range : Option Interval → Option Interval
+abbrev pub unplaced_range : Option WrittenRange → Option WrittenRange
 unplaced_range None = None
-unplaced_range (Some r) = Some (unplaced_interval r)
+unplaced_range (Some r) = Some (unplaced_written r)
 
 -- names without their places
 abbrev pub unplaced_words : List Word → List Word

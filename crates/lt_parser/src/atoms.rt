@@ -1,12 +1,12 @@
 //! What holds no other form of its kind: signs, names, numbers, types, ranges.
 
 ghost use Rattle.std.specs.Prelude.{◌≡◌, ◌<◌, ◌≤◌, suc, Bool, length, nat_le, true, false, IfOk, MatchOption, MatchResult};
-ghost use Rattle.lt_ast.specs.View.{figure, interval, word, words};
+ghost use Rattle.lt_ast.specs.View.{figure, word, words, written_range, written_step};
 ghost use Rattle.lt_parser.specs.Nesting.{most_levels};
 ghost use Rattle.lt_parser.specs.inner.Parsing.{ReadsAs};
 ghost use Rattle.lt_parser.specs.Lexemes.{IsNotFirst};
 ghost use Rattle.lt_parser.specs.inner.Tokens.{Begins, lexemes};
-ghost use Rattle.lt_parser.specs.inner.Reading.{Goal, a_digits, a_figure, a_name, a_range, a_ref, a_sign, a_type, outcome};
+ghost use Rattle.lt_parser.specs.inner.Reading.{Goal, a_digits, a_figure, a_name, a_range, a_ref, a_sign, a_step, a_type, outcome};
 ghost use Rattle.lt_parser.specs.inner.Reading as reading;
 
 use crate::refusal::Refusal;
@@ -180,11 +180,27 @@ fn parse_digits<'a>(alloc: Global, start: Span, tokens: &'a [Token<'a>]) -> Pars
     }
 }
 
+// A step, where it is there.
+#[tactic(auto, using(crate::proofs::Skips::no_step))]
+fn parse_step<'a>(alloc: Global, tokens: &'a [Token<'a>]) -> Parsed<'a, Option<Literal>>
+    ensures reads { ReadsAs (λ x. written_step x.0) (λ x. lexemes x.1.now) a_step
+        (lexemes tokens.now) result }
+    ensures shorter { IfOk result (λ x. length x.1.now ≤ length tokens.now) }
+{
+    match after(tokens, Sign::Semicolon) {
+        None => Ok((None, tokens)),
+        Some((_, rest)) => {
+            let (step, rest) = parse_literal(alloc, rest)?;
+            Ok((Some(step), rest))
+        }
+    }
+}
+
 /// A range, where it is there.
 #[tactic(auto, using(crate::proofs::Skips::no_range))]
 pub(crate) fn parse_range<'a>(alloc: Global, tokens: &'a [Token<'a>]) -> Parsed<'a, Option<Range>>
-    ensures reads { ReadsAs (λ x. interval x.0) (λ x. lexemes x.1.now) a_range (lexemes tokens.now)
-        result }
+    ensures reads { ReadsAs (λ x. written_range x.0) (λ x. lexemes x.1.now) a_range
+        (lexemes tokens.now) result }
     ensures shorter { IfOk result (λ x. length x.1.now ≤ length tokens.now) }
 {
     match after(tokens, Sign::OpenBracket) {
@@ -193,8 +209,9 @@ pub(crate) fn parse_range<'a>(alloc: Global, tokens: &'a [Token<'a>]) -> Parsed<
             let (low, rest) = parse_literal(alloc, rest)?;
             let (_, rest) = expect(rest, Sign::Semicolon)?;
             let (high, rest) = parse_literal(alloc, rest)?;
+            let (step, rest) = parse_step(alloc, rest)?;
             let (_, rest) = expect(rest, Sign::CloseBracket)?;
-            Ok((Some(Range { low, high }), rest))
+            Ok((Some(Range { low, high, step }), rest))
         }
     }
 }

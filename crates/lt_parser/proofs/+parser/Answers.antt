@@ -5,8 +5,8 @@ use Rattle.lt_ast.specs.declared.span.Span.{Span}
 use Rattle.lt_ast.specs.inner.Rows.{weighed, group_of}
 use Rattle.lt_ast.specs.Places.{across, span_of}
 use Rattle.lt_ast.specs.Syntax as s
-use Rattle.lt_ast.specs.Syntax.{called, Exp, Grouping, Interval, Limits, Macro, Parameters, Word}
-use Rattle.lt_ast.specs.View.{argument, braced, exp, groupings, interval, limits, macro, trace, word, words}
+use Rattle.lt_ast.specs.Syntax.{called, Exp, Grouping, WrittenRange, Limits, Macro, Parameters, Word}
+use Rattle.lt_ast.specs.View.{argument, braced, exp, groupings, written_range, limits, macro, trace, word, words}
 use Rattle.lt_parser.specs.declared.traces.Guard.TheVariants as guard
 use Rattle.lt_parser.specs.inner.Onto.{arguments_onto, alternatives_onto, traces_onto, traces_after, alternatives_after, choice_after, priority_after, parallel_after, plain_after, items_after, groups_onto}
 use Rattle.lt_parser.specs.inner.Parsing.{guard_goal, guarded_trace, parameters_of}
@@ -438,7 +438,7 @@ pub groups::parse_first_value-returns-in-None-clause-reads : goal.groups::parse_
 groups::parse_first_value-returns-in-None-clause-reads given c = grind (arith, no_first)
 
 -- what follows the parts of a group
-abbrev group_first : ℕ → (Grouping → Goal) → List Word → TypeName → Bool → Option Interval → Goal
+abbrev group_first : ℕ → (Grouping → Goal) → List Word → TypeName → Bool → Option WrittenRange → Goal
 group_first d k ns kind r i = a_first d (λ v. k (s.grouping ns kind r i v))
 
 abbrev group_range : ℕ → (Grouping → Goal) → List Word → TypeName → Bool → Goal
@@ -470,7 +470,7 @@ groups::parse_group-returns-in_err-range-clause-reads given c =
 
 pub groups::parse_group-returns-in_err-first-clause-reads : goal.groups::parse_group-returns-in_err-first-clause-reads
 groups::parse_group-returns-in_err-first-clause-reads given c =
-    err_by (λ x k. k (group_of x.0)) (λ x. lexemes x.1.now) (a_group c.args.depth) (a_first c.args.depth) (λ k v. k (s.grouping (words c.in_ok-names.names) c.in_ok-kind.kind c.parse_ref-by_ref.result.0 (interval c.in_ok-range.range) v)) (lexemes c.args.tokens.now) (lexemes c.in_ok-range.rest.now) c.in_err-first.field-0.0 c.from_residual-in_err-first.result
+    err_by (λ x k. k (group_of x.0)) (λ x. lexemes x.1.now) (a_group c.args.depth) (a_first c.args.depth) (λ k v. k (s.grouping (words c.in_ok-names.names) c.in_ok-kind.kind c.parse_ref-by_ref.result.0 (written_range c.in_ok-range.range) v)) (lexemes c.args.tokens.now) (lexemes c.in_ok-range.rest.now) c.in_err-first.field-0.0 c.from_residual-in_err-first.result
     (λ k. c.in_ok-names.ensures.reads (group_rest c.args.depth k) ∙ c.in_ok-rest.ensures.reads (λ p. group_kind c.args.depth k (words c.in_ok-names.names))
     ∙ c.in_ok-kind.ensures.reads (group_ref c.args.depth k (words c.in_ok-names.names)) ∙ c.parse_ref-by_ref.ensures.reads (group_range c.args.depth k (words c.in_ok-names.names) c.in_ok-kind.kind)
     ∙ c.in_ok-range.ensures.reads (group_first c.args.depth k (words c.in_ok-names.names) c.in_ok-kind.kind c.parse_ref-by_ref.result.0))
@@ -481,7 +481,7 @@ groups::parse_group-returns-clause-reads given c = λ k.
     c.in_ok-names.ensures.reads (group_rest c.args.depth k) ∙ c.in_ok-rest.ensures.reads (λ p. group_kind c.args.depth k (words c.in_ok-names.names))
     ∙ c.in_ok-kind.ensures.reads (group_ref c.args.depth k (words c.in_ok-names.names)) ∙ c.parse_ref-by_ref.ensures.reads (group_range c.args.depth k (words c.in_ok-names.names) c.in_ok-kind.kind)
     ∙ c.in_ok-range.ensures.reads (group_first c.args.depth k (words c.in_ok-names.names) c.in_ok-kind.kind c.parse_ref-by_ref.result.0)
-    ∙ c.in_ok-first.ensures.reads (λ v. k (s.grouping (words c.in_ok-names.names) c.in_ok-kind.kind c.parse_ref-by_ref.result.0 (interval c.in_ok-range.range) v))
+    ∙ c.in_ok-first.ensures.reads (λ v. k (s.grouping (words c.in_ok-names.names) c.in_ok-kind.kind c.parse_ref-by_ref.result.0 (written_range c.in_ok-range.range) v))
 
 pub groups::parse_groups-loop-next-preserved : goal.groups::parse_groups-loop-next-preserved
 groups::parse_groups-loop-next-preserved given c = record {

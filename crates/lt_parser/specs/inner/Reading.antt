@@ -12,7 +12,7 @@ use Rattle.lt_ast.specs.declared.expr.UnOp.TheVariants as u
 use Rattle.lt_ast.specs.declared.expr.BinOp.{BinOp}
 use Rattle.lt_ast.specs.declared.expr.BinOp.TheVariants as b
 use Rattle.lt_ast.specs.Syntax as s
-use Rattle.lt_ast.specs.Syntax.{Word, Figure, Interval, Exp, Argument, Arguments, Limits, Braces, Alternative, Alternatives, Trace, Traces, Grouping, Groupings, MaybeExp, MaybeTrace, Parameters, Meaning, Macro, Declaration}
+use Rattle.lt_ast.specs.Syntax.{Word, Figure, WrittenRange, Exp, Argument, Arguments, Limits, Braces, Alternative, Alternatives, Trace, Traces, Grouping, Groupings, MaybeExp, MaybeTrace, Parameters, Meaning, Macro, Declaration}
 use Rattle.lt_parser.specs.Lexemes.{Lexeme, lexeme, Lexemes}
 use Rattle.lt_parser.specs.Grammar.{SpellsWithin}
 use Rattle.lt_parser.specs.Program.{IsUnexpected, IsTooDeep}
@@ -63,7 +63,8 @@ pub data Goal : Type 0 where
   more_names : (List Word → Goal) → Goal
   a_type : (TypeName → Goal) → Goal
   a_ref : (Bool → Goal) → Goal
-  a_range : (Option Interval → Goal) → Goal
+  a_range : (Option WrittenRange → Goal) → Goal
+  a_step : (Option Figure → Goal) → Goal
   a_figure : (Figure → Goal) → Goal
   -- the number after a minus, and the parenthesis before groups
   a_digits : Span → (Figure → Goal) → Goal
@@ -325,8 +326,10 @@ step (a_type k) t.Trace w at = next (k ty.Trace)
 step (a_type k) sign w at = stuck
 step (a_ref k) t.Ref w at = next (k true)
 step (a_ref k) sign w at = step (k false) sign w at
-step (a_range k) t.OpenBracket w at = next (a_figure (λ low. a_sign t.Semicolon (λ p. a_figure (λ high. a_sign t.CloseBracket (λ q. k (Some (record { low = low; high = high })))))))
+step (a_range k) t.OpenBracket w at = next (a_figure (λ low. a_sign t.Semicolon (λ p. a_figure (λ high. a_step (λ stride. a_sign t.CloseBracket (λ q. k (Some (record { low = low; high = high; step = stride }))))))))
 step (a_range k) sign w at = step (k None) sign w at
+step (a_step k) t.Semicolon w at = next (a_figure (λ f. k (Some f)))
+step (a_step k) sign w at = step (k None) sign w at
 step (a_figure k) t.Number w at = next (k (record { minus = false; text = w; span = at }))
 step (a_figure k) t.Minus w at = next (a_digits at k)
 step (a_figure k) sign w at = stuck
@@ -360,6 +363,7 @@ finish (after_weight d e k) = finish (k (s.unweighted (s.value e)))
 finish (more_names k) = finish (k [])
 finish (a_ref k) = finish (k false)
 finish (a_range k) = finish (k None)
+finish (a_step k) = finish (k None)
 finish (a_first d k) = finish (k s.no_exp)
 finish (some_parameters d k) = finish (k s.no_parameters)
 finish (declarations k) = finish (k [])
