@@ -1,9 +1,9 @@
--- Ranges: what their ends are read as.
+-- Ranges: what their literals are read as.
 use Rattle.std.proofs.Common.{◌≡◌, ℕ, ◌^◌, List, [], ◌++◌, Option, Some, None, Result, Ok, Err, Bool, true, false, not, nat_le, ℤ, pos, ◌*ℤ◌, ◌≤ℤ◌, int_lt, unsigned_abs, if◌then◌else◌, refl, ap, sym, subst, arith}
 use Rattle.std.proofs.lemmas.Int.{ints}
 use Rattle.lt_ast.specs.declared.group.TypeName.{TypeName}
 use Rattle.lt_ast.specs.declared.group.TypeName.TheVariants as t
-use Rattle.lt_ast.specs.Syntax.{Figure, Interval}
+use Rattle.lt_ast.specs.Syntax.{Figure, WrittenRange}
 use Rattle.lt_num.specs.Answer.{bounded}
 use Rattle.lt_num.specs.Bounds.{most_raw}
 use Rattle.lt_num.specs.Literal.{IsRead, literal_numerator, literal_denominator}
@@ -13,8 +13,8 @@ use Rattle.lt_num.specs.declared.fixed.Fixed.{Fixed}
 use Rattle.lt_num.proofs.Public.{is_rounded, rounded_is, ten-not_zero}
 use Rattle.lt_ast.specs.Literals.{figure_type, figure_text}
 use Rattle.lt_types.specs.Literal.{raw_of}
-use Rattle.lt_types.specs.Typing.{IsRange, IsGroupRange}
-use Rattle.lt_types.specs.Refusals.{unless, end_type, end_size, in_order, range_of, range_refusals}
+use Rattle.lt_types.specs.Typing.{IsRange, IsGroupRange, IsStep}
+use Rattle.lt_types.specs.Refusals.{unless, end_type, end_size, step_type, step_size, step_on, in_order, range_of, range_refusals}
 use Rattle.lt_types.specs.declared.refusal.TypeRefusal.TheVariants.{Mismatch, RangeTooLarge}
 use Rattle.lt_types.specs.Answer.{Leads, first}
 use Rattle.lt_types.proofs.Agreeing.{Agrees, none, same, nil_both, nil_left, nil_right, nil_first_nonempty, first_nonempty_left, first_nonempty_right, unless_clean, unless_back}
@@ -79,37 +79,73 @@ not_below x y h = grind (arith, ints)
 below_or_same : (x y : ℤ) → not (int_lt y x) ≡ true → x ≤ℤ y
 below_or_same x y h = grind (arith, ints)
 
+-- the step of a range
+record Step (decimals : ℕ) (kind : TypeName) (f : Option Figure) : Type 0 where
+  kinds : step_type kind f ≡ []
+  sizes : step_size decimals f ≡ []
+  leads : step_on decimals f ≡ []
+
+step_clean : (decimals : ℕ) (kind : TypeName) (f : Option Figure) → IsStep decimals kind f → Step decimals kind f
+step_clean decimals kind None h = record { kinds = refl; sizes = refl; leads = refl }
+step_clean decimals kind (Some f) h =
+    let number = read_is f decimals h.1 h.2 in
+    record {
+      kinds = (same (figure_type f) kind _).clean h.0;
+      sizes = unless_clean _ number.0;
+      leads = unless_clean _ (not_below (pos 1) (raw_of decimals f) (subst (λ x. pos 1 ≤ℤ x) number.1 h.3));
+    }
+
+step_back : (decimals : ℕ) (kind : TypeName) (f : Option Figure) → Step decimals kind f → IsStep decimals kind f
+step_back decimals kind None h = tt
+step_back decimals kind (Some f) h = (
+  (same (figure_type f) kind (Mismatch f.span)).back h.kinds,
+  record { raw = raw_of decimals f },
+  is_read f decimals (unless_back (nat_le (unsigned_abs (raw_of decimals f)) most_raw) _ h.sizes),
+  below_or_same (pos 1) (raw_of decimals f) (unless_back (not (int_lt (raw_of decimals f) (pos 1))) _ h.leads),
+)
+
 -- a range of numbers
-range_clean : (decimals : ℕ) (kind : TypeName) (range : Interval) → IsRange decimals kind range → range_of decimals kind range ≡ []
+range_clean : (decimals : ℕ) (kind : TypeName) (range : WrittenRange) → IsRange decimals kind range → range_of decimals kind range ≡ []
 range_clean decimals kind range h =
     let low = read_is range.low decimals h.low h.low_read in
     let high = read_is range.high decimals h.high h.high_read in
     let ordered : raw_of decimals range.low ≤ℤ raw_of decimals range.high = subst (λ x. x ≤ℤ raw_of decimals range.high) low.1 (subst (λ y. h.low.raw ≤ℤ y) high.1 h.ordered) in
-    nil_first_nonempty (nil_both ((same (figure_type range.low) kind _).clean h.low_type) ((same (figure_type range.high) kind _).clean h.high_type))
-    (nil_first_nonempty (nil_both (unless_clean _ low.0) (unless_clean _ high.0))
-    (unless_clean _ (not_below (raw_of decimals range.low) (raw_of decimals range.high) ordered)))
+    let step = step_clean decimals kind range.step h.step in
+    nil_first_nonempty (nil_both ((same (figure_type range.low) kind _).clean h.low_type) (nil_both ((same (figure_type range.high) kind _).clean h.high_type) step.kinds))
+    (nil_first_nonempty (nil_both (unless_clean _ low.0) (nil_both (unless_clean _ high.0) step.sizes))
+    (nil_first_nonempty (unless_clean _ (not_below (raw_of decimals range.low) (raw_of decimals range.high) ordered)) step.leads))
 
-range_back : (decimals : ℕ) (kind : TypeName) (range : Interval) → range_of decimals kind range ≡ [] → IsRange decimals kind range
+range_back : (decimals : ℕ) (kind : TypeName) (range : WrittenRange) → range_of decimals kind range ≡ [] → IsRange decimals kind range
 range_back decimals kind range e =
-    let types : end_type kind range.low ++ end_type kind range.high ≡ [] = first_nonempty_left (end_type kind range.low ++ end_type kind range.high) _ e in
-    let rest = first_nonempty_right (end_type kind range.low ++ end_type kind range.high) _ e in
-    let sizes : end_size decimals range.low ++ end_size decimals range.high ≡ [] = first_nonempty_left (end_size decimals range.low ++ end_size decimals range.high) _ rest in
-    let last : in_order decimals range ≡ [] = first_nonempty_right (end_size decimals range.low ++ end_size decimals range.high) _ rest in
+    let all_types = end_type kind range.low ++ (end_type kind range.high ++ step_type kind range.step) in
+    let all_sizes = end_size decimals range.low ++ (end_size decimals range.high ++ step_size decimals range.step) in
+    let types : all_types ≡ [] = first_nonempty_left all_types _ e in
+    let rest = first_nonempty_right all_types _ e in
+    let sizes : all_sizes ≡ [] = first_nonempty_left all_sizes _ rest in
+    let last = first_nonempty_right all_sizes _ rest in
+    let order : in_order decimals range ≡ [] = first_nonempty_left (in_order decimals range) _ last in
+    let types_on : end_type kind range.high ++ step_type kind range.step ≡ [] = nil_right (end_type kind range.low) _ types in
+    let sizes_on : end_size decimals range.high ++ step_size decimals range.step ≡ [] = nil_right (end_size decimals range.low) _ sizes in
     record {
       low_type = (same (figure_type range.low) kind (Mismatch range.low.span)).back (nil_left (end_type kind range.low) _ types);
-      high_type = (same (figure_type range.high) kind (Mismatch range.high.span)).back (nil_right (end_type kind range.low) _ types);
+      high_type = (same (figure_type range.high) kind (Mismatch range.high.span)).back (nil_left (end_type kind range.high) _ types_on);
       low = record { raw = raw_of decimals range.low };
       high = record { raw = raw_of decimals range.high };
       low_read = is_read range.low decimals (unless_back (nat_le (unsigned_abs (raw_of decimals range.low)) most_raw) _ (nil_left (end_size decimals range.low) _ sizes));
-      high_read = is_read range.high decimals (unless_back (nat_le (unsigned_abs (raw_of decimals range.high)) most_raw) _ (nil_right (end_size decimals range.low) _ sizes));
-      ordered = below_or_same (raw_of decimals range.low) (raw_of decimals range.high) (unless_back (not (int_lt (raw_of decimals range.high) (raw_of decimals range.low))) _ last);
+      high_read = is_read range.high decimals (unless_back (nat_le (unsigned_abs (raw_of decimals range.high)) most_raw) _ (nil_left (end_size decimals range.high) _ sizes_on));
+      ordered = below_or_same (raw_of decimals range.low) (raw_of decimals range.high) (unless_back (not (int_lt (raw_of decimals range.high) (raw_of decimals range.low))) _ order);
+      step = step_back decimals kind range.step (record {
+        kinds = nil_right (end_type kind range.high) _ types_on;
+        sizes = nil_right (end_size decimals range.high) _ sizes_on;
+        leads = first_nonempty_right (in_order decimals range) _ last;
+      });
     }
 
-range_agrees : (decimals : ℕ) (kind : TypeName) (range : Interval) → Agrees (IsRange decimals kind range) (range_of decimals kind range)
+range_agrees : (decimals : ℕ) (kind : TypeName) (range : WrittenRange) → Agrees (IsRange decimals kind range) (range_of decimals kind range)
 range_agrees decimals kind range = record { clean = range_clean decimals kind range; back = range_back decimals kind range }
 
 -- the range of a group
-pub group_range_agrees : (decimals : ℕ) (kind : TypeName) (range : Option Interval) → Agrees (IsGroupRange decimals kind range) (range_refusals decimals kind range)
+pub group_range_agrees : (decimals : ℕ) (kind : TypeName) (range : Option WrittenRange) → Agrees (IsGroupRange decimals kind range) (range_refusals decimals kind range)
 group_range_agrees decimals kind None = none
 group_range_agrees decimals t.Bool (Some range) = none
 group_range_agrees decimals t.Int (Some range) = range_agrees 0 t.Int range

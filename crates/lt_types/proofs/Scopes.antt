@@ -10,7 +10,7 @@ use Rattle.lt_ast.specs.Syntax as s
 use Rattle.lt_ast.specs.Syntax.{Word, Grouping, Groupings, Parameters, Macro}
 use Rattle.lt_ast.specs.View.{word, groupings, meaning, macro as macro_seen, parameters as parameters_held}
 use Rattle.lt_ast.proofs.Public.{groups_list}
-use Rattle.lt_types.specs.Environment.{Environment, Binding, Entry, Role, variables, with_bindings, with_names, with_group, with_groups, with_group_names, with_parameters, with_macro, with_exceptions, group_entry}
+use Rattle.lt_types.specs.Environment.{Environment, Binding, Entry, Role, inputs, variables, with_bindings, with_names, with_group, with_groups, with_group_names, with_parameters, with_macro, with_exceptions, group_entry}
 use Rattle.lt_types.specs.Environment as e
 use Rattle.lt_types.specs.inner.Given.{parameters_view}
 use Rattle.lt_types.specs.Refusals.{group_refusals, groups_refusals, macro_refusals, parameters_refusals}
@@ -175,4 +175,4 @@ macro_params_first env d r h = subst (λ m. Leads r (macro_refusals env m)) (sym
 -- after a node
 pub inputs_and_outputs_end : (env : Environment) (ins outs : Groupings) → with_oldest_names (length env.names) (e.with_inputs_and_outputs env ins outs) ≡ env
 inputs_and_outputs_end env ins outs =
-    groups_oldest (length env.names) variables (with_groups variables env ins) outs (groups_more variables env ins) ∙ groups_end variables env ins
+    groups_oldest (length env.names) variables (with_groups inputs env ins) outs (groups_more inputs env ins) ∙ groups_end inputs env ins

@@ -4,7 +4,7 @@ use Rattle.lt_ast.specs.declared.group.TypeName.{TypeName}
 use Rattle.lt_ast.specs.declared.group.TypeName.TheVariants as t
 use Rattle.lt_ast.specs.Syntax as s
 use Rattle.lt_ast.specs.Syntax.{Word, Exp, Argument, Arguments, Limits, Braces, Alternative, Alternatives, Trace, Traces, Grouping, Groupings, MaybeExp, MaybeTrace, Parameters, Meaning, Macro, Declaration}
-use Rattle.lt_types.specs.Environment.{Environment, at_start, Entry, variable, parameter, macro, Parameter, by_value, by_ref, found, Role, variables, parameters, with_group, with_groups, with_group_names, with_groups_names, with_parameters, with_macro, with_exceptions, with_declaration, with_inputs_and_outputs}
+use Rattle.lt_types.specs.Environment.{Environment, at_start, Entry, variable, parameter, macro, Parameter, by_value, by_ref, found, Role, inputs, variables, parameters, with_group, with_groups, with_group_names, with_groups_names, with_parameters, with_macro, with_exceptions, with_declaration, with_inputs_and_outputs}
 use Rattle.lt_types.specs.Operators.{serves_as, unary_takes, unary_gives, binary_takes, binary_gives}
 use Rattle.lt_ast.specs.Literals.{figure_type}
 use Rattle.lt_types.specs.Typing.{HasType, ArgumentFits, ArgumentsFit, AreLimits, IsBraced, IsAlternative, AreAlternatives, AreTraces, IsGroup, AreGroups, IsFirst, IsHandler, AreParameters, IsMeaning, IsMacro, IsTrace, IsDeclaration, AreDeclarations, IsWellTyped, may_be_written, has_node}
@@ -132,7 +132,7 @@ mutual
 
 declaration_agrees : (env : Environment) (d : Declaration) → Agrees (IsDeclaration env d) (declaration_refusals env d)
 declaration_agrees env (s.node w ins outs x) =
-    all_four (new_agrees env.nodes (w ∷ [])) (groups_agree variables env [] ins) (groups_agree variables (with_groups variables env ins) (with_groups_names ins []) outs) (trace_agrees (with_inputs_and_outputs env ins outs) x)
+    all_four (new_agrees env.nodes (w ∷ [])) (groups_agree inputs env [] ins) (groups_agree variables (with_groups inputs env ins) (with_groups_names ins []) outs) (trace_agrees (with_inputs_and_outputs env ins outs) x)
 declaration_agrees env (s.macro_declaration m) = both (new_macro_agrees env m) (macro_agrees env m)
 declaration_agrees env (s.exception_declaration ws) = new_agrees env.exceptions ws
 

@@ -16,6 +16,7 @@ type_code (r.EmptyRange at) = codes "type.EmptyRange"
 type_code (r.RangeTooLarge at) = codes "type.RangeTooLarge"
 type_code r.NoNode = codes "type.NoNode"
 type_code r.Memory = codes "type.Memory"
+type_code (r.BadStep at) = codes "type.BadStep"
 
 -- where in the text the rule is broken, if that is at one place
 abbrev pub type_place : TypeRefusal → Option ℕ
@@ -28,3 +29,4 @@ type_place (r.EmptyRange at) = Some at.start
 type_place (r.RangeTooLarge at) = Some at.start
 type_place r.NoNode = None
 type_place r.Memory = None
+type_place (r.BadStep at) = Some at.start

@@ -58,13 +58,15 @@ abbrev pub with_bindings : Entry → List Word → List Binding → List Binding
 with_bindings entry [] names = names
 with_bindings entry (w ∷ ws) names = with_bindings entry ws (record { name = w.text; entry = entry } ∷ names)
 
--- what a list of groups declares: variables, or the parameters of a macro
+-- what a list of groups declares: the inputs of a node, other variables, or the parameters of a macro
 pub data Role : Type 0 where
+  inputs : Role
   variables : Role
   parameters : Role
 
 -- what the names of a group stand for
 abbrev pub group_entry : Role → TypeName → Bool → Entry
+group_entry inputs kind ref = variable kind
 group_entry variables kind ref = variable kind
 group_entry parameters kind true = variable kind
 group_entry parameters kind false = parameter kind
@@ -127,4 +129,4 @@ with_declaration env (s.exception_declaration ws) = with_exceptions env ws
 
 -- what is known in the body of a node
 abbrev pub with_inputs_and_outputs : Environment → Groupings → Groupings → Environment
-with_inputs_and_outputs env ins outs = with_groups variables (with_groups variables env ins) outs
+with_inputs_and_outputs env ins outs = with_groups variables (with_groups inputs env ins) outs

@@ -1,27 +1,27 @@
 -- The rules that a program breaks, in the order of its text: the first of them is the answer, and of the rest only that there
 -- are none counts. A name that is declared, a name that is used, and each part of a construct come at their places; the
 -- construct's own rules come after its parts, the one with the smaller place first. An `assert` judges its condition's type
--- after its trace; a weight, a bound, an item and a macro's body are judged right after their own expression; a range by its
--- ends' types, then their sizes, then their order; the number of arguments before their types. A rule that needs the type of
+-- after its trace; a weight, a bound, an item and a macro's body are judged right after their own expression; a range by the
+-- types of its literals, then their sizes, then the order of its ends, then its step; the number of arguments before their types. A rule that needs the type of
 -- an expression is judged only where the expression has one. A list that is named by a rule holds the refusals where the rule
 -- is broken.
-use Rattle.std.specs.Prelude.{ℕ, nat_le, Bool, true, false, not, ◌&&◌, List, [], ◌∷◌, ◌++◌, unsigned_abs, int_lt, option_map, is_none}
+use Rattle.std.specs.Prelude.{ℕ, nat_le, Bool, true, false, not, ◌&&◌, List, [], ◌∷◌, ◌++◌, unsigned_abs, int_lt, pos, option_map, is_none}
 use Rattle.std.specs.declared.option.Option.{Option}
 use Rattle.std.specs.declared.option.Option.TheVariants.{None, Some}
 use Rattle.lt_ast.specs.declared.span.Span.{Span}
 use Rattle.lt_ast.specs.declared.group.TypeName.{TypeName}
 use Rattle.lt_ast.specs.declared.group.TypeName.TheVariants as t
 use Rattle.lt_ast.specs.Syntax as s
-use Rattle.lt_ast.specs.Syntax.{Word, Figure, Interval, Exp, Argument, Arguments, Limits, Braces, Alternative, Alternatives, Trace, Traces, Grouping, Groupings, MaybeExp, MaybeTrace, Parameters, Meaning, Macro, Declaration}
+use Rattle.lt_ast.specs.Syntax.{Word, Figure, WrittenRange, Exp, Argument, Arguments, Limits, Braces, Alternative, Alternatives, Trace, Traces, Grouping, Groupings, MaybeExp, MaybeTrace, Parameters, Meaning, Macro, Declaration}
 use Rattle.lt_ast.specs.Literals.{figure_type}
 use Rattle.lt_ast.specs.Places.{span_of}
 use Rattle.lt_num.specs.Bounds.{most_raw}
-use Rattle.lt_types.specs.Environment.{Parameter, by_value, by_ref, Entry, variable, parameter, macro, Environment, at_start, found, is_among, Role, variables, parameters, with_group, with_groups, with_group_names, with_groups_names, with_parameters, with_macro, with_exceptions, with_declaration, with_inputs_and_outputs}
+use Rattle.lt_types.specs.Environment.{Parameter, by_value, by_ref, Entry, variable, parameter, macro, Environment, at_start, found, is_among, Role, inputs, variables, parameters, with_group, with_groups, with_group_names, with_groups_names, with_parameters, with_macro, with_exceptions, with_declaration, with_inputs_and_outputs}
 use Rattle.lt_types.specs.Operators.{is_value, same_type, serves_as, unary_takes, binary_takes, unary_gives, binary_gives}
 use Rattle.lt_types.specs.Literal.{raw_of}
 use Rattle.lt_types.specs.Typing.{may_be_written, has_node}
 use Rattle.lt_types.specs.declared.refusal.TypeRefusal.{TypeRefusal}
-use Rattle.lt_types.specs.declared.refusal.TypeRefusal.TheVariants.{Unknown, Twice, Mismatch, Arity, PreOfExpression, EmptyRange, RangeTooLarge, NoNode}
+use Rattle.lt_types.specs.declared.refusal.TypeRefusal.TheVariants.{Unknown, Twice, Mismatch, Arity, PreOfExpression, EmptyRange, RangeTooLarge, NoNode, BadStep}
 
 -- this refusal, where the test fails
 abbrev pub unless : Bool → TypeRefusal → List TypeRefusal
@@ -139,27 +139,47 @@ applied env w args (Some (variable k)) = Arity w.span ∷ []
 applied env w args (Some (parameter k)) = Arity w.span ∷ []
 applied env w args (Some (macro ps k)) = unless (as_many args ps) (Arity w.span) ++ arguments_misfit env args ps
 
--- the end of a range is a literal of the type
+-- an end of a range is a literal of the type
 abbrev pub end_type : TypeName → Figure → List TypeRefusal
 end_type kind f = unless (same_type (figure_type f) kind) (Mismatch f.span)
 
--- the end of a range is a number within bounds
+-- so is the step of a range, where it has one
+abbrev pub step_type : TypeName → Option Figure → List TypeRefusal
+step_type kind None = []
+step_type kind (Some f) = end_type kind f
+
+-- an end of a range is a number within bounds
 abbrev pub end_size : ℕ → Figure → List TypeRefusal
 end_size decimals f = unless (nat_le (unsigned_abs (raw_of decimals f)) most_raw) (RangeTooLarge f.span)
 
+-- so is the step of a range, where it has one
+abbrev pub step_size : ℕ → Option Figure → List TypeRefusal
+step_size decimals None = []
+step_size decimals (Some f) = end_size decimals f
+
 -- the low end of a range isn't over the high one
-abbrev pub in_order : ℕ → Interval → List TypeRefusal
+abbrev pub in_order : ℕ → WrittenRange → List TypeRefusal
 in_order decimals range = unless (not (int_lt (raw_of decimals range.high) (raw_of decimals range.low))) (EmptyRange range.low.span)
 
--- a range of numbers of a type: both ends are of the type, then both are within bounds, then they are in order
-abbrev pub range_of : ℕ → TypeName → Interval → List TypeRefusal
+-- a step leads on: its raw number, once it is rounded, is at least 1
+abbrev pub leads_on : ℕ → Figure → List TypeRefusal
+leads_on decimals f = unless (not (int_lt (raw_of decimals f) (pos 1))) (BadStep f.span)
+
+-- the step of a range leads on, where it has one
+abbrev pub step_on : ℕ → Option Figure → List TypeRefusal
+step_on decimals None = []
+step_on decimals (Some f) = leads_on decimals f
+
+-- a range of numbers of a type: all its literals are of the type, then all are within bounds, then its ends are in order, then
+-- its step leads on
+abbrev pub range_of : ℕ → TypeName → WrittenRange → List TypeRefusal
 range_of decimals kind range =
-    first_nonempty (end_type kind range.low ++ end_type kind range.high)
-    (first_nonempty (end_size decimals range.low ++ end_size decimals range.high)
-    (in_order decimals range))
+    first_nonempty (end_type kind range.low ++ (end_type kind range.high ++ step_type kind range.step))
+    (first_nonempty (end_size decimals range.low ++ (end_size decimals range.high ++ step_size decimals range.step))
+    (first_nonempty (in_order decimals range) (step_on decimals range.step)))
 
 -- the range of a group of this type; of other types it isn't judged
-abbrev pub range_refusals : ℕ → TypeName → Option Interval → List TypeRefusal
+abbrev pub range_refusals : ℕ → TypeName → Option WrittenRange → List TypeRefusal
 range_refusals decimals kind None = []
 range_refusals decimals t.Int (Some range) = range_of 0 t.Int range
 range_refusals decimals t.Real (Some range) = range_of decimals t.Real range
@@ -283,8 +303,8 @@ new_macro env (s.macro w ps kind m) = unless (is_none (found env.names w.text)) 
 abbrev pub declaration_refusals : Environment → Declaration → List TypeRefusal
 declaration_refusals env (s.node w ins outs x) =
     new_names env.nodes (w ∷ [])
-    ++ (groups_refusals variables env [] ins
-    ++ (groups_refusals variables (with_groups variables env ins) (with_groups_names ins []) outs
+    ++ (groups_refusals inputs env [] ins
+    ++ (groups_refusals variables (with_groups inputs env ins) (with_groups_names ins []) outs
     ++ trace_refusals (with_inputs_and_outputs env ins outs) x))
 declaration_refusals env (s.macro_declaration m) = new_macro env m ++ macro_refusals env m
 declaration_refusals env (s.exception_declaration ws) = new_names env.exceptions ws

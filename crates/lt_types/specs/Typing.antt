@@ -1,14 +1,14 @@
 -- When a program is well typed: a line for each construct.
-use Rattle.std.specs.Prelude.{◌≡◌, ℕ, Bool, true, false, not, ◌&&◌, ◌||◌, IsTrue, List, [], ◌∷◌, ◌≤ℤ◌, is_none, Ok}
+use Rattle.std.specs.Prelude.{◌≡◌, ℕ, Bool, true, false, not, ◌&&◌, ◌||◌, IsTrue, List, [], ◌∷◌, ◌≤ℤ◌, pos, is_none, Ok}
 use Rattle.std.specs.declared.option.Option.{Option}
 use Rattle.std.specs.declared.option.Option.TheVariants.{None, Some}
 use Rattle.lt_ast.specs.declared.group.TypeName.{TypeName}
 use Rattle.lt_ast.specs.declared.group.TypeName.TheVariants as t
 use Rattle.lt_ast.specs.Syntax as s
-use Rattle.lt_ast.specs.Syntax.{Word, Interval, Exp, Argument, Arguments, Limits, Braces, Alternative, Alternatives, Trace, Traces, Grouping, Groupings, MaybeExp, MaybeTrace, Parameters, Meaning, Macro, Declaration}
+use Rattle.lt_ast.specs.Syntax.{Word, Figure, WrittenRange, Exp, Argument, Arguments, Limits, Braces, Alternative, Alternatives, Trace, Traces, Grouping, Groupings, MaybeExp, MaybeTrace, Parameters, Meaning, Macro, Declaration}
 use Rattle.lt_num.specs.Literal.{IsRead}
 use Rattle.lt_num.specs.declared.fixed.Fixed.{Fixed}
-use Rattle.lt_types.specs.Environment.{Parameter, by_value, by_ref, Entry, variable, parameter, macro, Environment, at_start, found, is_among, Role, variables, parameters, with_group, with_groups, with_group_names, with_groups_names, with_parameters, with_macro, with_exceptions, with_declaration, with_inputs_and_outputs}
+use Rattle.lt_types.specs.Environment.{Parameter, by_value, by_ref, Entry, variable, parameter, macro, Environment, at_start, found, is_among, Role, inputs, variables, parameters, with_group, with_groups, with_group_names, with_groups_names, with_parameters, with_macro, with_exceptions, with_declaration, with_inputs_and_outputs}
 use Rattle.lt_types.specs.Operators.{is_number, is_value, serves_as, unary_takes, binary_takes, unary_gives, binary_gives}
 use Rattle.lt_ast.specs.Literals.{figure_type, figure_text}
 
@@ -34,8 +34,13 @@ abbrev pub IsVariable : Environment → Exp → TypeName → Type 0
 IsVariable env (s.named w) kind = found env.names w.text ≡ Some (variable kind)
 IsVariable env e kind = ⊥
 
+-- the step of such a range, where it has one: a literal of the type, read as a number within bounds, whose raw number is at least 1
+abbrev pub IsStep : ℕ → TypeName → Option Figure → Type 0
+IsStep decimals kind None = Unit {0}
+IsStep decimals kind (Some f) = (figure_type f ≡ kind) × (n : Fixed) × IsRead (figure_text f) decimals (Ok n) × (pos 1 ≤ℤ n.raw)
+
 -- a range of numbers of a type, with so many decimals
-pub record IsRange (decimals : ℕ) (kind : TypeName) (range : Interval) : Type 0 where
+pub record IsRange (decimals : ℕ) (kind : TypeName) (range : WrittenRange) : Type 0 where
   -- both ends are literals of the type
   pub low_type : figure_type range.low ≡ kind
   pub high_type : figure_type range.high ≡ kind
@@ -46,9 +51,11 @@ pub record IsRange (decimals : ℕ) (kind : TypeName) (range : Interval) : Type 
   pub high_read : IsRead (figure_text range.high) decimals (Ok high)
   -- the low one isn't over the high one
   pub ordered : low.raw ≤ℤ high.raw
+  -- the step leads on
+  pub step : IsStep decimals kind range.step
 
 -- the range of a group of this type; that groups of other types may have none is said of the group
-abbrev pub IsGroupRange : ℕ → TypeName → Option Interval → Type 0
+abbrev pub IsGroupRange : ℕ → TypeName → Option WrittenRange → Type 0
 IsGroupRange decimals kind None = Unit {0}
 IsGroupRange decimals t.Int (Some range) = IsRange 0 t.Int range
 IsGroupRange decimals t.Real (Some range) = IsRange decimals t.Real range
@@ -59,9 +66,15 @@ abbrev pub has_no_first : MaybeExp → Bool
 has_no_first s.no_exp = true
 has_no_first (s.an_exp e) = false
 
--- Whether a group may be as it is written: variables have values, no `ref`, and a range only if they are numbers; parameters
--- may also be traces, but not by `ref`, and have neither range nor first value.
-abbrev pub may_be_written : Role → TypeName → Bool → Option Interval → MaybeExp → Bool
+-- whether there is no step
+abbrev pub has_no_step : Option WrittenRange → Bool
+has_no_step None = true
+has_no_step (Some range) = is_none range.step
+
+-- Whether a group may be as it is written: variables have values, no `ref`, and a range only if they are numbers, for inputs
+-- without a step; parameters may also be traces, but not by `ref`, and have neither range nor first value.
+abbrev pub may_be_written : Role → TypeName → Bool → Option WrittenRange → MaybeExp → Bool
+may_be_written inputs kind ref range first = is_value kind && not ref && (is_none range || is_number kind) && has_no_step range
 may_be_written variables kind ref range first = is_value kind && not ref && (is_none range || is_number kind)
 may_be_written parameters kind ref range first = (is_value kind || not ref) && is_none range && has_no_first first
 
@@ -176,8 +189,8 @@ IsNewMacro env (s.macro w ps kind m) = found env.names w.text ≡ None
 abbrev pub IsDeclaration : Environment → Declaration → Type 0
 IsDeclaration env (s.node w ins outs x) =
     AreNew env.nodes (w ∷ [])
-    × AreGroups variables env [] ins
-    × AreGroups variables (with_groups variables env ins) (with_groups_names ins []) outs
+    × AreGroups inputs env [] ins
+    × AreGroups variables (with_groups inputs env ins) (with_groups_names ins []) outs
     × IsTrace (with_inputs_and_outputs env ins outs) x
 IsDeclaration env (s.macro_declaration m) = IsNewMacro env m × IsMacro env m
 IsDeclaration env (s.exception_declaration ws) = AreNew env.exceptions ws

@@ -33,7 +33,10 @@ pub(crate) enum Entry {
 // What a list of groups declares.
 #[derive(Clone, Copy)]
 pub(crate) enum Role {
-    // Variables of a node or a trace.
+    // The inputs of a node.
+    Inputs,
+
+    // The outputs of a node, or variables of a trace.
     Variables,
 
     // Parameters of a macro.
@@ -47,7 +50,7 @@ impl Entry {
     {
         match role {
             Role::Parameters if !by_ref => Entry::Parameter(kind),
-            Role::Variables | Role::Parameters => Entry::Variable(kind),
+            Role::Inputs | Role::Variables | Role::Parameters => Entry::Variable(kind),
         }
     }
 

@@ -1,14 +1,14 @@
 //! Groups of variables or parameters, and macros.
 
-ghost use Rattle.std.specs.Prelude.{◌≡◌, ◌≤◌, ◌++◌, [], IfOk, OnOk, length, map};
+ghost use Rattle.std.specs.Prelude.{◌≡◌, ◌≤◌, ◌++◌, [], IfOk, OnOk, length, map, not};
 ghost use Rattle.lt_ast.specs.inner.Rows.{group_of, maybe_exp};
-ghost use Rattle.lt_ast.specs.View.{groupings, interval, macro, meaning, words};
+ghost use Rattle.lt_ast.specs.View.{groupings, macro, meaning, words, written_range};
 ghost use Rattle.lt_types.specs.inner.Checks.{Checks};
-ghost use Rattle.lt_types.specs.Environment.{group_parameters, groups_parameters, parameters_of, with_group, with_groups, with_macro, with_parameters};
+ghost use Rattle.lt_types.specs.Environment.{group_parameters, groups_parameters, parameters_of, variables, with_group, with_groups, with_macro, with_parameters};
 ghost use Rattle.lt_types.specs.inner.Given.{first_judged, first_type, parameters_view};
 ghost use Rattle.lt_types.specs.Refusals.{first_place, first_refusals, group_refusals, groups_refusals, macro_refusals, meaning_refusals, parameters_refusals, unless};
 ghost use Rattle.lt_types.specs.inner.Scoping.{declared_since, param_view, role_view};
-ghost use Rattle.lt_types.specs.Typing.{may_be_written};
+ghost use Rattle.lt_types.specs.Typing.{has_no_step, may_be_written};
 
 use crate::entry::{Entry, Param, Role};
 use crate::expressions::check_expr;
@@ -18,7 +18,7 @@ use crate::refusal::TypeRefusal;
 use crate::scope::Scope;
 use crate::traces::check_trace;
 use crate::uses::check_kind;
-use lt_ast::{Body, Expr, Group, Groups, MacroDecl, Names, Span, TypeName};
+use lt_ast::{Body, Expr, Group, Groups, MacroDecl, Names, Range, Span, TypeName};
 use std::alloc::Global;
 
 // Groups, in a list that began when there were `from` names. Their names stay in the scope.
@@ -89,7 +89,7 @@ fn check_first(
 fn check_form(role: Role, group: &Group) -> Result<(), TypeRefusal>
     ensures { Checks result
         (unless (may_be_written (role_view role) group.now.kind group.now.by_ref
-        (interval group.now.range) (maybe_exp group.now.first))
+        (written_range group.now.range) (maybe_exp group.now.first))
         (TypeRefusal.Mismatch (first_place (words group.now.names)))) }
 {
     if is_well_formed(role, group) {
@@ -101,19 +101,34 @@ fn check_form(role: Role, group: &Group) -> Result<(), TypeRefusal>
 // Whether a group may be as it is written, whatever its names, its range and its first value are.
 fn is_well_formed(role: Role, group: &Group) -> bool
     ensures { result ≡ may_be_written (role_view role) group.now.kind group.now.by_ref
-        (interval group.now.range) (maybe_exp group.now.first) }
+        (written_range group.now.range) (maybe_exp group.now.first) }
 {
     match role {
-        Role::Variables => {
-            is_value(group.kind)
-                && !group.by_ref
-                && (group.range.is_none() || is_number(group.kind))
-        }
+        Role::Inputs => is_variable_group(group) && !has_step(&group.range),
+        Role::Variables => is_variable_group(group),
         Role::Parameters => {
             (is_value(group.kind) || !group.by_ref)
                 && group.range.is_none()
                 && group.first.is_none()
         }
+    }
+}
+
+// Whether variables may be as a group of them is written, but for what inputs may not have.
+fn is_variable_group(group: &Group) -> bool
+    ensures { result ≡ may_be_written variables group.now.kind group.now.by_ref
+        (written_range group.now.range) (maybe_exp group.now.first) }
+{
+    is_value(group.kind) && !group.by_ref && (group.range.is_none() || is_number(group.kind))
+}
+
+// Whether a range has a step.
+fn has_step(range: &Option<Range>) -> bool
+    ensures { result ≡ not (has_no_step (written_range range.now)) }
+{
+    match range {
+        None => false,
+        Some(range) => range.step.is_some(),
     }
 }
 

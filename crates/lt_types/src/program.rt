@@ -133,7 +133,7 @@ fn check_node(alloc: Global, scope: &mut Scope, declared: &NodeDecl) -> Result<(
 {
     scope.check_new_node(&declared.name)?;
     let before = scope.name_count();
-    check_groups(alloc, scope, Role::Variables, before, &declared.inputs)?;
+    check_groups(alloc, scope, Role::Inputs, before, &declared.inputs)?;
     check_groups(alloc, scope, Role::Variables, before, &declared.outputs)?;
     check_trace(alloc, scope, &declared.body)?;
     scope.forget_names(before);

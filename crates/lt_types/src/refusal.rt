@@ -31,7 +31,7 @@ pub enum TypeRefusal {
     #[error("the range at byte {} is empty", .0.start)]
     EmptyRange(Span),
 
-    /// The end of a range is too large a number.
+    /// An end of the range, or its step, is too large a number.
     #[error("the number at byte {} is too large", .0.start)]
     RangeTooLarge(Span),
 
@@ -42,6 +42,10 @@ pub enum TypeRefusal {
     /// Memory ran out.
     #[error("out of memory")]
     Memory,
+
+    /// The step of the range leads no further: once it is rounded, it is 0 or less.
+    #[error("the step at byte {} leads no further", .0.start)]
+    BadStep(Span),
 }
 
 impl TypeRefusal {
@@ -62,6 +66,7 @@ impl TypeRefusal {
             TypeRefusal::RangeTooLarge(_) => "type.RangeTooLarge",
             TypeRefusal::NoNode => "type.NoNode",
             TypeRefusal::Memory => "type.Memory",
+            TypeRefusal::BadStep(_) => "type.BadStep",
         }
     }
 
@@ -76,7 +81,8 @@ impl TypeRefusal {
             | TypeRefusal::Arity(span)
             | TypeRefusal::PreOfExpression(span)
             | TypeRefusal::EmptyRange(span)
-            | TypeRefusal::RangeTooLarge(span) => Some(span.start),
+            | TypeRefusal::RangeTooLarge(span)
+            | TypeRefusal::BadStep(span) => Some(span.start),
             TypeRefusal::NoNode | TypeRefusal::Memory => None,
         }
     }

@@ -23,6 +23,7 @@ entry_view (c.Macro ps k) = e.macro (map param_view ps.items) k
 
 -- what a list of groups declares
 abbrev pub role_view : Role → e.Role
+role_view r.Inputs = e.inputs
 role_view r.Variables = e.variables
 role_view r.Parameters = e.parameters
 

@@ -15,5 +15,11 @@ returns-in_err-low c = grind (arith, leads_in_ranges)
 pub returns-in_err-high : goal.returns-in_err-high
 returns-in_err-high c = grind (arith, leads_in_ranges)
 
-pub returns-then-high-low : goal.returns-then-high-low
-returns-then-high-low c = grind (arith, common_steps, leads_in_ranges)
+pub returns-in_err-check_step_kind : goal.returns-in_err-check_step_kind
+returns-in_err-check_step_kind c = grind (arith, leads_in_ranges)
+
+pub returns-in_err-number-in-Some : goal.returns-in_err-number-in-Some
+returns-in_err-number-in-Some c = grind (arith, leads_in_ranges)
+
+pub returns-in_err-check_order-in-Some : goal.returns-in_err-check_order-in-Some
+returns-in_err-check_order-in-Some c = grind (arith, common_steps, leads_in_ranges)
