@@ -5,13 +5,14 @@ use Rattle.std.specs.Int.{int_max}
 use Rattle.std.proofs.lemmas.Int.{ints, clamps}
 use Rattle.std.proofs.lemmas.List.{length-map}
 use Rattle.lt_ast.specs.Syntax as s
-use Rattle.lt_ast.specs.Syntax.{Word, Interval, Figure, Exp, Argument, Arguments, Braces, Alternative, Alternatives, Trace, Traces, Grouping, Groupings, MaybeExp, MaybeTrace, Meaning, Macro, Declaration}
+use Rattle.lt_ast.specs.Syntax.{Word, WrittenRange, Figure, Exp, Argument, Arguments, Braces, Alternative, Alternatives, Trace, Traces, Grouping, Groupings, MaybeExp, MaybeTrace, Meaning, Macro, Declaration}
 use Rattle.lt_ast.specs.declared.group.TypeName.TheVariants as t
 use Rattle.lt_num.specs.Bounds.{most_raw}
 use Rattle.lt_num.specs.Value.{raw_of, value_of}
 use Rattle.lt_num.specs.declared.kind.Kind.{Kind}
 use Rattle.lt_num.specs.declared.kind.Kind.TheVariants as kind
 use Rattle.lt_num.specs.declared.value.Value.TheVariants as value
+use Rattle.lt_types.specs.Literal.{raw_of as figure_raw}
 use Rattle.lt_formula.specs.Domain.{IsDomain}
 use Rattle.lt_formula.specs.declared.role.Role.{Role}
 use Rattle.lt_formula.specs.declared.role.Role.TheVariants as role
@@ -20,7 +21,7 @@ use Rattle.lt_macros.specs.Placed.{Placed}
 use Rattle.lt_macros.specs.Expanded.{Declared, Bounds, Expanded, seq, pri, par, Node}
 use Rattle.lt_macros.specs.Environment.{Binding, variable, parameter, macro, Raised, deadlock, declared, NamedBinding, Environment, at_start, found, found_exception, with_name, with_arguments, with_variables, with_exceptions}
 use Rattle.lt_macros.specs.Expansion.{group_variables, groups_variables, with_group, with_groups, node_of, is_wanted, node_among}
-use Rattle.lt_macros.specs.Literals.{kind_of, range_of, limited, from_to, most_drawn_raw, most_unranged, literal_raw}
+use Rattle.lt_macros.specs.Literals.{kind_of, range_of, limited, from_to, most_drawn_raw, most_unranged, step_raw, written_points}
 use Rattle.lt_macros.specs.Naming.{IsOneOf, IsNamed, AreNamed, AreEachNamed, HaveDomains, NamesWhatIsThere, NamesAreThere}
 use Rattle.lt_macros.specs.Denotation.{Numbers, Numbered, behind_term, behind_local, behind_counter, Denotation, expression, trace, as_expression, as_trace, standing_for, before, macro_name, parameter_names, declared_as, first_of, group_names, caught_as, raised_as, repeated, bounds_of, in_locals, in_group, in_groups, caught, exp_denotation, argument_denotation, argument_denotations, braces_denotation, weight_of, alternative_denotation, parts_of, traces_denotation, handler_denotation, meaning_denotation, macro_denotation, trace_denotation}
 
@@ -49,24 +50,46 @@ max_size a b h g = omega (arith, ints, clamps)
 max_over : (a b : ℤ) → a ≤ℤ int_max a b
 max_over a b = omega (arith, ints, clamps)
 
+max_over_second : (a b : ℤ) → b ≤ℤ int_max a b
+max_over_second a b = omega (arith, ints, clamps)
+
 truth_values : IsDomain kind.Bool (from_to (pos 0) (pos 1))
-truth_values = record { some = omega (arith, ints); low = omega arith; high = omega arith; boolean = λ h. (refl, refl) }
+truth_values = record {
+  points = record { some = omega (arith, ints); step = omega (arith, ints) };
+  low = omega arith;
+  high = omega arith;
+  step = omega arith;
+  boolean = λ h. refl;
+}
 
 unranged_domain : (k : Kind) (r : Role) → (k ≡ kind.Bool → ⊥) → IsDomain k (from_to (neg_ℤ (pos (most_unranged r))) (pos (most_unranged r)))
 unranged_domain k r other = record {
-  some = around_zero (most_unranged r);
+  points = record { some = around_zero (most_unranged r); step = omega (arith, ints) };
   low = subst (λ n. n ≤ most_raw) (sym (size_below (most_unranged r))) (unranged_few r);
   high = unranged_few r;
+  step = omega arith;
   boolean = λ h. absurd (other h);
 }
 
-ranged_domain : (k : Kind) (low high : ℤ) → (k ≡ kind.Bool → ⊥) → IsDomain k (from_to (limited low) (int_max (limited low) (limited high)))
-ranged_domain k low high other = record {
-  some = max_over (limited low) (limited high);
-  low = limited_size low;
-  high = max_size (limited low) (limited high) (limited_size low) (limited_size high);
-  boolean = λ h. absurd (other h);
-}
+step_on : (decimals : ℕ) (f : Option Figure) → pos 1 ≤ℤ step_raw decimals f
+step_on decimals None = omega (arith, ints)
+step_on decimals (Some f) = max_over_second (limited (figure_raw decimals f)) (pos 1)
+
+step_few : (decimals : ℕ) (f : Option Figure) → unsigned_abs (step_raw decimals f) ≤ most_raw
+step_few decimals None = omega arith
+step_few decimals (Some f) = max_size (limited (figure_raw decimals f)) (pos 1) (limited_size (figure_raw decimals f)) (omega arith)
+
+ranged_domain : (k : Kind) (decimals : ℕ) (range : WrittenRange) → (k ≡ kind.Bool → ⊥) → IsDomain k (written_points decimals range)
+ranged_domain k decimals range other =
+    let low = figure_raw decimals range.low in
+    let high = figure_raw decimals range.high in
+    record {
+      points = record { some = max_over (limited low) (limited high); step = step_on decimals range.step };
+      low = limited_size low;
+      high = max_size (limited low) (limited high) (limited_size low) (limited_size high);
+      step = step_few decimals range.step;
+      boolean = λ h. absurd (other h);
+    }
 
 int_other : kind.Int ≡ kind.Bool → ⊥
 int_other h = absurd (cc)
@@ -75,12 +98,12 @@ real_other : kind.Real ≡ kind.Bool → ⊥
 real_other h = absurd (cc)
 
 -- a variable has a range that one of its kind may have
-range_domain : (decimals : ℕ) (r : Role) (k : Kind) (range : Option Interval) → IsDomain k (range_of decimals r k range)
+range_domain : (decimals : ℕ) (r : Role) (k : Kind) (range : Option WrittenRange) → IsDomain k (range_of decimals r k range)
 range_domain decimals r kind.Bool range = truth_values
 range_domain decimals r kind.Int None = unranged_domain kind.Int r int_other
-range_domain decimals r kind.Int (Some range) = ranged_domain kind.Int (literal_raw decimals kind.Int range.low) (literal_raw decimals kind.Int range.high) int_other
+range_domain decimals r kind.Int (Some range) = ranged_domain kind.Int 0 range int_other
 range_domain decimals r kind.Real None = unranged_domain kind.Real r real_other
-range_domain decimals r kind.Real (Some range) = ranged_domain kind.Real (literal_raw decimals kind.Real range.low) (literal_raw decimals kind.Real range.high) real_other
+range_domain decimals r kind.Real (Some range) = ranged_domain kind.Real decimals range real_other
 
 -- Constants.
 

@@ -6,7 +6,7 @@ use Rattle.std.specs.declared.option.Option.TheVariants.{None, Some}
 use Rattle.lt_ast.specs.declared.group.TypeName.{TypeName}
 use Rattle.lt_ast.specs.declared.span.Span.{Span}
 use Rattle.lt_ast.specs.Syntax as s
-use Rattle.lt_ast.specs.Syntax.{Word, Interval, Exp, Argument, Arguments, Limits, Braces, Alternative, Alternatives, Trace, Traces, Grouping, Groupings, MaybeExp, MaybeTrace, Parameters, Meaning, Macro}
+use Rattle.lt_ast.specs.Syntax.{Word, WrittenRange, Exp, Argument, Arguments, Limits, Braces, Alternative, Alternatives, Trace, Traces, Grouping, Groupings, MaybeExp, MaybeTrace, Parameters, Meaning, Macro}
 use Rattle.lt_num.specs.declared.kind.Kind.TheVariants as kind
 use Rattle.lt_num.specs.declared.value.Value.TheVariants as value
 use Rattle.lt_formula.specs.declared.role.Role.{Role}
@@ -99,7 +99,7 @@ abbrev pub macro_name : Macro → List ℕ
 macro_name (s.macro w ps kind m) = w.text
 
 -- the variable of a role that a name declares
-abbrev pub declared_as : Role → Environment Denotation → TypeName → Option Interval → Option Placed → Word → Declared
+abbrev pub declared_as : Role → Environment Denotation → TypeName → Option WrittenRange → Option Placed → Word → Declared
 declared_as r env type range first w = record { name = w.text; kind = kind_of type; range = range_of env.decimals r (kind_of type) range; first = first }
 
 -- Traces out of parts.

@@ -9,7 +9,7 @@ use Rattle.lt_ast.specs.declared.expr.UnOp.{UnOp}
 use Rattle.lt_ast.specs.declared.expr.UnOp.TheVariants as u
 use Rattle.lt_ast.specs.declared.expr.BinOp.{BinOp}
 use Rattle.lt_ast.specs.declared.expr.BinOp.TheVariants as b
-use Rattle.lt_ast.specs.Syntax.{Figure, Interval}
+use Rattle.lt_ast.specs.Syntax.{Figure, WrittenRange}
 use Rattle.lt_num.specs.Bounds.{most_raw}
 use Rattle.lt_num.specs.declared.kind.Kind.{Kind}
 use Rattle.lt_num.specs.declared.kind.Kind.TheVariants as kind
@@ -56,7 +56,21 @@ number_at decimals f = constant (kind_of (figure_type f)) (value.Num (capped (li
 
 -- the raw numbers from one to another
 abbrev pub from_to : ℤ → ℤ → Range
-from_to low high = record { low = low; high = high }
+from_to low high = record { low = low; high = high; step = pos 1 }
+
+-- the raw number of a step, of at least 1, where literals have so many decimals; 1 where none is written
+abbrev pub step_raw : ℕ → Option Figure → ℤ
+step_raw decimals None = pos 1
+step_raw decimals (Some f) = int_max (limited (raw_of decimals f)) (pos 1)
+
+-- The points of a written range, where literals have so many decimals. By the rules of types its ends are in order, its step is
+-- at least 1, and all are within the bound, so that these are what is written.
+abbrev pub written_points : ℕ → WrittenRange → Range
+written_points decimals range = record {
+  low = limited (raw_of decimals range.low);
+  high = int_max (limited (raw_of decimals range.low)) (limited (raw_of decimals range.high));
+  step = step_raw decimals range.step;
+}
 
 -- how large in size an output or a local may be that has no range
 abbrev pub most_drawn_raw : ℕ
@@ -68,12 +82,11 @@ most_unranged role.Input = most_raw
 most_unranged role.Output = most_drawn_raw
 most_unranged role.Local = most_drawn_raw
 
--- The raw numbers of a variable's values. By the rules of types both ends of a range are in order and within the bound, so that
--- these are what is written.
-abbrev pub range_of : ℕ → Role → Kind → Option Interval → Range
+-- the raw numbers of a variable's values
+abbrev pub range_of : ℕ → Role → Kind → Option WrittenRange → Range
 range_of decimals r kind.Bool range = from_to (pos 0) (pos 1)
 range_of decimals r k None = from_to (neg_ℤ (pos (most_unranged r))) (pos (most_unranged r))
-range_of decimals r k (Some range) = from_to (limited (literal_raw decimals k range.low)) (int_max (limited (literal_raw decimals k range.low)) (limited (literal_raw decimals k range.high)))
+range_of decimals r k (Some range) = written_points (decimals_of decimals k) range
 
 -- an operator with one operand
 abbrev pub unary_operator : UnOp → UnaryOperator

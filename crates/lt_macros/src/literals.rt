@@ -1,16 +1,15 @@
 //! What literals, types and operators of a text are in a scenario.
 
 ghost use Rattle.std.specs.Prelude.{◌≡◌, ◌≤◌, IfOk, pos, neg_ℤ, if◌then◌else◌};
-ghost use Rattle.std.specs.Int.{int_max};
-ghost use Rattle.lt_ast.specs.View.{figure, interval};
+ghost use Rattle.lt_ast.specs.View.{figure, written_range, written_step};
 ghost use Rattle.lt_num.specs.Bounds.{most_decimals, most_raw};
 ghost use Rattle.lt_types.specs.Literal.{raw_of};
-ghost use Rattle.lt_macros.specs.Literals.{binary_operator as binary_of, capped, decimals_of as kind_decimals, from_to, kind_of as kind_for, limited, most_unranged, number_at as number_for, range_of as range_for, unary_operator as unary_of};
+ghost use Rattle.lt_macros.specs.Literals.{binary_operator as binary_of, capped, decimals_of as kind_decimals, from_to, kind_of as kind_for, limited, most_unranged, number_at as number_for, range_of as range_for, step_raw, unary_operator as unary_of, written_points};
 ghost use Rattle.lt_macros.specs.Placed.{meaningless as nothing_said, unwritten_weight as weight_for};
 ghost use Rattle.lt_macros.specs.Tree.{placed};
 
 use crate::tree::Placed;
-use lt_ast::{BinOp, Literal, Range as Interval, Span, TypeName, UnOp};
+use lt_ast::{BinOp, Literal, Range as WrittenRange, Span, TypeName, UnOp};
 use lt_formula::{BinaryOperator, Memory, Role, UnaryOperator};
 use lt_num::{Kind, Range, Value, read};
 use std::alloc::Global;
@@ -99,34 +98,55 @@ pub(crate) fn range_of(
     decimals: u32,
     role: Role,
     kind: Kind,
-    range: &Option<Interval>,
+    range: &Option<WrittenRange>,
 ) -> Result<Range, Memory>
     requires { decimals ≤ most_decimals }
-    ensures { IfOk result (λ r. r ≡ range_for decimals role kind (interval range.now)) }
+    ensures { IfOk result (λ r. r ≡ range_for decimals role kind (written_range range.now)) }
 {
     match kind {
-        Kind::Bool => Ok(Range { low: 0, high: 1 }),
+        Kind::Bool => Ok(Range {
+            low: 0,
+            high: 1,
+            step: 1,
+        }),
         Kind::Int | Kind::Real => match range {
             None => Ok(unranged(role)),
-            Some(range) => written_range(alloc, decimals_of(decimals, kind), range),
+            Some(range) => read_range(alloc, decimals_of(decimals, kind), range),
         },
     }
 }
 
-// The raw numbers between the ends of a range, with so many decimals: never none.
-fn written_range(alloc: Global, decimals: u32, range: &Interval) -> Result<Range, Memory>
+// The points of a range, with so many decimals: never none.
+fn read_range(alloc: Global, decimals: u32, range: &WrittenRange) -> Result<Range, Memory>
     requires { decimals ≤ most_decimals }
-    ensures { IfOk result (λ r.
-        r ≡ from_to (limited (raw_of decimals (figure range.now.low)))
-        (int_max (limited (raw_of decimals (figure range.now.low)))
-        (limited (raw_of decimals (figure range.now.high))))) }
+    ensures { IfOk result (λ r. r ≡ written_points decimals
+        (record {
+          low = figure range.now.low;
+          high = figure range.now.high;
+          step = written_step range.now.step;
+        })) }
 {
     let low = limited_raw(alloc, decimals, &range.low)?;
     let high = limited_raw(alloc, decimals, &range.high)?;
     Ok(Range {
         low,
         high: low.max(high),
+        step: read_step(alloc, decimals, &range.step)?,
     })
+}
+
+// The raw number of a step, with so many decimals; 1 where none is written.
+fn read_step(alloc: Global, decimals: u32, step: &Option<Literal>) -> Result<i64, Memory>
+    requires { decimals ≤ most_decimals }
+    ensures { IfOk result (λ raw. raw ≡ step_raw decimals (written_step step.now)) }
+{
+    match step {
+        None => Ok(1),
+        Some(step) => {
+            let raw = limited_raw(alloc, decimals, step)?;
+            Ok(raw.max(1))
+        }
+    }
 }
 
 // The raw numbers of a number's values where no range is written.
@@ -137,10 +157,12 @@ fn unranged(role: Role) -> Range
         Role::Input => Range {
             low: -1_000_000_000_000,
             high: 1_000_000_000_000,
+            step: 1,
         },
         Role::Output | Role::Local => Range {
             low: -10_000,
             high: 10_000,
+            step: 1,
         },
     }
 }
@@ -169,7 +191,7 @@ fn capped_raw(alloc: Global, decimals: u32, literal: &Literal) -> Result<i64, Me
     }
 }
 
-// The raw number of the end of a range; where it is past the bound, the nearest one within it.
+// The raw number of an end of a range, or of its step; where it is past the bound, the nearest one within it.
 fn limited_raw(alloc: Global, decimals: u32, end: &Literal) -> Result<i64, Memory>
     requires { decimals ≤ most_decimals }
     ensures { IfOk result (λ raw. raw ≡ limited (raw_of decimals (figure end.now))) }

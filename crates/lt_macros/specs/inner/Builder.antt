@@ -2,7 +2,7 @@
 use Rattle.std.specs.Prelude.{◌≡◌, ◌≤◌, ℕ, IfOk, length}
 use Rattle.std.specs.declared.result.Result.{Result}
 use Rattle.lt_ast.specs.Syntax.{Exp, Trace, Word}
-use Rattle.lt_ast.specs.View.{interval}
+use Rattle.lt_ast.specs.View.{written_range}
 use Rattle.lt_ast.specs.inner.Rows.{maybe_exp}
 use Rattle.lt_ast.specs.declared.group.Group.{Group}
 use Rattle.lt_formula.specs.declared.role.Role.{Role}
@@ -45,7 +45,7 @@ form_denotation b h = form_reads (meant b.decimals) (rows b.scope) h
 
 -- what a name of a group declares there, as a variable of a role
 abbrev pub declares : Role → Environment Denotation → Group → Word → Declared
-declares r env g w = declared_as r env g.kind (interval g.range) (first_of env (maybe_exp g.first)) w
+declares r env g w = declared_as r env g.kind (written_range g.range) (first_of env (maybe_exp g.first)) w
 
 -- The environment is there, and what macros say of their uses is right.
 pub record IsReady (b : Builder) (k : ℕ) : Type 0 where

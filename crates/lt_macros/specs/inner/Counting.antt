@@ -1,7 +1,7 @@
 -- What is still to be counted of a node.
 use Rattle.std.specs.Prelude.{◌≡◌, ◌<◌, ◌≤◌, ℕ, ◌+◌, List, [], ◌∷◌, map, reverse}
 use Rattle.lt_ast.specs.Syntax.{Groupings, Trace, Word}
-use Rattle.lt_ast.specs.View.{interval, trace as trace_view, word}
+use Rattle.lt_ast.specs.View.{written_range, trace as trace_view, word}
 use Rattle.lt_ast.specs.inner.Lists.{alternatives_of, groups_of}
 use Rattle.lt_ast.specs.inner.Rows.{group_of, maybe_exp, part_of}
 use Rattle.lt_ast.specs.declared.group.Group.{Group}
@@ -43,7 +43,7 @@ denotation_at decimals rows k phrase = (meant decimals).phrase (environment (mea
 
 -- what a name of a group declares
 abbrev pub group_declares : Environment Denotation → Group → Word → Declared
-group_declares env g w = declared_as role.Local env g.kind (interval g.range) (first_of env (maybe_exp g.first)) w
+group_declares env g w = declared_as role.Local env g.kind (written_range g.range) (first_of env (maybe_exp g.first)) w
 
 -- a trace with locals of groups
 abbrev pub groups_trace : Groupings → Trace → Environment Denotation → Numbers → Numbered

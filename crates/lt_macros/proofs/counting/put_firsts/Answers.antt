@@ -1,5 +1,5 @@
 use Rattle.std.proofs.Common.{◌≡◌, ◌*◌, ℕ, length, refl, ap, arith}
-use Rattle.lt_ast.specs.View.{interval}
+use Rattle.lt_ast.specs.View.{written_range}
 use Rattle.lt_ast.specs.inner.Rows.{maybe_exp}
 use Rattle.lt_macros.specs.Denotation.{declared_as, first_of}
 use Rattle.lt_macros.specs.inner.Figures.{first_figure}
@@ -19,5 +19,5 @@ returns-clause-figures c =
       arith,
       c.names.invariant.figures decimals rows f n,
       ap (λ (k : ℕ). k * first) passed,
-      firsts_all f (declared_as role env g.kind (interval g.range) (first_of env (maybe_exp g.first))) first names (λ w. refl),
+      firsts_all f (declared_as role env g.kind (written_range g.range) (first_of env (maybe_exp g.first))) first names (λ w. refl),
     )
