@@ -1,11 +1,12 @@
 -- The variables and counters of a scenario, one by one.
 use Rattle.std.proofs.Common.{◌≡◌, ℕ, zero, suc, ◌+◌, ◌<◌, true, List, [], ◌∷◌, ◌++◌, map, length, take, get_or, Option, Some, None, option_map, refl, ap, sym, ◌∙◌, subst, arith, ℤ, pos, negsuc, ◌≤ℤ◌}
-use Rattle.std.specs.Prelude.{int_le, option_and_then, option_to_list}
+use Rattle.std.specs.Prelude.{◌&&◌, ◌-ℤ◌, ◌%◌, IsTrue, int_le, nat_eq, option_and_then, option_to_list, unsigned_abs}
 use Rattle.std.specs.List.{All, flat_map}
 use Rattle.std.specs.Option.{ForSome}
 use Rattle.std.proofs.lemmas.Int.{ints}
 use Rattle.std.proofs.lemmas.List.{get_or-map, length-map, map-append}
 use Rattle.lt_ast.specs.declared.span.Span.{Span}
+use Rattle.lt_num.specs.Range.{is_point}
 use Rattle.lt_num.specs.Value.{raw_of, value_of}
 use Rattle.lt_num.specs.declared.kind.Kind.{Kind}
 use Rattle.lt_num.specs.declared.kind.Kind.TheVariants as kind
@@ -24,7 +25,7 @@ use Rattle.lt_term.specs.SceneView.{turns, variable}
 use Rattle.lt_term.specs.declared.counter.Counter.{Counter}
 use Rattle.lt_term.specs.declared.variable.Var.{Var}
 use Rattle.lt_expand.specs.Scenes.{first_of, locals_of, variable_of}
-use Rattle.lt_expand.specs.Static.{is_in, least_and_most, passes, static_raw}
+use Rattle.lt_expand.specs.Static.{least_and_most, passes, static_raw}
 use Rattle.lt_expand.specs.declared.items.Item as code
 use Rattle.lt_expand.specs.inner.Items.{item, items_view}
 use Rattle.lt_expand.specs.inner.Ready.{IsFine}
@@ -39,34 +40,36 @@ truth_raw (pos (suc zero)) low high = refl
 truth_raw (pos (suc (suc n))) low high = absurd (omega (arith, ints))
 truth_raw (negsuc n) low high = absurd (omega (arith, ints))
 
-between_truths : (range : Range) (z : ℤ) → (range.low ≡ pos 0) × (range.high ≡ pos 1) → range.low ≤ℤ z → z ≤ℤ range.high → raw_of (value_of kind.Bool z) ≡ z
-between_truths range z ends low high = truth_raw z (subst (λ a. a ≤ℤ z) ends.0 low) (subst (λ a. z ≤ℤ a) ends.1 high)
+between_truths : (range : Range) (z : ℤ) → range ≡ record { low = pos 0; high = pos 1; step = pos 1 } → range.low ≤ℤ z → z ≤ℤ range.high → raw_of (value_of kind.Bool z) ≡ z
+between_truths range z truths low high = truth_raw z (subst (λ (r : Range). r.low ≤ℤ z) truths low) (subst (λ (r : Range). z ≤ℤ r.high) truths high)
 
 raw_same : (k : Kind) (range : Range) (z : ℤ) → IsDomain k range → range.low ≤ℤ z → z ≤ℤ range.high → raw_of (value_of k z) ≡ z
 raw_same kind.Bool range z d low high = between_truths range z (d.boolean refl) low high
 raw_same kind.Int range z d low high = refl
 raw_same kind.Real range z d low high = refl
 
-value_fits : (k : Kind) (range : Range) (z : ℤ) → IsDomain k range → is_in range z ≡ true → IsValueOf k range (value_of k z)
+value_fits : (k : Kind) (range : Range) (z : ℤ) → IsDomain k range → is_point range z ≡ true → IsValueOf k range (value_of k z)
 value_fits k range z d h =
-    let low = le_from range.low z (left_of (int_le range.low z) (int_le z range.high) h) in
-    let high = le_from z range.high (right_of (int_le range.low z) (int_le z range.high) h) in
+    let whole = nat_eq (unsigned_abs (z -ℤ range.low) % unsigned_abs range.step) 0 in
+    let under = left_of (int_le z range.high) whole (right_of (int_le range.low z) (int_le z range.high && whole) h) in
+    let low = le_from range.low z (left_of (int_le range.low z) (int_le z range.high && whole) h) in
+    let high = le_from z range.high under in
     let same = raw_same k range z d low high in
     record {
       of_kind = ap (value_of k) same;
-      within = subst (λ a. (range.low ≤ℤ a) × (a ≤ℤ range.high)) (sym same) (low, high);
+      point = subst (λ a. IsTrue (is_point range a)) (sym same) h;
     }
 
 some_is : {X : Type 0} (x y : X) → Some x ≡ Some y → x ≡ y
 some_is x y h = cc
 
-raw_fits : (k : Kind) (range : Range) (raw : Option ℤ) (at : Span) → IsDomain k range → unless (passes (is_in range) raw) at ++ [] ≡ [] → ForSome (option_map (value_of k) raw) (IsValueOf k range)
+raw_fits : (k : Kind) (range : Range) (raw : Option ℤ) (at : Span) → IsDomain k range → unless (passes (is_point range) raw) at ++ [] ≡ [] → ForSome (option_map (value_of k) raw) (IsValueOf k range)
 raw_fits k range None at d h = λ v e. absurd (cc)
 raw_fits k range (Some z) at d h = λ v e.
     subst (IsValueOf k range) (some_is (value_of k z) v e)
-    (value_fits k range z d (unless_none (is_in range z) at (left_none (unless (is_in range z) at) [] h)))
+    (value_fits k range z d (unless_none (is_point range z) at (left_none (unless (is_point range z) at) [] h)))
 
-first_fits : (n : ℕ) (k : Kind) (range : Range) (first : Option Placed) → IsDomain k range → flat_map (λ e. unless (passes (is_in range) (static_raw n e)) (place_of e)) (option_to_list first) ≡ []
+first_fits : (n : ℕ) (k : Kind) (range : Range) (first : Option Placed) → IsDomain k range → flat_map (λ e. unless (passes (is_point range) (static_raw n e)) (place_of e)) (option_to_list first) ≡ []
     → ForSome (option_map (value_of k) (option_and_then (static_raw n) first)) (IsValueOf k range)
 first_fits n k range None d h = λ v e. absurd (cc)
 first_fits n k range (Some e) d h = raw_fits k range (static_raw n e) (place_of e) d h

@@ -6,7 +6,7 @@ use Rattle.std.specs.declared.option.Option.{Option}
 use Rattle.std.specs.declared.option.Option.TheVariants.{None, Some}
 use Rattle.lt_ast.specs.declared.span.Span.{Span}
 use Rattle.lt_num.specs.Value.{raw_of}
-use Rattle.lt_num.specs.declared.range.Range.{Range}
+use Rattle.lt_num.specs.Range.{is_point}
 use Rattle.lt_num.specs.declared.value.Value.{Value}
 use Rattle.lt_formula.specs.Facts.{facts_of}
 use Rattle.lt_formula.specs.Kinds.{Kinds}
@@ -84,13 +84,9 @@ bad_bounds decimals (around average deviation) =
     ++ (unless (passes (λ raw. int_le (pos 0) raw) (static_raw decimals deviation)) (place_of deviation)
     ++ unless (fit_together (turns_of decimals (around average deviation))) (place_of average))
 
--- a raw number is one of a range
-abbrev pub is_in : Range → ℤ → Bool
-is_in range raw = int_le range.low raw && int_le raw range.high
-
--- the place of a variable's first value, where it isn't one of its values
+-- the place of a variable's first value, where it isn't a point of its range
 abbrev pub bad_first : ℕ → Declared → List Span
-bad_first decimals d = flat_map (λ e. unless (passes (is_in d.range) (static_raw decimals e)) (place_of e)) (in_first d)
+bad_first decimals d = flat_map (λ e. unless (passes (is_point d.range) (static_raw decimals e)) (place_of e)) (in_first d)
 
 -- the places of a part's bounds or first value that may not stand there
 abbrev pub bad_at : ℕ → Item → List Span

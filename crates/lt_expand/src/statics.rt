@@ -1,13 +1,14 @@
 //! What bounds and first values are worth, and which of them may not stand where they do.
 
-ghost use Rattle.std.specs.Prelude.{◌≡◌, ◌≤◌, pos, int_le, option_map, true};
+ghost use Rattle.std.specs.Prelude.{◌≡◌, ◌≤◌, ◌-ℤ◌, ◌%◌, pos, int_le, nat_eq, option_map, true, unsigned_abs};
 ghost use Rattle.lt_num.specs.Bounds.{most_decimals};
+ghost use Rattle.lt_num.specs.Range.{is_point};
 ghost use Rattle.lt_formula.specs.Facts.{binary_facts, choice_facts, unary_facts};
 ghost use Rattle.lt_formula.specs.Operators.{and_then, unary_value};
 ghost use Rattle.lt_macros.specs.Expanded as x;
 ghost use Rattle.lt_macros.specs.Failing.{unless};
 ghost use Rattle.lt_formula.specs.Limits.{most_turns};
-ghost use Rattle.lt_expand.specs.Static.{bad_bounds, bad_first, is_in, passes, static_raw, static_value, turns_of};
+ghost use Rattle.lt_expand.specs.Static.{bad_bounds, bad_first, passes, static_raw, static_value, turns_of};
 ghost use Rattle.lt_expand.specs.inner.Firsts.{first};
 ghost use Rattle.lt_macros.specs.Tree.{bounds as bounds_view, declared, placed};
 ghost use Rattle.lt_expand.specs.inner.Worth.{binary_answer, chosen_answer, turns as turns_view, worth};
@@ -206,17 +207,26 @@ fn is_few(raw: Option<i64>) -> bool
     }
 }
 
-// Whether there is a number, and it is one of a range.
-fn is_in(range: Range, raw: Option<i64>) -> bool
-    ensures { result ≡ passes (is_in range) raw }
+// Whether there is a number, and it is a point of a range.
+fn is_point(range: Range, raw: Option<i64>) -> bool
+    ensures { result ≡ passes (is_point range) raw }
 {
     match raw {
-        Some(raw) => range.low <= raw && raw <= range.high,
+        Some(raw) => range.low <= raw && raw <= range.high && is_whole_steps_away(range, raw),
         None => false,
     }
 }
 
-// The place of a variable's first value, where it isn't one of its values.
+// Whether a number is a whole number of steps away from the low end of a range.
+fn is_whole_steps_away(range: Range, raw: i64) -> bool
+    ensures { result ≡
+        nat_eq (unsigned_abs (raw -ℤ range.low) % unsigned_abs range.step) 0 }
+{
+    raw.abs_diff(range.low)
+        .is_multiple_of(range.step.unsigned_abs())
+}
+
+// The place of a variable's first value, where it isn't a point of its range.
 pub(crate) fn bad_first(variable: &Declared, decimals: u32) -> Option<Span>
     requires { decimals ≤ most_decimals }
     ensures { result ≡ first (bad_first decimals (declared variable.now)) }
@@ -224,7 +234,7 @@ pub(crate) fn bad_first(variable: &Declared, decimals: u32) -> Option<Span>
     match &variable.first {
         Some(written) => {
             let raw = static_raw(written, decimals);
-            unless(is_in(variable.range, raw), written.place())
+            unless(is_point(variable.range, raw), written.place())
         }
         None => None,
     }
