@@ -9,15 +9,15 @@ use Rattle.lt_traced.specs.Traced.{ScenarioPrefixesShowTheirRun, ScenarioReplays
 module _ (can : ScenariosAreTraceable) (shows : ScenariosShowTheirInstants) where
   pub scenario_replays_are_the_same : ReplaysAreTheSame State → ScenarioReplaysAreTheSame
   scenario_replays_are_the_same law decimals node text scene budget setup c o e run small ends_so well room =
-      law scenario_rules (plan_of (known_scene scene) setup) setup.limit (started scene setup.seed budget) c o e (can decimals node text scene run.scenario) small run.limit run.served
-      (shows decimals node text scene setup.seed budget setup.limit run.scenario) ends_so well room
+      law scenario_rules (plan_of (known_scene scene) setup) setup.limit (started scene setup.seed budget setup.draw) c o e (can decimals node text scene run.scenario) small run.limit run.served
+      (shows decimals node text scene setup.seed budget setup.draw setup.limit run.scenario) ends_so well room
 
   pub scenario_traces_show_their_run : TracesShowTheirRun State → ScenarioTracesShowTheirRun
   scenario_traces_show_their_run law decimals node text scene budget setup c o e run ends_so =
-      law scenario_rules (plan_of (known_scene scene) setup) setup.limit (started scene setup.seed budget) c o e (can decimals node text scene run.scenario) run.limit run.served
-      (shows decimals node text scene setup.seed budget setup.limit run.scenario) ends_so
+      law scenario_rules (plan_of (known_scene scene) setup) setup.limit (started scene setup.seed budget setup.draw) c o e (can decimals node text scene run.scenario) run.limit run.served
+      (shows decimals node text scene setup.seed budget setup.draw setup.limit run.scenario) ends_so
 
   pub scenario_prefixes_show_their_run : PrefixesShowTheirRun State → ScenarioPrefixesShowTheirRun
   scenario_prefixes_show_their_run law decimals node text scene budget setup c o ps rest run begins unended =
-      law scenario_rules (plan_of (known_scene scene) setup) setup.limit (started scene setup.seed budget) c o ps rest (can decimals node text scene run.scenario) run.limit run.served
-      (shows decimals node text scene setup.seed budget setup.limit run.scenario) begins unended
+      law scenario_rules (plan_of (known_scene scene) setup) setup.limit (started scene setup.seed budget setup.draw) c o ps rest (can decimals node text scene run.scenario) run.limit run.served
+      (shows decimals node text scene setup.seed budget setup.draw setup.limit run.scenario) begins unended

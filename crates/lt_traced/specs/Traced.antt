@@ -1,6 +1,7 @@
 -- What a trace shows of the scenario that wrote it.
 use Rattle.std.specs.Prelude.{◌≡◌, ◌≢◌, ◌<◌, ◌≤◌, ◌+◌, ◌^◌, ℕ, true, List, [], ◌∷◌, length, None, Some, Ok}
 use Rattle.std.specs.declared.option.Option.{Option}
+use Rattle.lt_draw.specs.declared.directions.Draw.{Draw}
 use Rattle.lt_num.specs.Bounds.{most_decimals}
 use Rattle.lt_num.specs.declared.value.Value.{Value}
 use Rattle.lt_rif.specs.Reply.{Stream, longest}
@@ -38,7 +39,7 @@ pub record IsRunOf (decimals : ℕ) (node : Option (List ℕ)) (text : List ℕ)
 
 -- ---- what a scenario's instants give and show
 
--- there is a value for each variable, in turn: of its kind, and with a raw number of its range
+-- there is a value for each variable, in turn: of its kind, and with a point of its range
 abbrev pub AreValuesOf : List Variable → List Value → Type 0
 AreValuesOf [] [] = Unit {0}
 AreValuesOf (v ∷ vs) (x ∷ xs) = IsValueOf v.kind v.range x × AreValuesOf vs xs
@@ -52,21 +53,22 @@ MayBeValuesOf (v ∷ vs) (Some x ∷ xs) = IsValueOf v.kind v.range x × MayBeVa
 MayBeValuesOf vs xs = ⊥
 
 -- Each instant that gives values gives each output one of its own, and where it gives a local a value, that is one of its own
--- too: wherever the run stands, by whatever seed, within whatever budget, and with whatever inputs.
+-- too: wherever the run stands, by whatever seed and rule of drawing, within whatever budget, and with whatever inputs.
 abbrev pub InstantsGiveTheirOwn : Type 0
 InstantsGiveTheirOwn =
-    (decimals : ℕ) (node : Option (List ℕ)) (text : List ℕ) (scene : Scene) (seed budget : ℕ) (c next : Configuration) (inputs outputs : List Value) (locals : List (Option Value)) →
-    IsScenarioOf decimals node text scene → instant_of scene seed budget c inputs ≡ values outputs locals next → AreValuesOf scene.outputs outputs × MayBeValuesOf scene.locals locals
+    (decimals : ℕ) (node : Option (List ℕ)) (text : List ℕ) (scene : Scene) (seed : ℕ) (draw : Draw) (budget : ℕ) (c next : Configuration) (inputs outputs : List Value) (locals : List (Option Value)) →
+    IsScenarioOf decimals node text scene → instant_of scene seed draw budget c inputs ≡ values outputs locals next → AreValuesOf scene.outputs outputs × MayBeValuesOf scene.locals locals
 
 -- The trace of every scenario can be read back.
 abbrev pub ScenariosAreTraceable : Type 0
 ScenariosAreTraceable = (decimals : ℕ) (node : Option (List ℕ)) (text : List ℕ) (scene : Scene) → IsScenarioOf decimals node text scene → IsTraceable (known_scene scene)
 
--- And so can what each instant of its runs shows, by whatever seed, within whatever budget, and with whatever inputs.
+-- And so can what each instant of its runs shows, by whatever seed and rule of drawing, within whatever budget, and with whatever
+-- inputs.
 abbrev pub ScenariosShowTheirInstants : Type 0
 ScenariosShowTheirInstants =
-    (decimals : ℕ) (node : Option (List ℕ)) (text : List ℕ) (scene : Scene) (seed budget limit : ℕ) → IsScenarioOf decimals node text scene →
-    ShowsFor scenario_rules (known_scene scene) limit (started scene seed budget) (first_inputs (known_scene scene))
+    (decimals : ℕ) (node : Option (List ℕ)) (text : List ℕ) (scene : Scene) (seed budget : ℕ) (draw : Draw) (limit : ℕ) → IsScenarioOf decimals node text scene →
+    ShowsFor scenario_rules (known_scene scene) limit (started scene seed budget draw) (first_inputs (known_scene scene))
 
 -- ---- runs that are played again
 
@@ -78,7 +80,7 @@ with_replay setup = record setup { controller = talk.Replay }
 abbrev pub opening_length : Scene → ℕ → Setup → Stream → ℕ
 opening_length scene budget setup c =
     let plan = plan_of (known_scene scene) setup in
-    length (opening_text plan) + length (first_step scenario_rules plan setup.limit (started scene setup.seed budget) c)
+    length (opening_text plan) + length (first_step scenario_rules plan setup.limit (started scene setup.seed budget setup.draw) c)
 
 -- A scenario's run that is played again from its own trace, with the same stream of the oracle, has the same trace and as many
 -- steps, and ends in the same way: where it ended in a way that can be played again, and where its header and its first step
