@@ -1,5 +1,6 @@
 //! Files and sinks: answers with ample memory, which no clause can promise, and those of the real system.
 
+use crate::flaky::FailingWriter;
 use crate::rows::{check, halves, numbers_of};
 use crate::subject::Subject;
 use lt_io::{Calls, DirFiles, Files, MemFiles, MemSink, Sink, StdSink};
@@ -7,28 +8,38 @@ use std::alloc::{AllocError, Global};
 use std::test::Fail;
 use std::{env, fs, process, str};
 
-// The room of a sink in memory and the calls that fail, or a sink over a writer, with what three calls of it answer that
-// offer "abc", what is taken, and how many failed.
+// The room of a sink in memory, its cuts and the calls that fail, or a sink over a writer, with what three calls of it answer
+// that offer "abc", what is taken, and how many failed.
 const SINKS: &str = r#"
-room 9 failing 7 8 ==> Ok(3) Ok(3) Ok(3) "abcabcabc" 0
-room 4 failing 7 8 ==> Ok(3) Ok(1) Err(Failed) "abca" 1
-room 0 failing 7 8 ==> Err(Failed) Err(Failed) Err(Failed) "" 3
-room 9 failing 0 2 ==> Err(Failed) Ok(3) Err(Failed) "abc" 2
+room 9 cuts failing 7 8 ==> Ok(3) Ok(3) Ok(3) "abcabcabc" 0
+room 4 cuts failing 7 8 ==> Ok(3) Ok(1) Err(Failed) "abca" 1
+room 0 cuts failing 7 8 ==> Err(Failed) Err(Failed) Err(Failed) "" 3
+room 9 cuts failing 0 2 ==> Err(Failed) Ok(3) Err(Failed) "abc" 2
+room 9 cuts 2 0 failing 7 ==> Ok(2) Ok(1) Ok(3) "abaabc" 0
+room 9 cuts 5 failing 0 ==> Err(Failed) Ok(3) Ok(3) "abcabc" 1
+room 4 cuts 1 2 failing 1 ==> Ok(1) Err(Failed) Ok(2) "aab" 1
 a writer of 4 ==> Ok(3) Ok(1) Err(Failed) "abca" 1
+a writer that fails at ==> Ok(3) Ok(3) Ok(3) "abcabcabc" 0
+a writer that fails at 1 ==> Ok(3) Err(Failed) Ok(3) "abcabc" 1
+a writer that fails at 0 2 ==> Err(Failed) Ok(3) Err(Failed) "abc" 2
 "#;
 
 /// Puts what a sink answers, what it took, and how many calls failed.
 pub fn put_sink(found: &mut String, alloc: Global, given: &str) -> Result<(), Fail> {
-    match given.strip_prefix("room ") {
-        Some(given) => put_sink_in_memory(found, alloc, given),
+    if let Some(given) = given.strip_prefix("room ") {
+        return put_sink_in_memory(found, alloc, given);
+    }
+    match given.strip_prefix("a writer that fails at") {
+        Some(failing) => put_sink_over_failing(found, alloc, failing),
         None => put_sink_over_writer(found),
     }
 }
 
 fn put_sink_in_memory(found: &mut String, alloc: Global, given: &str) -> Result<(), Fail> {
-    let (room, failing) = halves(given, " failing ")?;
-    let room = room.parse()?;
-    let mut sink = MemSink::make(alloc, room, numbers_of(alloc, failing)?)?;
+    let (holding, failing) = halves(given, " failing ")?;
+    let (room, cuts) = halves(holding, " cuts")?;
+    let cuts = numbers_of(alloc, cuts)?;
+    let mut sink = MemSink::make(alloc, room.parse()?, cuts, numbers_of(alloc, failing)?)?;
     put_offered(found, &mut sink)?;
     put_taken(found, sink.written(), sink.faults())
 }
@@ -40,6 +51,15 @@ fn put_sink_over_writer(found: &mut String) -> Result<(), Fail> {
     let faults = sink.faults;
     drop(sink);
     put_taken(found, &room, faults)
+}
+
+fn put_sink_over_failing(found: &mut String, alloc: Global, failing: &str) -> Result<(), Fail> {
+    let mut sink = StdSink::new(FailingWriter {
+        calls: Calls::new(numbers_of(alloc, failing)?),
+        taken: Vec::new(alloc),
+    });
+    put_offered(found, &mut sink)?;
+    put_taken(found, &sink.writer.taken, sink.faults)
 }
 
 /// Puts a text that was taken, and how many calls failed.
@@ -126,7 +146,7 @@ fn put_read<F: Files>(
 
 #[test]
 fn sinks_and_files_in_memory_fail_where_told(rt: HostRuntime) -> Result<(), Fail> {
-    check(&rt, rt.alloc(), &Subject::Sinks, SINKS, 5)?;
+    check(&rt, rt.alloc(), &Subject::Sinks, SINKS, 11)?;
     check(&rt, rt.alloc(), &Subject::Files, FILES, 1)
 }
 

@@ -10,6 +10,8 @@ mod drawing;
 #[cfg(test)]
 mod files_and_sinks;
 #[cfg(test)]
+mod flaky;
+#[cfg(test)]
 mod formulas;
 #[cfg(test)]
 mod links;

@@ -4,6 +4,7 @@
 //! bytes, or those before the end or a failure, and `and back` after a text as many as it has.
 
 use crate::files_and_sinks::{put_names, put_taken};
+use crate::flaky::{FailingReader, FailingWriter};
 use crate::rows::{bytes_of, check, halves, numbers_of, put_unquoted};
 use crate::subject::Subject;
 use lt_io::{Calls, ChildSpawner, Link, MemSpawner, ScriptLink, Spawner, StdLink};
@@ -12,7 +13,7 @@ use std::str;
 use std::test::Fail;
 
 // Links in memory that give "abcdefg": the most bytes of each piece, the room for what is sent, and the calls that fail, with
-// what comes of each call, what is sent in all, and how many calls failed. The last link is over a reader and a writer.
+// what comes of each call, what is sent in all, and how many calls failed. The last links are over a reader and a writer.
 const LINKS: &str = r#"
 a link in memory gives its pieces
 cuts, room 0, fails: ?, ?, ?, ? ==> "abcd" "efg" "" "" "" 0
@@ -28,13 +29,21 @@ cuts, room 6, fails 0 8: "abc", "abc" ==> Err(Failed) Ok(()) "abc" 1
 
 a link over a reader of "abcdef" and a writer of four bytes counts its faults
 reader and writer: "abc", "de", ?, ?, ? ==> Ok(()) Err(Failed) "abcd" "ef" "" "abcd" 1
+
+so does one whose reader or writer fails in some calls, and it goes on after them
+reader fails, writer fails 0: "abc", "de", ?, ?, ? ==> Err(Failed) Ok(()) "abcd" "ef" "" "de" 1
+reader fails 1, writer fails: "abc", "de", ?, ?, ?, ? ==> Ok(()) Ok(()) "abcd" Failed "ef" "" "abcde" 1
+reader fails 0 2, writer fails 1: "abc", ?, "de", ?, ?, "fg", ? ==> Ok(()) Failed Err(Failed) "abcd" Failed Ok(()) "ef" "abcfg" 3
 "#;
 
 /// Puts what comes of the calls of a link, what is sent in all, and how many calls failed.
 pub fn put_link(found: &mut String, alloc: Global, given: &str) -> Result<(), Fail> {
     let (link, calls) = halves(given, ": ")?;
-    match link.strip_prefix("cuts") {
-        Some(script) => put_script(found, alloc, script, calls),
+    if let Some(script) = link.strip_prefix("cuts") {
+        return put_script(found, alloc, script, calls);
+    }
+    match link.strip_prefix("reader fails") {
+        Some(failing) => put_failing(found, alloc, failing, calls),
         None => put_reader_and_writer(found, alloc, calls),
     }
 }
@@ -63,6 +72,23 @@ fn put_reader_and_writer(found: &mut String, alloc: Global, calls: &str) -> Resu
     let faults = link.faults();
     drop(link);
     put_taken(found, &room, faults)
+}
+
+fn put_failing(found: &mut String, alloc: Global, failing: &str, calls: &str) -> Result<(), Fail> {
+    let (reading, writing) = halves(failing, ", writer fails")?;
+    let reader = FailingReader {
+        calls: Calls::new(numbers_of(alloc, reading)?),
+        left: b"abcdef",
+    };
+    let mut writer = FailingWriter {
+        calls: Calls::new(numbers_of(alloc, writing)?),
+        taken: Vec::new(alloc),
+    };
+    let mut link = StdLink::new(reader, &mut writer);
+    put_calls(found, alloc, &mut link, calls)?;
+    let faults = link.faults();
+    drop(link);
+    put_taken(found, &writer.taken, faults)
 }
 
 // Puts what comes of the calls of a list, with a blank after each.
@@ -200,7 +226,7 @@ fn put_start<S: Spawner>(
 
 #[test]
 fn links_and_spawners_in_memory_do_what_they_are_told(rt: HostRuntime) -> Result<(), Fail> {
-    check(&rt, rt.alloc(), &Subject::Links, LINKS, 9)?;
+    check(&rt, rt.alloc(), &Subject::Links, LINKS, 12)?;
     check(&rt, rt.alloc(), &Subject::Starts, STARTS, 1)
 }
 

@@ -59,10 +59,11 @@ pub fn called<S: Spawner>(
     let mut words = Vec::new(alloc);
     push_words(alloc, &mut words, row)?;
     let mut files = files_of(alloc, row)?;
+    let cuts = numbers_of(alloc, value_of(row, "trace cuts ", ""))?;
     let failing = numbers_of(alloc, value_of(row, "writes fail ", ""))?;
-    let mut trace = MemSink::make(alloc, room, failing)?;
+    let mut trace = MemSink::make(alloc, room, cuts, failing)?;
     let failing = numbers_of(alloc, value_of(row, "says fails ", ""))?;
-    let mut says = MemSink::make(alloc, 1_000, failing)?;
+    let mut says = MemSink::make(alloc, 1_000, Vec::new(alloc), failing)?;
     call_over(alloc, &words, &mut files, programs, &mut trace, &mut says)
 }
 

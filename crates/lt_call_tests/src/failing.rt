@@ -8,7 +8,7 @@ fn files_and_traces_that_fail_end_calls(rt: HostRuntime) -> Result<(), Fail> {
     check_rows(
         &rt,
         "",
-        20,
+        26,
         r#"
 ## files are refused
 f is node n() returns (b: bool) = b fby not b
@@ -65,6 +65,39 @@ writes fail 3
 > #seed 0\n#inputs "b":bool\n#outputs
 > #step 1\nt #outs\n#step 2\nf #outs
 = 9 lurette: device trace 3
+
+## a trace may take its texts in pieces
+$ run f
+f is node n() returns (b: bool) = b fby not b
+> #seed 0\n#inputs "b":bool\n#outputs\n#step 1\nt #outs\n#step 2\nf #outs\n#end normal 2
+
+trace cuts 1 1 1 1 1 1 1 1 1 1 1 1 1 1 1 1 1 1 1 1 1 1 1 1 1 1 1 1 1 1 1 1 1 1 1 1 1 1 1 1 1 1 1 1 1 1 1 1 1 1 1 1 1 1 1 1
+
+trace cuts 0 100 3 0
+
+trace cuts 20
+trace holds 21 to 33
+= 9 lurette: device trace 0
+
+## a write may fail within a text
+$ run f
+f is node n() returns (b: bool) = b fby not b
+
+-- The first line of the header has eight bytes, and so has that of a step.
+trace cuts 8
+writes fail 1
+> #seed 0
+= 9 lurette: device trace 0
+
+trace cuts 100 8
+writes fail 2
+> #seed 0\n#inputs "b":bool\n#outputs\n#step 1
+= 9 lurette: device trace 1
+
+trace cuts 100 100 8
+writes fail 3
+> #seed 0\n#inputs "b":bool\n#outputs\n#step 1\nt #outs\n#step 2
+= 9 lurette: device trace 2
 
 ## a write that fails cuts the printed program
 $ print f

@@ -19,6 +19,7 @@
 //! ends fail 0               the programs that are waited for,
 //! writes fail 0             the texts of the trace that are written, and
 //! says fails 0              the texts of the line that is said
+//! trace cuts 1 3            the most bytes of each piece in which the trace takes its texts. Each piece is a write
 //! trace holds 9             there is room for so many bytes of the trace, and no more of the lines `>` come of the call
 //! trace holds 4 to 9        that is so for each of these numbers
 //! beside plants             the programs are plants, each by its word
@@ -43,7 +44,7 @@ use std::test::Fail;
 
 // What a line may begin with, and what may stand after the name of a program.
 const BEGINNINGS: &str =
-    "## ;$;f is ;t is ;reads fail ;starts fail ;ends fail ;writes fail ;says fails ;trace holds ;beside plants;> ;= ;asks ;files ;is printed";
+    "## ;$;f is ;t is ;reads fail ;starts fail ;ends fail ;writes fail ;says fails ;trace cuts ;trace holds ;beside plants;> ;= ;asks ;files ;is printed";
 
 const OF_PROGRAMS: &str = "says ;cuts ;holds ;fails ;got ";
 

@@ -11,6 +11,8 @@ pub mod Outside
 pub mod Calls
 -- Files in memory: their contents by name, and where a call fails.
 pub mod MemFiles
+-- The pieces in which an object in memory gives or takes bytes.
+pub mod Cuts
 -- A sink in memory: what clauses see of it, and where a call fails.
 pub mod SinkState
 -- Texts that were written or sent in part.

@@ -1,6 +1,7 @@
 -- A link in memory.
-use Rattle.std.specs.Prelude.{ℕ, ◌<◌, ◌⊎◌, List, [], ◌∷◌, Some, length, min, max}
+use Rattle.std.specs.Prelude.{ℕ, ◌<◌, ◌⊎◌, List, Some, length, min}
 use Rattle.lt_io.specs.Calls.{IsNextToFail}
+use Rattle.lt_io.specs.Cuts.{most_of}
 use Rattle.lt_io.specs.Link.{Link, anything}
 use Rattle.lt_io.specs.declared.calls.Calls.{Calls}
 
@@ -20,11 +21,6 @@ pub record ScriptState : Type 0 where
 -- what it tells: everything
 abbrev pub link_of : ScriptState → Link
 link_of link = record { sent = Some link.sent; left = Some link.left; faults = link.calls.faults; fits = anything }
-
--- the most bytes of the next piece, where there is room for so many: those of its cut, which is 1 at least
-abbrev pub most_of : List ℕ → ℕ → ℕ
-most_of [] space = space
-most_of (cut ∷ cuts) space = min (max cut 1) space
 
 -- how many bytes the next piece has, where there is room for so many
 abbrev pub piece_length : ScriptState → ℕ → ℕ

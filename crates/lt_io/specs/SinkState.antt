@@ -10,6 +10,8 @@ pub record SinkState : Type 0 where
   pub written : List ℕ
   -- how many more bytes it takes
   pub room : ℕ
+  -- the most bytes of each piece still to come, in turn
+  pub cuts : List ℕ
   -- the calls of `write`
   pub calls : Calls
 

@@ -12,6 +12,7 @@
 mod asked;
 mod calls;
 mod child;
+mod cuts;
 mod dir_files;
 mod files;
 mod link;

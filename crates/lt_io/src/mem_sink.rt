@@ -1,12 +1,14 @@
 //! A sink in memory.
 
-ghost use Rattle.std.specs.Prelude.{◌≡◌, ◌+◌, ◌-◌, ◌<◌, ◌≤◌, ◌↔◌, [], ◌++◌, Some, min, take, length, vec_len, vec_capacity, IfOk, OnErr, IsErr};
+ghost use Rattle.std.specs.Prelude.{◌≡◌, ◌+◌, ◌-◌, ◌<◌, ◌≤◌, ◌↔◌, [], ◌++◌, Some, min, take, drop, length, vec_len, vec_capacity, IfOk, OnErr, IsErr};
 ghost use Rattle.std.specs.Io.KnownBytes.{WriteAppends};
 ghost use Rattle.lt_io.specs.Calls.{none_made, with_success, with_fault};
 ghost use Rattle.lt_io.specs.Causes.{HasCause};
+ghost use Rattle.lt_io.specs.Cuts.{most_of};
 ghost use Rattle.lt_io.specs.SinkState.{SinkState, Fails, sink_of};
 
 use crate::calls::Calls;
+use crate::cuts::Cuts;
 use crate::memory::Memory;
 use crate::sink::{Failed, Sink};
 use std::alloc::Global;
@@ -17,6 +19,7 @@ use std::marker::Model;
 pub struct MemSink {
     written: Vec<u8>,
     room: usize,
+    cuts: Cuts,
     calls: Calls,
 }
 
@@ -26,6 +29,7 @@ impl Model for MemSink {
     ghost view = { λ s. record {
       written = s.written.items;
       room = s.room;
+      cuts = s.cuts;
       calls = s.calls;
     } };
 
@@ -33,17 +37,30 @@ impl Model for MemSink {
 }
 
 impl MemSink {
-    /// An empty sink with room for `room` bytes, which it reserves. `failing` holds the numbers of
-    /// the calls of `write` that are to fail, where the first call is number 0.
+    /// An empty sink with room for `room` bytes, which it reserves.
+    ///
+    /// `cuts` has the most bytes that each call of `write` takes in turn, where a cut of 0 counts as 1; after the last
+    /// cut a call takes what there is room for. `failing` holds the numbers of the calls that are to fail, where the
+    /// first call is number 0.
     ///
     /// It answers `Memory` where the room could not be reserved.
-    pub fn make(alloc: Global, room: usize, failing: Vec<u64>) -> Result<MemSink, Memory>
-        ensures { IfOk result (λ s.
-            s ≡ record { written = []; room = room; calls = none_made failing }) }
+    pub fn make(
+        alloc: Global,
+        room: usize,
+        cuts: Vec<usize>,
+        failing: Vec<u64>,
+    ) -> Result<MemSink, Memory>
+        ensures { IfOk result (λ s. s ≡ record {
+          written = [];
+          room = room;
+          cuts = cuts.items;
+          calls = none_made failing;
+        }) }
     {
         Ok(MemSink {
             written: Vec::with_capacity(alloc, room)?,
             room,
+            cuts: Cuts::new(cuts),
             calls: Calls::new(failing),
         })
     }
@@ -66,9 +83,9 @@ impl MemSink {
 impl Sink for MemSink {
     ghost state = { λ s. sink_of s };
 
-    /// Takes as much of the piece as there is room for, which falls by as much.
+    /// Takes as much of the piece as its cut and the room let it, which falls by as much.
     ///
-    /// It fails exactly where the call is to fail or no room is left.
+    /// It fails exactly where the call is to fail or no room is left, and then no cut is used.
     fn write(&mut self, bytes: &[u8]) -> Result<usize, Failed>
         requires { 0 < length bytes.now }
         ensures some { IfOk result (λ n. 0 < n) }
@@ -79,10 +96,12 @@ impl Sink for MemSink {
 
         // Beyond the trait: which calls fail, how much the others take, and what each call leaves.
         ensures fails { IsErr result ↔ Fails self.old }
-        ensures count { IfOk result (λ n. n ≡ min self.old.room (length bytes.now)) }
+        ensures count { IfOk result (λ n.
+            n ≡ min (most_of self.old.cuts self.old.room) (length bytes.now)) }
         ensures taken { IfOk result (λ n. self.new ≡ record self.old {
           written = self.old.written ++ take n bytes.now;
           room = self.old.room - n;
+          cuts = drop 1 self.old.cuts;
           calls = with_success self.old.calls;
         }) }
         ensures refused { OnErr result (self.new ≡
@@ -93,7 +112,7 @@ impl Sink for MemSink {
             return Err(Failed);
         }
         self.calls.count_success();
-        let count = self.room.min(bytes.len());
+        let count = self.cuts.next(self.room).min(bytes.len());
         self.written.extend_from_slice(&bytes[..count]).unwrap();
         self.room -= count;
         Ok(count)

@@ -6,9 +6,10 @@ ghost use Rattle.std.specs.Io.KnownBytes.{Appends, Keeps, ReadConsumes};
 ghost use Rattle.lt_io.specs.Calls.{IsNextToFail, none_made, with_success, with_fault};
 ghost use Rattle.lt_io.specs.Causes.{HasCause};
 ghost use Rattle.lt_io.specs.Sending.{AppendsPrefix};
-ghost use Rattle.lt_io.specs.ScriptState.{ScriptState, FailsToSend, link_of, most_of, piece_length};
+ghost use Rattle.lt_io.specs.ScriptState.{ScriptState, FailsToSend, link_of, piece_length};
 
 use crate::calls::Calls;
+use crate::cuts::Cuts;
 use crate::link::Link;
 use crate::memory::Memory;
 use crate::sink::Failed;
@@ -22,9 +23,7 @@ pub struct ScriptLink {
     bytes: Vec<u8>,
     // How many of the bytes were given out.
     given: usize,
-    cuts: Vec<usize>,
-    // How many of the cuts were used.
-    used: usize,
+    cuts: Cuts,
     sent: Vec<u8>,
     room: usize,
     calls: Calls,
@@ -35,13 +34,13 @@ impl Model for ScriptLink {
 
     ghost view = { λ l. record {
       left = drop l.given l.bytes.items;
-      cuts = drop l.used l.cuts.items;
+      cuts = l.cuts;
       sent = l.sent.items;
       room = l.room;
       calls = l.calls;
     } };
 
-    ghost invariant = { λ l. (l.given ≤ vec_len l.bytes) × (l.used ≤ vec_len l.cuts) ×
+    ghost invariant = { λ l. (l.given ≤ vec_len l.bytes) ×
         (vec_len l.sent + l.room ≤ vec_capacity l.sent) };
 }
 
@@ -71,8 +70,7 @@ impl ScriptLink {
         Ok(ScriptLink {
             bytes: left,
             given: 0,
-            cuts,
-            used: 0,
+            cuts: Cuts::new(cuts),
             sent: Vec::with_capacity(alloc, room)?,
             room,
             calls: Calls::new(failing),
@@ -99,20 +97,6 @@ impl ScriptLink {
     {
         self.sent.clear();
         self.calls.restart();
-    }
-
-    // The most bytes of the next piece, in this much space. Its cut is used.
-    #[tactic(auto, using(crate::proofs::Pieces::drop_one_more))]
-    fn next_cut(&mut self, space: usize) -> usize
-        ensures most { result ≡ most_of self.old.cuts space }
-        ensures some { 0 < space → 0 < result }
-        ensures used { self.new ≡ record self.old { cuts = drop 1 self.old.cuts } }
-    {
-        let Some(cut) = self.cuts[self.used..].first().copied() else {
-            return space;
-        };
-        self.used += 1;
-        cut.max(1).min(space)
     }
 }
 
@@ -190,7 +174,7 @@ impl Link for ScriptLink {
             return Err(Failed);
         }
         self.calls.count_success();
-        let most = self.next_cut(into.len());
+        let most = self.cuts.next(into.len());
         let count = most.min(self.bytes.len() - self.given);
         into[..count].copy_from_slice(&self.bytes[self.given..self.given + count]);
         self.given += count;

@@ -134,7 +134,7 @@ fn drive_over<M: Machine>(
 {
     let mut controller = script.controller.link(alloc)?;
     let mut oracle = script.oracle.link(alloc)?;
-    let mut trace = MemSink::make(alloc, script.room, Vec::new(alloc))?;
+    let mut trace = MemSink::make(alloc, script.room, Vec::new(alloc), Vec::new(alloc))?;
     let driven = drive(core, &mut controller, &mut oracle, &mut trace);
     let steps = core.steps();
     shown(alloc, header, driven, steps, &controller, &oracle, &trace)

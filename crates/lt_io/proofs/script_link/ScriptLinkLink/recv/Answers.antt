@@ -7,11 +7,11 @@ use Rattle.lt_io.proofs.script_link.ScriptLinkLink.recv.Goals as goal
 
 pub returns-clause-takes : goal.returns-clause-takes
 returns-clause-takes c =
-    let link = c.self-2.inside in
+    let link = c.self.inside in
     let left = drop link.given link.bytes.items in
     let count = c.min-count.result in
     let is_left : c.args.self.now.left ≡ left = search rules in
     let piece : c.copy_from_slice.new.self ≡ take count left = grind (arith, common_steps) in
-    let shortest : count ≡ min c.next_cut-most.result (length left) = grind (arith, common_steps) in
+    let shortest : count ≡ min c.next-most.result (length left) = grind (arith, common_steps) in
     let after : drop (link.given + count) link.bytes.items ≡ drop count left = sym (drop-drop count link.given link.bytes.items) in
-    rw (is_left, piece, after) (piece_taken left c.args.into.now count (omega (arith, shortest)), λ z _. none_left left c.next_cut-most.result count shortest (c.next_cut-most.ensures.some c.requires) z)
+    rw (is_left, piece, after) (piece_taken left c.args.into.now count (omega (arith, shortest)), λ z _. none_left left c.next-most.result count shortest (c.next-most.ensures.some c.requires) z)
