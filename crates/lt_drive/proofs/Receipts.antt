@@ -22,7 +22,7 @@ use Rattle.lt_drive.specs.declared.progress.Progress.TheVariants as progress
 use Rattle.lt_drive.proofs.Interactions.{both_received, happens_both}
 use Rattle.lt_drive.proofs.LinkReads.{bytes_received, controller_read, end_received, fits_read, kept_received, oracle_read}
 use Rattle.lt_drive.proofs.Telling.{unheard_driven}
-use Rattle.lt_drive.proofs.Unended.{awaited_unended}
+use Rattle.lt_drive.proofs.Unended.{awaited_stops, awaited_unended}
 use Rattle.lt_drive.proofs.Ways.{Leads, behind_both, counts_both, driven_both, way_both}
 
 -- an empty side takes a short piece whole
@@ -94,7 +94,7 @@ module _ {State : Type 0} where
   pub controller_unheard : (s core : CoreState State) (old : Outside Links) (l : Link) (trace : Sink) (d : DriveEnd) → WantsTell s wants.Controller → Keeps old.inputs.controller.left l.left → Keeps old.inputs.controller.sent l.sent → Rose old.inputs.controller.faults l.faults →
       Fails s who.Controller old.trace trace core d → IsDriven (continuation_of s) old (linked l old.inputs.oracle trace) core d
   controller_unheard s core old l trace d waits left kept rose fails =
-      unheard_driven s core old (linked l old.inputs.oracle old.trace) trace who.Controller d (awaited_unended s who.Controller waits)
+      unheard_driven s core old (linked l old.inputs.oracle old.trace) trace who.Controller d (awaited_unended s who.Controller waits) (awaited_stops s who.Controller waits)
       (controller_read old l silent true (kept_received old.inputs.controller.left l.left left) (λ e. absurd (cc e)) kept rose) fails
 
   -- the oracle's link was read at its end, and the core was told
@@ -119,5 +119,5 @@ module _ {State : Type 0} where
   pub oracle_unheard : (s core : CoreState State) (old : Outside Links) (l : Link) (trace : Sink) (d : DriveEnd) → WantsTell s wants.Oracle → Keeps old.inputs.oracle.left l.left → Keeps old.inputs.oracle.sent l.sent → Rose old.inputs.oracle.faults l.faults →
       Fails s who.Oracle old.trace trace core d → IsDriven (continuation_of s) old (linked old.inputs.controller l trace) core d
   oracle_unheard s core old l trace d waits left kept rose fails =
-      unheard_driven s core old (linked old.inputs.controller l old.trace) trace who.Oracle d (awaited_unended s who.Oracle waits)
+      unheard_driven s core old (linked old.inputs.controller l old.trace) trace who.Oracle d (awaited_unended s who.Oracle waits) (awaited_stops s who.Oracle waits)
       (oracle_read old l silent true (kept_received old.inputs.oracle.left l.left left) (λ e. absurd (cc e)) kept rose) fails

@@ -7,7 +7,7 @@ use Rattle.lt_rif.specs.declared.end.Who.{Who}
 use Rattle.lt_rif.specs.declared.end.Who.TheVariants as who
 use Rattle.lt_loop.specs.Event.{Told, listens, play_due, steps_in, taken_of, WantsTell, failed as failed_side}
 use Rattle.lt_loop.specs.Plan.{Plan, closing_text}
-use Rattle.lt_loop.specs.Play.{Piece, destination_of, steps_of}
+use Rattle.lt_loop.specs.Play.{Piece, destination_of, needs_byte, steps_of, stopped}
 use Rattle.lt_loop.specs.Run.{Answer, Answers, FaultsAreCuts, pieces_then, piece_of}
 use Rattle.lt_loop.specs.Side.{Rest, silent}
 use Rattle.lt_loop.specs.CoreState.{PutsOut, CoreState, resume}
@@ -134,13 +134,13 @@ module _ {State : Type 0} where
       broken_off = broken_off_at (destination_of kind) refl
 
   -- nothing could be received of a side
-  pub unheard_driven : (s core : CoreState State) (old mid : Outside Links) (trace : Sink) (w : Who) (d : DriveEnd) → ((c o : Rest) → IsUnended (resume s c o)) → Interaction old mid silence [] (Some w) false →
+  pub unheard_driven : (s core : CoreState State) (old mid : Outside Links) (trace : Sink) (w : Who) (d : DriveEnd) → ((c o : Rest) → IsUnended (resume s c o)) → resume s silent silent ≡ stopped (needs_byte w) → Interaction old mid silence [] (Some w) false →
       Fails s w mid.trace trace core d → IsDriven (continuation_of s) old (record mid { trace = trace }) core d
-  unheard_driven s core old mid trace w d more interaction fails =
+  unheard_driven s core old mid trace w d more stops interaction fails =
       let none : s.written + 1 ≡ s.written + 0 + 1 = omega arith in
       let line : piece piece_kind.EndLine (fault_text s w) ≡ fault_line (continuation_of s) [] w = ap (λ (m : ℕ). piece piece_kind.EndLine (closing_text s.plan (end.Device w) m)) none in
       fault_driven (continuation_of s) old mid trace silence [] w s core d
-      (unheard w [] (λ c o. (play_on (continuation_of s) silence c o, refl, more c o)) (ap (λ (p : Piece). p ∷ []) line)) interaction (refl, omega arith) fails
+      (unheard w [] (λ c o. (play_on (continuation_of s) silence c o, refl, more c o)) stops (ap (λ (p : Piece). p ∷ []) line)) interaction (refl, omega arith) fails
 
   -- a core was told of the fault of a side
   pub fault_told : FaultsAreCuts State → (s new : CoreState State) (w : Who) (a : Answer) → listens s w ≡ true → Answers s (failed_side w) a new →

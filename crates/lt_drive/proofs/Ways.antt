@@ -6,7 +6,7 @@ use Rattle.lt_rif.specs.declared.end.Who.{Who}
 use Rattle.lt_loop.specs.Plan.{Plan, closing_text}
 use Rattle.lt_loop.specs.Play.{Piece, Play, step_count}
 use Rattle.lt_loop.specs.Run.{pieces_then}
-use Rattle.lt_loop.specs.Side.{Rest}
+use Rattle.lt_loop.specs.Side.{Rest, silent}
 use Rattle.lt_loop.specs.CoreState.{CoreState}
 use Rattle.lt_loop.specs.declared.event.PieceKind.TheVariants as piece_kind
 use Rattle.lt_drive.specs.Drive.{Begins, BeginsUnended, Continuation, GivesOut, HasPutOut, IsDriven, calm, ended, failed, fault_line, play_on, failed_step, unheard, unsent, untraced}
@@ -54,7 +54,7 @@ module _ (k rest : Continuation) (r : Received) (ps : List Piece) (leads : Leads
 
   gives_both : (q : Received) (given : List Piece) (fault : Option Who) → GivesOut rest q given fault → GivesOut k (both_received r q) (ps ++ given) fault
   gives_both q given _ (calm begins) = calm (begins_both q given begins)
-  gives_both q given _ (unheard w qs begins is) = unheard w (ps ++ qs) (begins_unended_both q qs begins)
+  gives_both q given _ (unheard w qs begins awaits is) = unheard w (ps ++ qs) (begins_unended_both q qs begins) (way_both q silent silent ∙ ap (pieces_then ps) awaits)
       (ap (λ (t : List Piece). ps ++ t) is ∙ ap (λ (p : Piece). ps ++ (qs ++ p ∷ [])) (line_both qs w) ∙ sym (append_assoc ps qs (fault_line k (ps ++ qs) w ∷ [])))
   gives_both q given _ (unsent w qs kind prefix back goes begins is) = unsent w (ps ++ qs) kind prefix back goes
       (subst (Begins k (both_received r q)) (sym (append_assoc ps qs (piece kind (prefix ++ back) ∷ []))) (begins_both q (qs ++ piece kind (prefix ++ back) ∷ []) begins))

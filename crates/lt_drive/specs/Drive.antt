@@ -6,9 +6,9 @@ use Rattle.lt_rif.specs.declared.end.End.{End}
 use Rattle.lt_rif.specs.declared.end.End.TheVariants as end
 use Rattle.lt_rif.specs.declared.end.Who.{Who}
 use Rattle.lt_loop.specs.Plan.{Plan, closing_text}
-use Rattle.lt_loop.specs.Play.{Piece, Play, destination_of, ends, step_count, stopped}
+use Rattle.lt_loop.specs.Play.{Piece, Play, destination_of, ends, needs_byte, step_count, stopped}
 use Rattle.lt_loop.specs.Run.{pieces_then}
-use Rattle.lt_loop.specs.Side.{Rest}
+use Rattle.lt_loop.specs.Side.{Rest, silent}
 use Rattle.lt_loop.specs.CoreState.{CoreState, resume}
 use Rattle.lt_loop.specs.declared.event.Destination.TheVariants as destination
 use Rattle.lt_loop.specs.declared.event.PieceKind.{PieceKind}
@@ -55,6 +55,10 @@ IsUnended play = (e : End) → play ≢ stopped (ends e)
 abbrev pub BeginsUnended : Continuation → Received → List Piece → Type 0
 BeginsUnended k received ps = (c o : Rest) → (rest : Play) × (play_on k received c o ≡ pieces_then ps rest) × IsUnended rest
 
+-- On what was received the play has these pieces and no further one, and waits for a byte of this side.
+abbrev pub Awaits : Continuation → Received → List Piece → Who → Type 0
+Awaits k received ps w = play_on k received silent silent ≡ record { pieces = ps; stop = needs_byte w }
+
 -- Whatever comes after what was received, the play has these pieces and this end.
 abbrev pub IsWhole : Continuation → Received → List Piece → End → Type 0
 IsWhole k received ps e = (c o : Rest) → play_on k received c o ≡ record { pieces = ps; stop = ends e }
@@ -67,8 +71,8 @@ fault_line k ps w = piece piece_kind.EndLine (closing_text k.plan (end.Device w)
 pub data GivesOut (k : Continuation) (received : Received) (given : List Piece) : Option Who → Type 0 where
   -- no side has failed: they are the first pieces of the play
   calm : Begins k received given → GivesOut k received given None
-  -- nothing could be received of a side: after the first pieces of the play, which isn't over, comes the end line of its fault
-  unheard : (w : Who) (ps : List Piece) → BeginsUnended k received ps → given ≡ ps ++ fault_line k ps w ∷ [] → GivesOut k received given (Some w)
+  -- nothing could be received of a side, for which the play waits: after the pieces up to there comes the end line of its fault
+  unheard : (w : Who) (ps : List Piece) → BeginsUnended k received ps → Awaits k received ps w → given ≡ ps ++ fault_line k ps w ∷ [] → GivesOut k received given (Some w)
   -- a piece of the play could not be sent to its side, but for a prefix: after that comes the end line of its fault
   unsent : (w : Who) (ps : List Piece) (kind : PieceKind) (prefix rest : List ℕ) → destination_of kind ≡ side w →
       Begins k received (ps ++ piece kind (prefix ++ rest) ∷ []) → given ≡ ps ++ piece kind prefix ∷ fault_line k ps w ∷ [] → GivesOut k received given (Some w)
