@@ -1,11 +1,11 @@
 -- What the two sides of a run were sent.
-use Rattle.std.proofs.Common.{◌≡◌, ◌<◌, ℕ, Bool, true, false, List, None, Some, MatchBool, arith, refl, subst, ◌∙◌}
+use Rattle.std.proofs.Common.{◌≡◌, ◌<◌, ◌+◌, ℕ, Bool, true, false, List, None, Some, MatchBool, arith, refl, subst, ◌∙◌}
 use Rattle.std.specs.declared.option.Option.{Option}
 use Rattle.std.specs.Io.KnownBytes.{Appends}
 use Rattle.lt_io.specs.Causes.{Rose, WhereTold}
 use Rattle.lt_rif.specs.declared.end.Who.{Who}
 use Rattle.lt_rif.specs.declared.end.Who.TheVariants as who
-use Rattle.lt_loop.specs.Play.{Piece}
+use Rattle.lt_loop.specs.Play.{Piece, step_count}
 use Rattle.lt_loop.specs.CoreState.{CoreState}
 use Rattle.lt_loop.specs.declared.event.Destination.TheVariants as destination
 use Rattle.lt_drive.specs.Drive as drive
@@ -47,11 +47,11 @@ faulty_by false before now none same = same ∙ none
 
 -- the pieces that were given out in a run that was driven
 given : {State : Type 0} (k : Continuation) (old new : Outside Links) (core : CoreState State) (how : DriveEnd) → IsDriven k old new core how →
-    (received : Received) × (ps : List Piece) × (fault : Option Who) × (trace : Bool) × AreGiven k received ps fault how × Interaction old new received ps fault trace
-given k old new core _ (drive.ended received ps e whole interaction put over) = (received, ps, None, false, sent.whole ps e whole, interaction)
-given k old new core _ (drive.failed received ps w gives interaction put over) = (received, ps, Some w, false, sent.failed ps w gives, interaction)
+    (received : Received) × (ps : List Piece) × (fault : Option Who) × (trace : Bool) × AreGiven k received ps fault how × Interaction old new received ps fault trace × (core.written ≡ k.written + step_count ps)
+given k old new core _ (drive.ended received ps e whole interaction put over) = (received, ps, None, false, sent.whole ps e whole, interaction, put.1)
+given k old new core _ (drive.failed received ps w gives interaction put over) = (received, ps, Some w, false, sent.failed ps w gives, interaction, put.1)
 given k old new core _ (drive.untraced received fault before kind prefix rest gives to some interaction put) =
-    (received, _, fault, true, sent.untraced before fault kind prefix rest gives to some, interaction)
+    (received, _, fault, true, sent.untraced before fault kind prefix rest gives to some, interaction, put.1)
 
 module _ {State : Type 0} (k : Continuation) (controller oracle : InputSource) (old new : Outside Programs) (core : CoreState State) (d : DriveEnd) where
   got_by : (how : SessionEnd) → IsPlayed k controller oracle old new core how → how ≡ session_end.Driven d →
@@ -59,6 +59,7 @@ module _ {State : Type 0} (k : Continuation) (controller oracle : InputSource) (
       × ((x : List ℕ) → Gives controller old.inputs x → IsFirstOf received.controller x) × ((x : List ℕ) → GivesBeside controller oracle old.inputs x → IsFirstOf received.oracle x)
       × Appends old.trace.written new.trace.written (text_to destination.Trace ps)
       × IsFaulty who.Controller fault m × IsFaulty who.Oracle fault n × AreSent controller oracle ps m n old.inputs new.inputs
+      × (core.written ≡ k.written + step_count ps)
   got_by _ (session.driven c c' o o' p q r how opens opened drove closes closed) is =
       let how_is : how ≡ d = cc is in
       let all = given k (linked c o old.trace) (linked c' o' new.trace) core how drove in
@@ -75,6 +76,7 @@ module _ {State : Type 0} (k : Continuation) (controller oracle : InputSource) (
         faulty_by (is_fault_of who.Controller all.2) c.faults c'.faults (faultless controller old.inputs p c opens) (interaction.blames destination.Controller),
         faulty_by (is_fault_of who.Oracle all.2) o.faults o'.faults (faultless oracle p q o opened) (interaction.blames destination.Oracle),
         both_sent controller oracle old.inputs p q r new.inputs c c' o o' all.1 opens opened closes closed (interaction.gives destination.Controller) (interaction.gives destination.Oracle),
+        all.6,
       )
   got_by _ (session.no_controller command why unstarted trace_is) is = absurd (cc is)
   got_by _ (session.no_oracle command l p q why opens unstarted closes trace_is) is = absurd (cc is)

@@ -52,7 +52,7 @@ IsFaulty w fault count = MatchBool (is_fault_of w fault) (0 < count) (count ≡ 
 
 -- However a run ended that was driven, the trace and the two sides got what is for them of the same pieces, which are those
 -- of what was received: of each side, where it is told what comes of it, the first of that, and all of it where its end was
--- received. A side's link has faults exactly where it was this side that failed.
+-- received. A side's link has faults exactly where it was this side that failed. The core counts the steps among the pieces.
 abbrev pub SidesGetTheirPieces : Type 0 → Type 0
 SidesGetTheirPieces State =
     (k : Continuation) (controller oracle : InputSource) (old new : Outside Programs) (core : CoreState State) (how : DriveEnd) → IsPlayed k controller oracle old new core (session_end.Driven how) →
@@ -63,3 +63,4 @@ SidesGetTheirPieces State =
     × Appends old.trace.written new.trace.written (text_to destination.Trace ps)
     × IsFaulty who.Controller fault m × IsFaulty who.Oracle fault n
     × AreSent controller oracle ps m n old.inputs new.inputs
+    × (core.written ≡ k.written + step_count ps)
