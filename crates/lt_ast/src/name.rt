@@ -27,7 +27,7 @@ pub struct Names {
 /// A number where it is written.
 #[derive(Drop)]
 pub struct Literal {
-    /// Whether a minus stands before it. Only the ends of a range have one.
+    /// Whether a minus stands before it. Only the ends of a range and its step have one.
     pub minus: bool,
 
     /// Its digits, and its point if it has one.

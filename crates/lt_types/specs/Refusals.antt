@@ -2,9 +2,9 @@
 -- are none counts. A name that is declared, a name that is used, and each part of a construct come at their places; the
 -- construct's own rules come after its parts, the one with the smaller place first. An `assert` judges its condition's type
 -- after its trace; a weight, a bound, an item and a macro's body are judged right after their own expression; a range by the
--- types of its literals, then their sizes, then the order of its ends, then its step; the number of arguments before their types. A rule that needs the type of
--- an expression is judged only where the expression has one. A list that is named by a rule holds the refusals where the rule
--- is broken.
+-- types of its literals, then their sizes, then the order of its ends, then its step; the number of arguments before their
+-- types. A rule that needs the type of an expression is judged only where the expression has one. A list that is named by a
+-- rule holds the refusals where the rule is broken.
 use Rattle.std.specs.Prelude.{ℕ, nat_le, Bool, true, false, not, ◌&&◌, List, [], ◌∷◌, ◌++◌, unsigned_abs, int_lt, pos, option_map, is_none}
 use Rattle.std.specs.declared.option.Option.{Option}
 use Rattle.std.specs.declared.option.Option.TheVariants.{None, Some}
