@@ -541,6 +541,27 @@ class Outputs(Fault):
             self.check(self.call(*words, stdout=end), 9, "device trace 0", "")
             self.assertEqual((self.got(CONTROLLER), self.got(ORACLE)), ("", ""))
 
+    def test_standard_streams_that_are_closed_beside_sides(self):
+        # What is opened gets the least number that is free: else a side would get the trace.
+        oracle = self.side(ORACLE, GOOD)
+        command = self.side(CONTROLLER, GOOD)
+        words = self.words_beside(CONTROLLER, command, "--oracle", oracle)
+        whole = (0, "", f"{texts(CONTROLLER, 3)}#end limit 3\n")
+        untraced = (9, "device trace 0", "")
+        rows = (
+            ((0,), *whole, 3),
+            ((0, 2), *whole, 3),
+            ((1,), *untraced, 0),
+            ((0, 1), *untraced, 0),
+            ((0, 1, 2), 9, "", "", 0),
+        )
+        for numbers, status, line, output, steps in rows:
+            with self.subTest(numbers=numbers):
+                how = {"preexec_fn": lambda numbers=numbers: close_all(numbers)}
+                self.check(self.call(*words, **how), status, line, output)
+                got = self.got(CONTROLLER), self.got(ORACLE)
+                self.assertEqual(got, ("1\n" * steps, "1 5\n" * steps))
+
     def test_a_trace_whose_reader_goes_away(self):
         # The side answers once the reader has gone, and the step is written after that.
         for role in ROLES:
@@ -600,6 +621,11 @@ class Outputs(Fault):
         self.write("f", self.DEAD)
         ends = {"stdout": self.full_device(), "stderr": self.full_device()}
         self.check(self.call("run", "f", **ends), 9, "", "")
+
+
+def close_all(numbers):
+    for number in numbers:
+        os.close(number)
 
 
 def grow_to(most):

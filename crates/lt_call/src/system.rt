@@ -9,7 +9,7 @@ ghost use Rattle.lt_call.specs.declared.status.Status.{Status};
 use crate::say::say;
 use crate::status::Status;
 use crate::top::lurette;
-use lt_io::{ChildSpawner, DirFiles, Files, Sink, Spawner, StdSink};
+use lt_io::{ChildSpawner, DirFiles, Files, Sink, Spawner, StdSink, hold_descriptors};
 use std::alloc::Global;
 use std::io::{ErrorKind, Write};
 use std::process::{ExitCode, Processes, SystemProcess};
@@ -36,11 +36,12 @@ pub fn program<F: Files, P: Spawner, S: Sink, M: Sink>(
 }
 
 /// Runs the program: hands the system's words, files, programs and standard output to [`program`], with a writer for what it says,
-/// and gives its number to the system.
+/// and gives its number to the system. Before anything is opened, the numbers of standard input, output and error are held.
 pub fn start<
     R: Env + rt::Files + Processes<Started = SystemProcess> + Print + AllocGlobal,
     W: Write + Drop,
 >(rt: &R, standard_error: W) -> ExitCode {
+    hold_descriptors();
     let mut says = StdSink::new(standard_error);
     let words = match words_of(rt) {
         Ok(words) => words,

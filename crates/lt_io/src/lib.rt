@@ -13,6 +13,7 @@ mod asked;
 mod calls;
 mod child;
 mod cuts;
+mod descriptors;
 mod dir_files;
 mod files;
 mod link;
@@ -30,6 +31,7 @@ mod std_sink;
 
 pub use calls::Calls;
 pub use child::{Child, ChildSpawner};
+pub use descriptors::hold_descriptors;
 pub use dir_files::DirFiles;
 pub use files::{FileRefusal, Files};
 pub use link::Link;
