@@ -1,4 +1,5 @@
 pub mod Blames
+pub mod Cuts
 pub mod Dues
 pub mod Ends
 pub mod Gives

@@ -59,7 +59,7 @@ same_contents r told c other tell are =
     ap (λ bytes. record { scenario = bytes; replay = other.replay }) a ∙ ap (λ bytes. record { scenario = c.scenario; replay = bytes }) b
 
 -- the answer that is due to contents that are told is the one that a call gives
-gives_this : ContentsHaveOneDueAnswer → (r : Request) (c : Contents) (told : List ℕ → Option (List ℕ)) (asked names : List (List ℕ)) (old new : Outside Sources) (s : Status) (answer : Answer) → Tell r told c → GivesDue r told asked old new names s → IsDue r c answer → Gives r c answer asked old new names s
+pub gives_this : ContentsHaveOneDueAnswer → (r : Request) (c : Contents) (told : List ℕ → Option (List ℕ)) (asked names : List (List ℕ)) (old new : Outside Sources) (s : Status) (answer : Answer) → Tell r told c → GivesDue r told asked old new names s → IsDue r c answer → Gives r c answer asked old new names s
 gives_this law r c told asked names old new s answer tell gives due =
     let same : gives.0 ≡ c = same_contents r told c gives.0 tell gives.1 in
     let P : Contents → Type 0 = λ d. IsDue r d gives.2 in
@@ -103,7 +103,7 @@ told_otherwise ps end.Limit other = absurd (other refl)
 told_otherwise ps e other = refl
 
 -- and by no text
-kept_appends : (old new : Option (List ℕ)) → Keeps old new → Appends old new []
+pub kept_appends : (old new : Option (List ℕ)) → Keeps old new → Appends old new []
 kept_appends None None h = h
 kept_appends None (Some ys) h = h
 kept_appends (Some xs) None h = h

@@ -13,14 +13,17 @@ use Rattle.lt_loop.specs.Play.{Piece, ends, step_count}
 use Rattle.lt_loop.specs.declared.event.Destination.TheVariants as destination
 use Rattle.lt_rif.specs.declared.end.End.{End}
 use Rattle.lt_rif.specs.declared.end.End.TheVariants as end
+use Rattle.lt_loop.specs.CoreView.{stream_of}
+use Rattle.lt_session.specs.Missed.{IsMissed}
 use Rattle.lt_session.specs.Sent.{AreSent}
+use Rattle.lt_term.specs.Scene.{Scene}
 use Rattle.lt_session.specs.Told.{Gives as Tells, GivesBeside as TellsBeside}
 use Rattle.lt_stress.specs.Report.{stress_line}
 use Rattle.lt_stress.specs.Run.{IsRunOf, sum_told}
 use Rattle.lt_args.specs.Words.{Request}
 use Rattle.lt_call.specs.Call.{GivesDue, IsCounted, blames}
 use Rattle.lt_loop.specs.InputSource.{InputSource, from_trace, with_contents}
-use Rattle.lt_call.specs.Run.{oracle_of, run_of}
+use Rattle.lt_call.specs.Run.{oracle_of, plan_of, run_of}
 use Rattle.lt_call.specs.Due.{Answer, Contents, IsDue, Work, refuses, writes, plays, stresses, has_file}
 use Rattle.lt_call.specs.Given.{PutsNothing}
 use Rattle.lt_call.specs.Lines.{status_lines}
@@ -138,6 +141,15 @@ abbrev pub UndisturbedCallsAreUncut : Type 0
 UndisturbedCallsAreUncut =
     (s : Status) (old new : Outside Sources) → ((what : Device) → IsCounted what (blames s what) (faults_of what old) (faults_of what new)) →
     ((what : Device) → Rose (faults_of what old) (faults_of what new) → ⊥) → s ≢ status.Memory → IsUncut s
+
+-- Where files and sides tell what they have, a call that neither a device nor want of memory cuts short ends by a reply of a
+-- side that is refused, or missing, only where one is, behind whole ones.
+abbrev pub RepliesAreMissedOnlySo : Type 0
+RepliesAreMissedOnlySo =
+    (request : Request) (contents : Contents) (told : List ℕ → Option (List ℕ)) (names asked files : List (List ℕ)) (old new : Outside Sources) (s : Status) (c o : List ℕ) (scene : Scene) (e : End) (at : ℕ) →
+    Tell request told contents → GivesDue request told asked old new names s → IsUncut s → SidesTell request contents old.inputs.programs c o →
+    IsDue request contents (record { work = plays scene; files = files }) → s ≡ status.Ran (record { end = e; at = at }) →
+    IsMissed (plan_of request scene) (stream_of (closed c)) (stream_of (closed o)) e
 
 -- Where memory ran out, nothing was written: it doesn't run out once a run has begun.
 abbrev pub WantOfMemoryWritesNothing : Type 0

@@ -11,5 +11,7 @@ pub mod Given
 pub mod Lines
 -- what follows for whole calls
 pub mod Laws
+-- what follows for calls that a device cut short
+pub mod Cut
 -- words of private contracts
 pub mod inner

@@ -1,10 +1,11 @@
 //! Laws of whole calls. The functions do nothing: their contracts say it.
 
-ghost use Rattle.lt_call.specs.Laws.{ContentsHaveOneDueAnswer, RefusalsAreExact, SameCallSameBytes, UncutCallsAreWhole, UndisturbedCallsAreUncut, WantOfMemoryWritesNothing};
+ghost use Rattle.lt_call.specs.Cut.{CutCallsAreFronts};
+ghost use Rattle.lt_call.specs.Laws.{ContentsHaveOneDueAnswer, RefusalsAreExact, RepliesAreMissedOnlySo, SameCallSameBytes, UncutCallsAreWhole, UndisturbedCallsAreUncut, WantOfMemoryWritesNothing};
 
 use lt_frontend::{texts_have_one_printed_answer, texts_have_one_scenario_answer};
 use lt_play::Player;
-use lt_session::undisturbed_sessions_are_whole;
+use lt_session::{cut_sessions_are_fronts, plays_never_break, undisturbed_sessions_are_whole};
 
 /// One answer is due to a request and the contents of its files.
 pub fn contents_have_one_due_answer()
@@ -20,6 +21,25 @@ pub fn uncut_calls_are_whole()
 {
     contents_have_one_due_answer();
     undisturbed_sessions_are_whole::<Player>();
+}
+
+/// Where files and programs tell what they have, a call that a device cuts short writes nothing before its run, and in it the
+/// first texts of what it would write, up to what cuts it, and the end line of a side's fault.
+pub fn cut_calls_are_fronts()
+    ensures { CutCallsAreFronts }
+{
+    contents_have_one_due_answer();
+    cut_sessions_are_fronts::<Player>();
+    plays_never_break::<Player>();
+}
+
+/// Where files and programs tell what they have, a call that nothing cuts short ends by a reply that is refused, or missing,
+/// only where one is, behind whole ones of that side.
+pub fn replies_are_missed_only_so()
+    ensures { RepliesAreMissedOnlySo }
+{
+    uncut_calls_are_whole();
+    lt_session::replies_are_missed_only_so::<Player>();
 }
 
 /// Two calls that ask for the same of the same contents and of the same streams, and that nothing cuts short, have the
