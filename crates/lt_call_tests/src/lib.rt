@@ -46,4 +46,6 @@ mod rows;
 #[cfg(test)]
 mod sides;
 #[cfg(test)]
+mod steps;
+#[cfg(test)]
 mod stressed;
