@@ -47,6 +47,7 @@ refused_types P (types.EmptyRange at) h = h
 refused_types P (types.RangeTooLarge at) h = h
 refused_types P types.NoNode h = h
 refused_types P types.Memory h = tt
+refused_types P (types.BadStep at) h = h
 
 -- the first of these, or want of memory
 led : (P : Refusal → Type 0) (reason : TypeRefusal) (rs : List TypeRefusal) → ((why : TypeRefusal) (others : List TypeRefusal) → rs ≡ why ∷ others → P (refusal.Types why)) → Leads reason rs → IfRefused (of_types reason) P
