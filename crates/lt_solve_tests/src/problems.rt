@@ -15,14 +15,69 @@ use std::test::Fail;
 
 /// The ranges of the outputs and the locals: a Boolean, an int and a real of each.
 pub(crate) const RANGES: [Range; 6] = [
-    Range { low: 0, high: 1 },
-    Range { low: -2, high: 2 },
-    Range { low: -1, high: 2 },
-    Range { low: 0, high: 1 },
-    Range { low: 0, high: 3 },
+    Range {
+        low: 0,
+        high: 1,
+        step: 1,
+    },
+    Range {
+        low: -2,
+        high: 2,
+        step: 1,
+    },
+    Range {
+        low: -1,
+        high: 2,
+        step: 1,
+    },
+    Range {
+        low: 0,
+        high: 1,
+        step: 1,
+    },
+    Range {
+        low: 0,
+        high: 3,
+        step: 1,
+    },
     Range {
         low: -150,
         high: -148,
+        step: 1,
+    },
+];
+
+/// Such ranges with steps. The last point of the last one, 2, is under its high end.
+pub(crate) const STEPS: [Range; 6] = [
+    Range {
+        low: 0,
+        high: 1,
+        step: 1,
+    },
+    Range {
+        low: 0,
+        high: 10,
+        step: 2,
+    },
+    Range {
+        low: 0,
+        high: 100,
+        step: 25,
+    },
+    Range {
+        low: 0,
+        high: 1,
+        step: 1,
+    },
+    Range {
+        low: 0,
+        high: 9,
+        step: 3,
+    },
+    Range {
+        low: -10,
+        high: 5,
+        step: 4,
     },
 ];
 
@@ -45,16 +100,18 @@ impl Numbers {
         (self.state >> 33) % most
     }
 
-    // Which variables are in scope, and what they begin at, with ample budget.
-    fn question(&mut self) -> Question {
+    // Which variables are in scope, which points of these ranges they begin at, and which go downward, with ample budget.
+    fn question(&mut self, ranges: &[Range; 6]) -> Question {
         let mut question = Question {
             scope: [true; 6],
             targets: [0; 6],
+            down: [false; 6],
             budget: 1_000_000_000_000_000,
         };
         for i in 0..6 {
             question.scope[i] = self.below(8) > 0;
-            question.targets[i] = RANGES[i].low - 1 + self.below(6) as i64;
+            question.targets[i] = point_at(ranges[i], self.below(count_of(ranges[i])));
+            question.down[i] = self.below(2) > 0;
         }
         question
     }
@@ -65,6 +122,9 @@ impl Numbers {
 pub(crate) struct Problem {
     pub(crate) sheet: Sheet,
     pub(crate) question: Question,
+
+    /// Whether the ranges are those with steps.
+    pub(crate) has_steps: bool,
 }
 
 impl Problem {
@@ -73,8 +133,24 @@ impl Problem {
         let mut numbers = Numbers { state: number };
         let mut sheet = Sheet::new(alloc)?;
         put_truths(&mut sheet, &mut numbers)?;
-        let question = numbers.question();
-        Ok(Problem { sheet, question })
+        let has_steps = numbers.below(2) > 0;
+        let question = numbers.question(if has_steps { &STEPS } else { &RANGES });
+        Ok(Problem {
+            sheet,
+            question,
+            has_steps,
+        })
+    }
+
+    // The range of a variable.
+    fn range(&self, variable: usize) -> Range
+        requires { variable < 6 }
+    {
+        if self.has_steps {
+            STEPS[variable]
+        } else {
+            RANGES[variable]
+        }
     }
 
     /// Puts what is to be found, by going through all points, and answers whether there is a solution.
@@ -109,12 +185,13 @@ impl Problem {
         points
     }
 
-    // How many numbers a variable has.
+    // How many points a variable has.
     fn count(&self, variable: usize) -> u64
         requires { variable < 6 }
+        ensures { 1 ≤ result }
     {
         if self.question.scope[variable] {
-            RANGES[variable].high.abs_diff(RANGES[variable].low) + 1
+            count_of(self.range(variable))
         } else {
             1
         }
@@ -127,15 +204,27 @@ impl Problem {
         for k in 0..6 {
             let variable = 5 - k;
             let count = self.count(variable);
-            if count > 0 {
-                if self.question.scope[variable] {
-                    let target = self.question.targets[variable];
-                    point[variable] = nth(RANGES[variable], target, rest % count);
-                }
-                rest /= count;
+            if self.question.scope[variable] {
+                point[variable] = self.nth(variable, rest % count);
             }
+            rest /= count;
         }
         point
+    }
+
+    // The number of a variable with this place in the order from its target on, and then from the start of its direction on.
+    fn nth(&self, variable: usize, place: u64) -> i64
+        requires { variable < 6 }
+    {
+        let range = self.range(variable);
+        let count = count_of(range);
+        let target = steps_between(range.low, self.question.targets[variable], range.step);
+        let steps = if self.question.down[variable] {
+            target.wrapping_add(count).wrapping_sub(place)
+        } else {
+            target.wrapping_add(place)
+        };
+        point_at(range, steps % count)
     }
 
     // Whether all constraints are true at a point.
@@ -169,16 +258,22 @@ impl Problem {
     }
 }
 
-// The number of a range with this place in the order from a target up, and then from the low end up.
-fn nth(range: Range, target: i64, place: u64) -> i64 {
-    let first = range.low.max(target);
-    let behind = range.high.wrapping_sub(first).wrapping_add(1).max(0);
-    let place = i64::try_from(place).unwrap_or(0);
-    if place < behind {
-        first.wrapping_add(place)
-    } else {
-        range.low.wrapping_add(place.wrapping_sub(behind))
-    }
+// How many points a range has.
+fn count_of(range: Range) -> u64
+    ensures { 1 ≤ result }
+{
+    steps_between(range.low, range.high, range.step).saturating_add(1)
+}
+
+// How many whole steps lead from one number to another.
+fn steps_between(low: i64, high: i64, step: i64) -> u64 {
+    high.abs_diff(low) / step.unsigned_abs().max(1)
+}
+
+// The point of a range so many steps over its low end.
+fn point_at(range: Range, steps: u64) -> i64 {
+    let steps = i64::try_from(steps).unwrap_or(0);
+    range.low.wrapping_add(range.step.wrapping_mul(steps))
 }
 
 // Puts three constraints, whose numbers are those that are wanted.

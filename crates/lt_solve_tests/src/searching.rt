@@ -2,19 +2,21 @@
 
 ghost use Rattle.std.specs.Prelude.{◌≡◌, IsTrue, nat_lt};
 ghost use Rattle.std.specs.List.{list_all};
+ghost use Rattle.lt_formula.specs.Solution.{IsPointOf};
 ghost use Rattle.lt_formula.specs.View.{table_len};
-ghost use Rattle.lt_solver.specs.Domains.{are_domains};
+ghost use Rattle.lt_num.specs.Range.{is_point};
+ghost use Rattle.lt_solver.specs.Domains.{are_domains, is_domain};
 
 use crate::rows::halves;
 use crate::sheet::{Sheet, known};
 use lt_formula::Table;
-use lt_num::{Arith, Range};
+use lt_num::{Arith, Range, points_are_those, test_tells_points};
 use lt_solver::{Answer, Workspace};
 use lt_space::Space;
 use std::alloc::Global;
 use std::test::Fail;
 
-/// What is searched for. There are a mark and a target for each output and then for each local.
+/// What is searched for. There are two marks and a target for each output and then for each local.
 #[derive(Clone, Copy)]
 pub(crate) struct Question {
     /// Which variables are in scope.
@@ -23,18 +25,23 @@ pub(crate) struct Question {
     /// The numbers that they begin at.
     pub(crate) targets: [i64; 6],
 
+    /// Which go downward.
+    pub(crate) down: [bool; 6],
+
     /// The budget.
     pub(crate) budget: u64,
 }
 
-/// A question: the variables in scope, where others have a `-`, the targets `from` which it goes, and the budget that it
-/// stays `within`, as `-j--k- from 0 2 0 0 2 0 within 32`.
+/// A question: the variables in scope, where others have a `-`, the targets `from` which it goes, those that go `down`, if
+/// there are any, and the budget that it stays `within`, as `-j--k- from 0 2 0 0 2 0 down -j---- within 32`.
 pub(crate) fn question_of(text: &str) -> Result<Question, Fail> {
     let (marks, rest) = halves(text, " from ");
-    let (targets, budget) = halves(rest, " within ");
+    let (places, budget) = halves(rest, " within ");
+    let (targets, down) = halves(places, " down ");
     let mut question = Question {
-        scope: scope_of(marks),
+        scope: marks_of(marks),
         targets: [0; 6],
+        down: marks_of(down),
         budget: budget.parse()?,
     };
     let mut words = targets.split(' ');
@@ -44,13 +51,13 @@ pub(crate) fn question_of(text: &str) -> Result<Question, Fail> {
     Ok(question)
 }
 
-/// A mark for each variable in scope, where others have a `-`, as `-j--k-`.
-pub(crate) fn scope_of(marks: &str) -> [bool; 6] {
-    let mut scope = [false; 6];
+/// A mark for each variable that has its letter there, where others have a `-`, as `-j--k-`.
+pub(crate) fn marks_of(letters: &str) -> [bool; 6] {
+    let mut marks = [false; 6];
     for i in 0..6 {
-        scope[i] = !matches!(marks.as_bytes().get(i), None | Some(b'-'));
+        marks[i] = !matches!(letters.as_bytes().get(i), None | Some(b'-'));
     }
-    scope
+    marks
 }
 
 /// A space with the constraints that were read, which are loaded where there are any, and the fault if they have one.
@@ -106,9 +113,44 @@ fn put_solution(
     if let Err(fault) = loaded {
         write!(found, "{fault:?}, ")?;
     }
+    if !are_points(ranges, &question.targets) {
+        return Err(Fail::new("a target is no point"));
+    }
     let mut workspace = Workspace::make(alloc, ranges, space.gates())?;
-    let answer = workspace.first_from(space, &question.scope, &question.targets, question.budget);
+    let answer = workspace.first_from(
+        space,
+        &question.scope,
+        &question.targets,
+        &question.down,
+        question.budget,
+    );
     put_answer(found, space, answer, workspace.values())
+}
+
+// Whether each target is a point of its range.
+fn are_points(ranges: &[Range; 6], targets: &[i64; 6]) -> bool
+    requires { IsTrue (are_domains ranges.now) }
+    ensures { IsTrue result → IsPointOf ranges.now targets.now }
+{
+    points_are_those();
+    test_tells_points();
+    for i in 0..6 {
+        if !is_point(ranges[i], targets[i]) {
+            return false;
+        }
+    }
+    true
+}
+
+// Whether a number is a point of a range.
+fn is_point(range: Range, raw: i64) -> bool
+    requires { IsTrue (is_domain range) }
+    ensures { IsTrue result → IsTrue (is_point range raw) }
+{
+    if raw < range.low || range.high < raw {
+        return false;
+    }
+    raw.abs_diff(range.low) % range.step.unsigned_abs() == 0
 }
 
 // Puts which constraints are loaded, at how many decimals, the answer of a search, and the values of a solution, as
