@@ -47,11 +47,23 @@ loop ~3:(@1 div 0@) b ==> BadStatic
 exist u: int [0;3] = 3 in b ==> Accepted
 exist u: int [0;3] = @4@ in b ==> BadStatic
 exist u: int [1;3] = @0@ in b ==> BadStatic
+exist u: int [0;9;3] = 9 in b ==> Accepted
+exist u: int [0;9;3] = @7@ in b ==> BadStatic
+exist u: int [0;8;3] = @8@ in b ==> BadStatic
+exist u: int [0;9;3] = @12@ in b ==> BadStatic
+exist u: int [0;9;3] = @-3@ in b ==> BadStatic
+exist u: int [-4;4;3] = -1 in b ==> Accepted
+exist u: int [-4;4;3] = @0@ in b ==> BadStatic
+exist u: int [2;3;9] = 2 in b ==> Accepted
+exist u: int [2;3;9] = @3@ in b ==> BadStatic
 exist u: int = 10000 in b ==> Accepted
 exist u: int = @10001@ in b ==> BadStatic
 exist u: int = @-10001@ in b ==> BadStatic
 exist u: real [0.00;0.01] = 0.0149 in b ==> Accepted
 exist u: real [0.00;0.01] = @0.015@ in b ==> BadStatic
+exist u: real [0.00;1.00;0.25] = 0.754 in b ==> Accepted
+exist u: real [0.00;1.00;0.25] = @0.755@ in b ==> BadStatic
+exist u: real [0.00;1.00;0.25] = @0.5 + 0.01@ in b ==> BadStatic
 exist u: int = @x@ in b ==> BadStatic
 exist u: int = 1; v: int = @u@ in b ==> BadStatic
 exist u: int = @1 / 0@ in b ==> BadStatic

@@ -1,14 +1,14 @@
 //! Scenarios as text, for rows to be compared with.
 //!
-//! First come the name of the node, its inputs behind `<` and its outputs behind `>`, each with its raw range and its
-//! first value. Behind a colon stands the trace, with its expressions spelled out and with parentheses around all that
+//! First come the name of the node, its inputs behind `<` and its outputs behind `>`, each with its raw range, which has
+//! its step where that isn't 1, and its first value. Behind a colon stands the trace, with its expressions spelled out and with parentheses around all that
 //! is composed. Locals, counters and exceptions follow in the order of their numbers, which count from 0. A real stands
 //! in units of its last decimal: `25u` is 0.25 at two decimals.
 
 use crate::rows::halves;
 use Piece::{Alternatives, Expression, Nothing, Number, Raw, Trace, Word};
 use lt_formula::{BinaryOperator, Role, Shape, UnaryOperator};
-use lt_num::{Kind, Value};
+use lt_num::{Kind, Range, Value};
 use lt_term::{Scenario, Term, Var};
 use std::alloc::{AllocError, Global};
 
@@ -70,14 +70,24 @@ fn put_variables(out: &mut String, before: &str, variables: &[Var]) -> Result<()
 // A variable, with its raw range and its first value, where it has one.
 fn put_variable(out: &mut String, variable: &Var) -> Result<(), AllocError> {
     let kind = kind_word(variable.kind);
-    let (low, high) = (variable.range.low, variable.range.high);
-    write!(out, "{}: {kind} [{low};{high}]", variable.name)?;
+    write!(out, "{}: {kind} ", variable.name)?;
+    put_range(out, variable.range)?;
     match variable.first {
         Some(first) => {
             out.push_str(" = ")?;
             put_value(out, variable.kind, first)
         }
         None => Ok(()),
+    }
+}
+
+// A range, with its step where that isn't 1.
+fn put_range(out: &mut String, range: Range) -> Result<(), AllocError> {
+    let (low, high, step) = (range.low, range.high, range.step);
+    if step == 1 {
+        write!(out, "[{low};{high}]")
+    } else {
+        write!(out, "[{low};{high};{step}]")
     }
 }
 

@@ -12,6 +12,8 @@ node n() returns (i: int; r: real) = true ==> n > i: int [-10000;10000] > r: rea
 node n(a: bool; i: int; r: real) returns () = true ==> n < a: bool [0;1] < i: int [-1000000000000;1000000000000] < r: real [-1000000000000;1000000000000]: true
 node n(i: int [5;9] = 7) returns (r: real [-0.5;1.005] = 0.25) = true ==> n < i: int [5;9] = 7 > r: real [-50;101] = 25u: true
 node n(a, b: bool = true) returns (x, y: int [0;3] = 1 + 1) = true ==> n < a: bool [0;1] = true < b: bool [0;1] = true > x: int [0;3] = 2 > y: int [0;3] = 2: true
+node n(i: int) returns (x: int [0;9;3] = 6; y, z: real [-1.0;0.99;0.25]; b: bool) = true ==> n < i: int [-1000000000000;1000000000000] > x: int [0;9;3] = 6 > y: real [-100;99;25] > z: real [-100;99;25] > b: bool [0;1]: true
+node n() returns (x: int [0;9;1]; r: real [0.0;1.0;0.005]) = exist u: int [0;3;9] = 0 in true ==> n > x: int [0;9] > r: real [0;100]: (exist 0 in true); u.1: int [0;3;9] = 0
 let k: int = 4 node n(i: int = k) returns (j: int = -k) = true ==> n < i: int [-1000000000000;1000000000000] = 4 > j: int [-10000;10000] = -4: true
 node n() returns (r: real [-1.0;0.0] = -0.005) = true ==> n > r: real [-100;0] = -1u: true
 let i: int = 3 node n(i: int) returns (j: int [0;9] = 1 + 2; b: bool = 1 < 2) = true ==> n < i: int [-1000000000000;1000000000000] > j: int [0;9] = 3 > b: bool [0;1] = true: true";

@@ -13,6 +13,13 @@ node n() returns () = true node @n@() returns () = u ==> Twice
 ## inputs, outputs, the trace
 node n(a: bool = @u@) returns (c: int = v) = w ==> Unknown
 node n(a: bool) returns (c: int = @a@) = w ==> Mismatch
+## an input's range, its first value, that it has a step, its first value's type
+node n(i: int [0; 9; @3.0@]) returns () = true ==> Mismatch
+node n(i: int [0; 9; @1000000000001@]) returns () = true ==> RangeTooLarge
+node n(i: int [@9@; 0; 3]) returns () = true ==> EmptyRange
+node n(i: int [0; 9; @0@]) returns () = true ==> BadStep
+node n(i: int [0; 9; 3] = @u@) returns () = true ==> Unknown
+node n(@i@: int [0; 9; 3] = 1.0) returns () = true ==> Mismatch
 ## that there is no node comes last
 exception e let m: bool = @u@ ==> Unknown";
 
@@ -36,13 +43,21 @@ loop [@1.0@, u] b ==> Mismatch
 @1@ fby u ==> Mismatch
 let m: bool = @1@ in u ==> Mismatch
 catch @e@ in u ==> Unknown
-## the types of a range's ends, their sizes, their order
+## the types of a range's literals, their sizes, the order of its ends, its step
 exist i: int [1000000000001; @0.0@] in b ==> Mismatch
 exist i: int [@1000000000002@; 1000000000001] in b ==> RangeTooLarge
 exist i: int [2; @-1000000000001@] in b ==> RangeTooLarge
+exist i: int [1000000000001; 0; @0.0@] in b ==> Mismatch
+exist i: int [1000000000001; @0.0@; 0.0] in b ==> Mismatch
+exist i: int [@1000000000001@; 0; -1000000000001] in b ==> RangeTooLarge
+exist i: int [2; @1000000000001@; 1000000000001] in b ==> RangeTooLarge
+exist i: int [2; 0; @-1000000000001@] in b ==> RangeTooLarge
+exist i: int [@2@; 0; 0] in b ==> EmptyRange
+exist i: int [@2@; 0; -1] in b ==> EmptyRange
 ## a group's names, its range, its first value, what it may not have, its first value's type
 exist u, @u@: int [3; 2] in b ==> Twice
 exist i: int [@3@; 2] = u in b ==> EmptyRange
+exist i: int [2; 3; @0@] = u in b ==> BadStep
 let m(i: int [@3@; 2]): bool = b in b ==> EmptyRange
 exist t: trace = @u@ in b ==> Unknown
 exist @u@: bool [3; 2] = 1 in b ==> Mismatch

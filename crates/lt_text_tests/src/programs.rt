@@ -8,6 +8,7 @@ const PROGRAMS: &str = "\
 ## a program is printed with a blank between two tokens
  ==>␠
 let m(x: real; t: trace): trace = exist u: int[-1;2] = 0 in t ==> let m ( x : real ; t : trace ) : trace = exist u : int [ - 1 ; 2 ] = 0 in t␊
+node n() returns (x: int[0;9;3]; r: real [-1.0;1.0;-0.25] = 0.5) = b ==> node n ( ) returns ( x : int [ 0 ; 9 ; 3 ] ; r : real [ - 1.0 ; 1.0 ; - 0.25 ] = 0.5 ) = b␊
 node n() returns (b: bool) = a fby {|2:a|{b|>c}} -- the end␊exception e,f ==> node n ( ) returns ( b : bool ) = a fby { | 2 : a | { b |> c } }␊exception e , f␊
 node n() returns (b: bool) = try catch e in raise e do loop ~1:2 (a=>not b=not c) ==> node n ( ) returns ( b : bool ) = try catch e in raise e do loop ~ 1 : 2 ( a => not b = not c )␊
 node n() returns (b: bool) = try try a do b do c ==> node n ( ) returns ( b : bool ) = try try a do b do c␊

@@ -15,26 +15,42 @@ const ROUGH: &str = "\
 @0.5@; 0.4]) = true ==> EmptyRange
 -0.4; -0.49]) = true ==> Accepted
 0.0; 1000000000000.4]) = true ==> Accepted
-0.0; @1000000000000.5@]) = true ==> RangeTooLarge";
+0.0; @1000000000000.5@]) = true ==> RangeTooLarge
+0.0; 1.0; 0.5]) = true ==> Accepted
+0.0; 1.0; @0.4@]) = true ==> BadStep";
 
 // Ranges of reals with two decimals.
 const HUNDREDTHS: &str = "\
 @0.4@; 0.0]) = true ==> EmptyRange
 0.004; 0.0]) = true ==> Accepted
 0.0; 10000000000.004]) = true ==> Accepted
-0.0; @10000000000.005@]) = true ==> RangeTooLarge";
+0.0; @10000000000.005@]) = true ==> RangeTooLarge
+0.0; 1.0; 0.005]) = true ==> Accepted
+0.0; 1.0; @0.004@]) = true ==> BadStep
+0.0; 1.0; @-0.25@]) = true ==> BadStep
+0.0; 1.0; 5.0]) = true ==> Accepted
+0.0; 1.0; 10000000000.004]) = true ==> Accepted
+0.0; 1.0; @10000000000.005@]) = true ==> RangeTooLarge";
 
 // Ranges of reals with six decimals.
 const FINE: &str = "\
 @0.004@; 0.0]) = true ==> EmptyRange
 0.0000004; 0.0]) = true ==> Accepted
 -1000000.0000004; 0.0]) = true ==> Accepted
-@-1000000.0000005@; 0.0]) = true ==> RangeTooLarge";
+@-1000000.0000005@; 0.0]) = true ==> RangeTooLarge
+0.0; 1.0; 0.0000005]) = true ==> Accepted
+0.0; 1.0; @0.0000004@]) = true ==> BadStep";
 
 // Ranges of ints, which have no decimals.
 const WHOLE: &str = "\
 0; 1000000000000]) = true ==> Accepted
-0; @1000000000001@]) = true ==> RangeTooLarge";
+0; @1000000000001@]) = true ==> RangeTooLarge
+0; 3; 1]) = true ==> Accepted
+0; 3; @0@]) = true ==> BadStep
+0; 3; @-1@]) = true ==> BadStep
+0; 3; 1000000000000]) = true ==> Accepted
+0; 3; @1000000000001@]) = true ==> RangeTooLarge
+0; 3; @-1000000000001@]) = true ==> RangeTooLarge";
 
 #[test]
 fn ranges_are_judged_as_rounded(rt: HostRuntime) -> Result<(), Fail> {

@@ -33,6 +33,9 @@ node n() returns (b: bool) = { b : b } ==> Unexpected(33)
 node n() returns (b: bool) = a < b < c ==> Unexpected(35)
 node n() returns (b: bool) = loop ~3 b ==> Unexpected(37)
 let m: bool = a fby b ==> Unexpected(16)
+node n() returns (x: int [0;9;]) = b ==> Unexpected(30)
+node n() returns (x: int [0;9;3;1]) = b ==> Unexpected(31)
+node n() returns (x: int [0]) = b ==> Unexpected(27)
 try a do b do c ==> Unexpected(0)
 node n() returns (b: bool) = try a do b do c ==> Unexpected(40)";
 

@@ -21,6 +21,8 @@ exist i: int [0; 1000000000000] in b ==> Accepted
 exist i: int [0; @1000000000001@] in b ==> RangeTooLarge
 exist i: int [3; 3] in b ==> Accepted
 exist i: int [@3@; 2] in b ==> EmptyRange
+exist i: int [0; 3; 1] in b ==> Accepted
+exist i: int [0; 3; @0@] in b ==> BadStep
 ## operators, each in turn
 not b and b ==> Accepted
 @not 1@ ==> Mismatch
@@ -92,8 +94,13 @@ let m(@x@: int = 1): bool = b in b ==> Mismatch
 exist x: real [0.0; 1.0] in b ==> Accepted
 exist x: real [@0@; 1] in b ==> Mismatch
 exist i: int [0; @1.0@] in b ==> Mismatch
+exist i: int [0; 9; @3.0@] in b ==> Mismatch
+exist x: real [0.0; 1.0; @1@] in b ==> Mismatch
 exist @u@, v: bool [0; 1] in b ==> Mismatch
+exist @u@, v: bool [1.0; 0; 0] in b ==> Mismatch
+exist @t@: trace [1.0; 0; 0] in b ==> Mismatch
 let m(@i@: int [0; 1]): bool = b in b ==> Mismatch
+let m(@i@: int [0; 1; 1]): bool = b in b ==> Mismatch
 let m(x: int ref): bool = b in b ==> Accepted
 exist @t@: trace in b ==> Mismatch
 exist @u@: bool ref in b ==> Mismatch
@@ -113,6 +120,13 @@ let l(y: bool): bool = m(@y@) in l(b) ==> Mismatch
 let l: bool = b in m(@l@) ==> Mismatch
 let l: bool = b in m(@l@()) ==> Mismatch";
 
+// Nodes whose inputs and outputs have steps.
+const STEPS: &str = "\
+node n(i: int [0; 9]) returns (j: int [0; 9; 3]; r: real [0.0; 1.0; 0.25]) = true ==> Accepted
+node n() returns (x: int [0;3;@0@]) = true ==> BadStep
+node n(@i@, j: int [0; 9; 3]) returns () = true ==> Mismatch
+node n(a: bool; @r@: real [0.0; 1.0; 0.25]) returns () = true ==> Mismatch";
+
 // Texts with and without a node.
 const NODES: &str = "\
 node n() returns (b: bool) = b ==> Accepted
@@ -124,6 +138,7 @@ let m: bool = true ==> NoNode
 fn each_rule_accepts_and_refuses(rt: HostRuntime) -> Result<(), Fail> {
     check(&rt, rt.alloc(), Asked::Types, NODE, TRACES)?;
     check(&rt, rt.alloc(), Asked::Types, NODE_WITH_REF, REFERENCES)?;
+    check(&rt, rt.alloc(), Asked::Types, "", STEPS)?;
     check(&rt, rt.alloc(), Asked::Types, "", NODES)
 }
 
