@@ -5,12 +5,13 @@ rules of docs/LANGUAGE.md alone: what a trace offers in one instant, which leaf 
 values are the first solution. It is slow and short. A scenario is a value here and no text, and its
 numbers are raw numbers.
 
-    python3 scripts/apart.py thermostat     prints the trace of examples/thermostat.lut
-    python3 scripts/apart.py drafty         prints that of examples/drafty.lut
+    python3 scripts/apart.py thermostat [--draw N]     prints the trace of examples/thermostat.lut
+    python3 scripts/apart.py drafty [--draw N]         prints that of examples/drafty.lut
 
-Beside both stands the thermostat.
+Beside both stands the thermostat. N is the rule of drawing, 1 or 2, and 1 where it isn't given.
 """
 
+import argparse
 import functools
 import itertools
 import sys
@@ -20,6 +21,7 @@ from collections import namedtuple
 
 SLOTS = 1 << 24
 VARIABLES = 1 << 23
+DIRECTIONS = VARIABLES + 128
 
 MASK_32, MASK_64, MASK_128 = ((1 << bits) - 1 for bits in (32, 64, 128))
 MULTIPLIER = 0x2360ED051FC65DA44385DF649FCCF645
@@ -89,14 +91,26 @@ Catch = namedtuple("Catch", "name body instead")
 
 OVER = "over"
 
-# A variable: its name, the ends of its range, its first value or None, and the kind of its values.
-Variable = namedtuple("Variable", "name low high first kind", defaults=(None, "int"))
+# A variable: its name, the ends of its range, its first value or None, the kind of its values, and
+# the step of its range.
+Variable = namedtuple("Variable", "name low high first kind step", defaults=(None, "int", 1))
 
 Scenario = namedtuple("Scenario", "inputs outputs locals body")
 
 
 def boolean(name):
     return Variable(name, 0, 1, None, "bool")
+
+
+def points_of(variable):
+    """The values that a variable may have, which are the points of its range."""
+    return range(variable.low, variable.high + 1, variable.step)
+
+
+def order_from(target, points, is_down=False):
+    """The points in the order in which they are tried, as two ranges: the target comes first."""
+    at = points.index(target)
+    return (points[at::-1], points[:at:-1]) if is_down else (points[at:], points[:at])
 
 
 # -- What a trace offers in one instant ------------------------------------------------------------
@@ -233,6 +247,9 @@ OFFERED = {
 
 # -- One instant -----------------------------------------------------------------------------------
 
+# What a run is drawn by: its seed, and the rule of drawing, which is 1 or 2.
+Draws = namedtuple("Draws", "seed rule", defaults=(0, 1))
+
 
 class Stopped(Exception):
     """That a run ends at a leaf, by a fault or since a search is over the budget: how it ends."""
@@ -241,8 +258,8 @@ class Stopped(Exception):
 class Instance:
     """One instant of a run: what is known in it, and the words that decide it."""
 
-    def __init__(self, scenario, seed, step, known, last):
-        self.scenario, self.seed, self.step = scenario, seed, step
+    def __init__(self, scenario, draws, step, known, last):
+        self.scenario, self.draws, self.step = scenario, draws, step
         self.known, self.last = known, last
         # What was found of groups of variables, which many leaves of a tree have in common.
         self.found = {}
@@ -283,14 +300,13 @@ class Instance:
             later = {it.name for _, it in numbered[at + 1 :]}
             due = [it for it in constraints if variable.name in it.names and not later & it.names]
             asked = [it.holds for it in due]
-            levels.append((variable.name, self.target(number, variable), variable, asked))
+            levels.append((variable.name, self.order(number, variable), asked))
 
         def search(at):
             if at == len(levels):
                 return True
-            name, target, variable, asked = levels[at]
-            upwards, then_low = range(target, variable.high + 1), range(variable.low, target)
-            for value in itertools.chain(upwards, then_low):
+            name, order, asked = levels[at]
+            for value in itertools.chain(*order):
                 values[name] = value
                 if all(holds(values.__getitem__) for holds in asked) and search(at + 1):
                     return True
@@ -299,10 +315,18 @@ class Instance:
         without = all(it.holds(values.__getitem__) for it in constraints if not it.names)
         return {it.name: values[it.name] for _, it in numbered} if without and search(0) else None
 
-    def target(self, number, variable):
-        """The value of a variable from which on values are tried."""
-        count = variable.high - variable.low + 1
-        return variable.low + word(self.seed, self.step, VARIABLES + number) % count
+    def order(self, number, variable):
+        """The points of a variable in the order in which they are tried: from its target on."""
+        points = points_of(variable)
+        target = points[self.word(VARIABLES + number) % len(points)]
+        return order_from(target, points, self.goes_down(number))
+
+    def goes_down(self, number):
+        """Whether a variable goes downward from its target: the second rule draws that."""
+        return self.draws.rule == 2 and self.word(DIRECTIONS + number) % 2 == 1
+
+    def word(self, slot):
+        return word(self.draws.seed, self.step, slot)
 
     def drawn(self, tree):
         """The leaf that is drawn, and the values of its instant; None where there is none."""
@@ -331,7 +355,7 @@ class Instance:
         """The parts of a choice in the order in which they are drawn, by their weights."""
         attempt = 0
         while sum(weights):
-            rest = word(self.seed, self.step, 64 * place + attempt) % sum(weights)
+            rest = self.word(64 * place + attempt) % sum(weights)
             sums = itertools.accumulate(weights)
             at = next(at for at, so_far in enumerate(sums) if so_far > rest)
             yield at
@@ -370,7 +394,7 @@ def start_of(variable):
 Step = namedtuple("Step", "told answers locals")
 
 
-def steps_of(scenario, controller, limit, seed=0, instance=Instance):
+def steps_of(scenario, controller, limit, draws=Draws(), instance=Instance):
     """The steps of a run, each as its values in turn, and how the run ends."""
     known = {it.name: start_of(it) for it in scenario.inputs}
     declared = [*scenario.inputs, *scenario.outputs]
@@ -378,7 +402,7 @@ def steps_of(scenario, controller, limit, seed=0, instance=Instance):
     term, steps = scenario.body, []
     while len(steps) < limit:
         number = len(steps) + 1
-        at_hand = instance(scenario, seed, number, known, last)
+        at_hand = instance(scenario, draws, number, known, last)
         try:
             leaf, values = at_hand.drawn(offers(term))
         except Stopped as stopped:
@@ -418,10 +442,10 @@ def declared_words(variables):
     return [f'"{it.name}":{it.kind}' for it in variables]
 
 
-def lines_of(scenario, steps, end, seed=0, decimals=2, has_locals=False):
+def lines_of(scenario, steps, end, draws=Draws(), decimals=2, has_locals=False):
     """The lines of the trace of a run that made these steps and ended so."""
     named = [it._replace(name=f"{it.name}.{at}") for at, it in enumerate(scenario.locals, 1)]
-    header = [f"#seed {seed}"]
+    header = [f"#seed {draws.seed}"] + ["#draw 2"] * (draws.rule == 2)
     header.append(" ".join(["#inputs", *declared_words(scenario.outputs)]))
     header.append(" ".join(["#outputs", *declared_words(scenario.inputs)]))
     lines = header + [" ".join(["#locals", *declared_words(named)])] * has_locals
@@ -434,9 +458,9 @@ def lines_of(scenario, steps, end, seed=0, decimals=2, has_locals=False):
     return [*lines, f"#end {end}"]
 
 
-def trace_of(scenario, controller, limit, seed=0):
+def trace_of(scenario, controller, limit, draws=Draws()):
     """The lines of the trace of a run."""
-    return lines_of(scenario, *steps_of(scenario, controller, limit, seed), seed)
+    return lines_of(scenario, *steps_of(scenario, controller, limit, draws), draws)
 
 
 # -- The scenarios of examples/ that tests compare -------------------------------------------------
@@ -493,6 +517,12 @@ def room():
     body = Exist(gust, Exist(sun, Assert(near, Assert(shines, Assert(moves, Both(door, jammed))))))
     outputs = [Variable("temp", -5000, 8000, 1800, "real"), boolean("door")]
     return Scenario([boolean("heat")], outputs, [gust, sun], body)
+
+
+def dial():
+    """examples/dial.lut"""
+    turns = lambda value: abs(value("wanted") - value("pre wanted")) <= 100
+    return of_one(Variable("wanted", 500, 3000, 2000, "real", 25), Loop(where("wanted", turns)))
 
 
 def stepping(name, *steps):
@@ -553,11 +583,12 @@ SCENARIOS = {"drafty": (drafty, 100), "thermostat": (room, 200)}
 
 
 def main(words):
-    if len(words) != 1 or words[0] not in SCENARIOS:
-        print(f"apart: one word of {', '.join(SCENARIOS)}", file=sys.stderr)
-        return 2
-    scenario, limit = SCENARIOS[words[0]]
-    print("\n".join(trace_of(scenario(), thermostat(), limit)))
+    parser = argparse.ArgumentParser(prog="apart.py")
+    parser.add_argument("scenario", choices=SCENARIOS)
+    parser.add_argument("--draw", type=int, choices=(1, 2), default=1)
+    given = parser.parse_args(words)
+    scenario, limit = SCENARIOS[given.scenario]
+    print("\n".join(trace_of(scenario(), thermostat(), limit, Draws(rule=given.draw))))
     return 0
 
 

@@ -9,6 +9,8 @@ import itertools
 import operator
 from collections import namedtuple
 
+import apart
+
 # -- Expressions -----------------------------------------------------------------------------------
 
 # A literal has its kind and its text, and a name its variable, which is one of apart.py.
@@ -331,16 +333,24 @@ def names_of(comparison):
     return {name for name, _ in comparison.form.terms}
 
 
-def hard_comparisons(formula):
+def hard_comparisons(formula, variables):
     """The comparisons that make a search hard."""
     compared = [it for it in atoms_of(formula) if isinstance(it, Compared)]
     several = [it for it in compared if len(names_of(it)) > 1]
-    return [it for it in several if not (is_difference(it) or is_alone(it, several))]
+    is_easy = lambda it: is_even_difference(it, variables) or is_alone(it, several)
+    return [it for it in several if not is_easy(it)]
 
 
 def is_difference(comparison):
+    """Whether this speaks of the difference of two variables."""
     factors = [factor for _, factor in comparison.form.terms]
     return len(factors) == 2 and sum(factors) == 0
+
+
+def is_even_difference(comparison, variables):
+    """Whether this speaks of the difference of two variables of equal steps."""
+    steps = {it.step for it in variables if it.name in names_of(comparison)}
+    return is_difference(comparison) and len(steps) == 1
 
 
 def is_alone(comparison, several):
@@ -353,10 +363,10 @@ def need_of(formula, variables):
     """How much work a search for values of these variables may need."""
     choices = sum(choices_of(it) for it in conjuncts_of(formula))
     need = 180 * (len(variables) + 1) * 3**choices
-    hard = set().union(*map(names_of, hard_comparisons(formula)))
+    hard = set().union(*map(names_of, hard_comparisons(formula, variables)))
     for variable in variables:
         if variable.name in hard:
-            need *= variable.high - variable.low + 1
+            need *= len(apart.points_of(variable))
     return min(need, 2**127)
 
 
@@ -394,20 +404,17 @@ def python_of(formula):
     return PYTHON[type(formula)].format(*map(python_of, formula))
 
 
-def points_from(targets, variables):
+def points_in(orders):
     """All points, in the order in which they are tried; of those past the most not all."""
-    orders = []
-    for target, variable in zip(targets, variables):
-        order = itertools.chain(range(target, variable.high + 1), range(variable.low, target))
-        orders.append(itertools.islice(order, MOST_POINTS + 1))
-    return itertools.product(*orders)
+    cut = [itertools.islice(itertools.chain(*it), MOST_POINTS + 1) for it in orders]
+    return itertools.product(*cut)
 
 
-def first_solution(formula, variables, targets):
+def first_solution(formula, variables, orders):
     """The first point at which a formula holds, or None. Values of the last variable vary first."""
     names = ", ".join(it.name for it in variables)
     holds = eval(f"lambda {names}: {python_of(formula)}")
-    for number, point in enumerate(points_from(targets, variables)):
+    for number, point in enumerate(points_in(orders)):
         if number == MOST_POINTS:
             raise TooManyPoints
         if holds(*point):

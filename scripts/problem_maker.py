@@ -20,6 +20,10 @@ KINDS += [["int", "int", "bool"], ["real", "real", "bool"], ["bool", "int", "rea
 # The most values of each number, by how many variables there may be.
 MOST_VALUES = {2: 140, 3: 27, 4: 12}
 DECIMALS = [2, 2, 2, 0, 1, 3, 6]
+# The steps among which those of a scenario's numbers are drawn.
+STEPS = [[1], [1], [1], [1], [1], [1, 1, 2], [1, 3], [1, 4, 5], [2], [3]]
+# Ranges of many values.
+WIDE = [WITHOUT_RANGE, WITHOUT_RANGE, [0, 999], [-BOUND, BOUND]]
 
 # By how much a comparison may be beside what holds at the point.
 SLACKS = [[0], [0, 0, 0, 1, -1], [0, 1, -1, 2, -2, 3, -3]]
@@ -60,6 +64,7 @@ class Maker:
         self.chance = chance
         self.decimals = chance.one_of(DECIMALS)
         self.kinds = chance.one_of(KINDS)
+        self.steps = chance.one_of(STEPS)
         self.most_variables = chance.between(2, 4)
         self.most_clauses = chance.between(1, 6)
         self.slack = chance.one_of(SLACKS)
@@ -82,24 +87,39 @@ class Maker:
         """A further variable, which has a value at the point."""
         kind = self.chance.one_of(self.kinds)
         name = NAMES[kind][sum(it.kind == kind for it in self.outputs + self.locals)]
-        low, high = (0, 1) if kind == "bool" else self.range_of_number()
-        self.point[name] = self.chance.between(low, high)
-        drawn = self.chance.between(low, high)
-        first = self.chance.one_of([self.point[name]] * 4 + [drawn, low, high, None])
-        return apart.Variable(name, low, high, first, kind)
+        low, high, step = (0, 1, 1) if kind == "bool" else self.range_of_number()
+        found = apart.Variable(name, low, high, None, kind, step)
+        points = apart.points_of(found)
+        self.point[name], drawn = self.chance.one_of(points), self.chance.one_of(points)
+        firsts = [self.point[name]] * 4 + [drawn, points[0], points[-1], None]
+        return found._replace(first=self.chance.one_of(firsts))
 
     def range_of_number(self):
-        """The range of a number: mostly a small one near 0."""
+        """The ends and the step of a number's range."""
+        step = self.chance.one_of(self.steps)
+        low, high = self.ends_of_number(step)
+        if step > 1 and self.chance.is_one_in(12):
+            step = self.large_step(high - low)
+        return low, high, step
+
+    def ends_of_number(self, step):
+        """The ends of a number's range: mostly few values near 0. A step often misses the end."""
         chance = self.chance
         if self.is_wide:
             self.is_wide = False
-            return chance.one_of([WITHOUT_RANGE, WITHOUT_RANGE, (0, 999), (-BOUND, BOUND)])
+            return chance.one_of(WIDE)
         most = MOST_VALUES[self.most_variables]
         count = chance.between(chance.one_of([1, most // 2]), most)
+        width = step * (count - 1) + chance.below(step)
         if chance.is_one_in(25):
-            return chance.one_of([(BOUND - count + 1, BOUND), (-BOUND, count - 1 - BOUND)])
-        low = chance.between(-count, 3)
-        return low, low + count - 1
+            return chance.one_of([(BOUND - width, BOUND), (-BOUND, width - BOUND)])
+        low = chance.between(-width - 1, 3)
+        return low, low + width
+
+    def large_step(self, width):
+        """A step that leads to the high end of a range so wide, or past it, or to its middle."""
+        steps = [width, width + 1, width + self.chance.between(2, 9), width // 2, BOUND]
+        return min(max(1, self.chance.one_of(steps)), BOUND)
 
     def earlier(self, variables):
         """One of some variables whose `pre` is named: mostly one that has a first value."""
@@ -321,9 +341,10 @@ def made(chance):
     maker, looked_at = Maker(chance), []
     scenario, limit = maker.scenario(), chance.between(1, 3)
     seed = chance.one_of([0, chance.below(1000), chance.below(1 << 64)])
-    call = scenario, maker.decimals, limit, seed
+    draws = apart.Draws(seed, chance.between(1, 2))
+    call = scenario, maker.decimals, limit, draws
     worked_out(Problem(*call, MOST_BUDGET, False), looked_at)
-    budget = budget_for(chance, [need for _, need in looked_at])
+    budget = budget_for(chance, [it.need for it in looked_at])
     problem = Problem(*call, budget, chance.is_one_in(2))
     return problem, worked_out(problem, [])
 

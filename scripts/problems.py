@@ -11,14 +11,16 @@ import apart
 import constraints
 
 # A scenario and what its call says. The budget is None where the call says none.
-Problem = namedtuple("Problem", "scenario decimals limit seed budget has_locals")
+Problem = namedtuple("Problem", "scenario decimals limit draws budget has_locals")
+# What is looked at: what a leaf says, the variables that are drawn there, and the need.
+Looked = namedtuple("Looked", "formula variables need")
 # What comes of a call.
 Outcome = namedtuple("Outcome", "status output errors")
 
 # -- The text and the call of a problem ------------------------------------------------------------
 
 # The raw numbers of an output or a local that is declared without a range.
-WITHOUT_RANGE = (-10_000, 10_000)
+WITHOUT_RANGE = [-10_000, 10_000]
 
 
 def number_text(kind, raw, decimals):
@@ -29,10 +31,11 @@ def number_text(kind, raw, decimals):
 
 def declaration_of(variable, decimals):
     """A variable with its range and its first value, as far as it has them."""
-    name, low, high, first, kind = variable
+    name, low, high, first, kind, step = variable
     text = f"{name}: {kind}"
-    if kind != "bool" and (low, high) != WITHOUT_RANGE:
-        text += " [{}; {}]".format(*(number_text(kind, it, decimals) for it in (low, high)))
+    numbers = [low, high, step] if step != 1 else [low, high]
+    if kind != "bool" and numbers != WITHOUT_RANGE:
+        text += " [{}]".format("; ".join(number_text(kind, it, decimals) for it in numbers))
     if first is None:
         return text
     value = ["false", "true"][first] if kind == "bool" else number_text(kind, first, decimals)
@@ -71,8 +74,9 @@ def text_of(problem):
 
 def words_of(problem):
     """The words of a problem's call, but for its file."""
-    words = ["run", "-l", str(problem.limit), "--seed", str(problem.seed)]
+    words = ["run", "-l", str(problem.limit), "--seed", str(problem.draws.seed)]
     words += ["--precision", str(problem.decimals)]
+    words += ["--draw", "2"] * (problem.draws.rule == 2)
     words += [] if problem.budget is None else ["--budget", str(problem.budget)]
     return words + ["--locals"] * problem.has_locals
 
@@ -89,7 +93,7 @@ MOST_BUDGET = 10**12
 class Instance(apart.Instance):
     """An instant whose values are found by going through all points, within a budget.
 
-    `looked_at` gets what each leaf says that is looked at, and its need.
+    `looked_at` gets what is looked at, leaf by leaf.
     """
 
     def __init__(self, decimals, budget, looked_at, *more):
@@ -105,11 +109,11 @@ class Instance(apart.Instance):
         numbered = self.variables(leaf)
         variables = [it for _, it in numbered]
         need = constraints.need_of(formula, variables)
-        self.looked_at.append((formula, need))
+        self.looked_at.append(Looked(formula, variables, need))
         if need > self.budget:
             raise apart.Stopped(f"budget {need}")
-        targets = [self.target(number, it) for number, it in numbered]
-        point = constraints.first_solution(formula, variables, targets)
+        orders = [self.order(number, it) for number, it in numbered]
+        point = constraints.first_solution(formula, variables, orders)
         return None if point is None else dict(zip((it.name for it in variables), point))
 
 
@@ -117,9 +121,9 @@ def worked_out(problem, looked_at):
     """The outcome of a problem's call, worked out apart from the program."""
     budget = DEFAULT_BUDGET if problem.budget is None else problem.budget
     instance = functools.partial(Instance, problem.decimals, budget, looked_at)
-    call = problem.scenario, apart.NOBODY, problem.limit, problem.seed
+    call = problem.scenario, apart.NOBODY, problem.limit, problem.draws
     steps, end = apart.steps_of(*call, instance)
-    shown = problem.seed, problem.decimals, problem.has_locals
+    shown = problem.draws, problem.decimals, problem.has_locals
     lines = apart.lines_of(problem.scenario, steps, end, *shown)
     status = STATUSES[end.split()[0]]
     output = "".join(f"{it}\n" for it in lines)

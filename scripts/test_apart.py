@@ -5,6 +5,7 @@ import re
 import unittest
 
 import apart
+from apart import Draws
 
 TOP = os.path.dirname(os.path.dirname(os.path.abspath(__file__)))
 
@@ -14,9 +15,9 @@ def read(path):
         return file.read()
 
 
-def first_values(scenario, limit, seed):
+def first_values(scenario, limit, seed, rule=1, controller=apart.NOBODY):
     """What the first output of a scenario is in each step, as its trace has it."""
-    steps, _ = apart.steps_of(scenario, apart.NOBODY, limit, seed)
+    steps, _ = apart.steps_of(scenario, controller, limit, Draws(seed, rule))
     return [apart.written(scenario.outputs[0].kind, it.told[0]) for it in steps]
 
 
@@ -32,6 +33,46 @@ class Words(unittest.TestCase):
         self.assertEqual(apart.word(0, 1, 0), 670457862477091661)
         self.assertEqual(apart.word(0, 1, apart.VARIABLES), 15939427002774378928)
         self.assertEqual(apart.word(4294967296, 1, 64), 6862741670566267012)
+
+
+class Points(unittest.TestCase):
+    def test_points_go_by_the_step(self):
+        for low, high, step, points in (
+            (0, 9, 3, [0, 3, 6, 9]),
+            (-5, 4, 4, [-5, -1, 3]),
+            (2, 9, 8, [2]),
+        ):
+            variable = apart.Variable("x", low, high, step=step)
+            self.assertEqual(list(apart.points_of(variable)), points)
+
+    def test_each_point_is_tried_once_from_the_target_on(self):
+        order = lambda *which: [value for part in apart.order_from(*which) for value in part]
+        self.assertEqual(order(3, range(0, 10, 3)), [3, 6, 9, 0])
+        self.assertEqual(order(3, range(0, 10, 3), True), [3, 0, 9, 6])
+        self.assertEqual(order(0, range(0, 4), True), [0, 3, 2, 1])
+        self.assertEqual(order(3, range(0, 4)), [3, 0, 1, 2])
+
+    def test_a_target_is_a_point(self):
+        """The first word of a variable that test_words has is 3 modulo 5, and 4 modulo 6."""
+        anything = apart.where("", lambda value: True)
+        drawn = lambda *ends: apart.of_one(apart.Variable("x", *ends), anything)
+        self.assertEqual(first_values(drawn(0, 100, None, "real", 25), 1, 0), ["0.75"])
+        self.assertEqual(first_values(drawn(-7, 10, None, "int", 3), 1, 0), ["5"])
+
+    def test_a_direction_is_drawn_by_the_second_rule(self):
+        """Beside a target that can't be taken stands what is taken, above it or below it."""
+        directions = set()
+        for step in range(1, 9):
+            target = apart.word(0, step, apart.VARIABLES) % 10
+            is_down = apart.word(0, step, apart.VARIABLES + 128) % 2 == 1
+            other = apart.where("x", lambda value: value("x") != target)
+            scenario = apart.of_one(apart.Variable("x", 0, 9), other)
+            for rule, by in ((1, 1), (2, -1 if is_down else 1)):
+                at_hand = apart.Instance(scenario, Draws(0, rule), step, {}, {})
+                _, values = at_hand.drawn(apart.offers(other))
+                self.assertEqual(values, {"x": (target + by) % 10})
+            directions.add(is_down)
+        self.assertEqual(directions, {False, True})
 
 
 class Documents(unittest.TestCase):
@@ -52,6 +93,29 @@ class Documents(unittest.TestCase):
         walk = apart.Scenario([], [apart.Variable("x", 0, 9, 5)], [by], body)
         self.assertEqual(first_values(walk, 5, 0), ["4", "3", "2", "1", "0"])
         self.assertEqual(first_values(walk, 5, 5), ["4", "3", "2", "3", "2"])
+        self.assertEqual(first_values(walk, 5, 0, rule=2), ["4", "5", "5", "4", "5"])
+
+    def test_the_dial_is_turned_by_quarters(self):
+        call = r"run examples/dial\.lut -l (\d+)(?: --draw (\d))? .*\n-- (.*)"
+        shown = re.findall(call, read("examples/dial.lut"))
+        self.assertEqual([rule for _, rule, _ in shown], ["", "2"])
+        for limit, rule, values in shown:
+            found = first_values(apart.dial(), int(limit), 0, int(rule or 1))
+            self.assertEqual(" ".join(found), values)
+
+    def test_the_room_by_both_rules(self):
+        """Its temperature in each twentieth step, in a line for each rule."""
+        shown = read("docs/LANGUAGE.md").partition("| xargs; done\n")[2].splitlines()
+        for rule in (1, 2):
+            found = first_values(apart.room(), 200, 0, rule, apart.thermostat())
+            self.assertEqual(" ".join(found[19::20]), shown[rule - 1])
+
+    def test_a_trace_by_the_second_rule_says_so(self):
+        body = apart.Then(apart.is_true("b", 1), apart.is_true("b", 0))
+        flags = apart.of_one(apart.boolean("b"), body)
+        trace = apart.trace_of(flags, apart.NOBODY, 1, Draws(0, 2))
+        self.assertEqual(trace[:3], ["#seed 0", "#draw 2", '#inputs "b":bool'])
+        self.assertIn("\n".join(["--draw 2", *trace, ""]), read("docs/COMMAND.md"))
 
     def test_patterns(self):
         shown = re.findall(
@@ -83,7 +147,7 @@ class Thermostats(unittest.TestCase):
 
     def test_the_heater_of_the_drafty_room_goes_on_and_off(self):
         for seed in (1, 3):
-            steps, _ = apart.steps_of(apart.drafty(), apart.thermostat(), 100, seed)
+            steps, _ = apart.steps_of(apart.drafty(), apart.thermostat(), 100, Draws(seed))
             heats = [it.answers[0] for it in steps]
             switches = sum(one != other for one, other in zip(heats, heats[1:]))
             self.assertGreaterEqual(switches, 10, seed)

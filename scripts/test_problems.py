@@ -26,8 +26,15 @@ def whole(text):
     return int(text.replace(",", "").split()[0])
 
 
-def variable(name, kind="int"):
-    return apart.Variable(name, 0, 99, None, kind)
+def variable(name, kind="int", high=99, step=1):
+    return apart.Variable(name, 0, high, None, kind, step)
+
+
+def first_from(targets, expression, variables):
+    """The first solution of an expression upward from these targets."""
+    points = map(apart.points_of, variables)
+    orders = [apart.order_from(*it) for it in zip(targets, points)]
+    return constraints.first_solution(constraints.said(expression, SETTING), variables, orders)
 
 
 def expression(text, kind="int"):
@@ -48,6 +55,15 @@ class Constraints(unittest.TestCase):
             found = constraints.need_of(formula, [variable(it) for it in "xyz"])
             self.assertEqual(found, whole(need), text)
             self.assertEqual(found, 180 * 4 * 3 ** int(choices) * whole(product), text)
+
+    def test_differences_of_equal_steps_are_easy(self):
+        """Others are searched through, so the points of both count: 6 of x, and 4 of y."""
+        x, y = variable("x", high=10, step=2), variable("y", high=9, step=3)
+        differs = Binary("=", Name(x), expression("y + 1"))
+        need = lambda *found: constraints.need_of(constraints.said(differs, SETTING), found)
+        self.assertEqual(need(x, y), 180 * 3 * 6 * 4)
+        self.assertEqual(need(x, y._replace(step=2)), 180 * 3)
+        self.assertEqual(first_from([0, 0], differs, [x, y]), (4, 3))
 
     def test_the_table_of_forms(self):
         rows = cells("Form, P")
@@ -81,12 +97,11 @@ class Constraints(unittest.TestCase):
 
     def test_a_first_solution_is_sought_from_the_targets(self):
         """The first instants of two walks of the table of what is drawn."""
-        x, by = variable("x")._replace(high=9), apart.Variable("by", -1, 1)
+        x, by = variable("x", high=9), apart.Variable("by", -1, 1)
         moves = Binary("=", Name(x), Binary("+", constraints.Pre(x), Name(by)))
-        formula = constraints.said(moves, SETTING)
-        self.assertEqual(constraints.first_solution(formula, [x, by], [8, 1]), (4, -1))
-        self.assertEqual(constraints.first_solution(formula, [x, by], [6, -1]), (6, 1))
-        self.assertIsNone(constraints.first_solution(False, [x, by], [8, 1]))
+        self.assertEqual(first_from([8, 1], moves, [x, by]), (4, -1))
+        self.assertEqual(first_from([6, -1], moves, [x, by]), (6, 1))
+        self.assertIsNone(first_from([8, 1], Literal("bool", "false"), [x, by]))
 
 
 class Problems(unittest.TestCase):
@@ -108,9 +123,23 @@ class Problems(unittest.TestCase):
         for number in range(300):
             looked_at = []
             problems.worked_out(problem_maker.problem_of(1, number)[0], looked_at)
-            counts.update({it for formula, _ in looked_at for it in features(formula)})
-        self.assertEqual(set(counts), {"hard", "tie", "unequal", "flag", "choice"})
+            counts.update({feature for it in looked_at for feature in features(it)})
+        rare = {"even": counts.pop("even"), "uneven": counts.pop("uneven")}
+        self.assertEqual(set(counts), {"hard", "tie", "unequal", "flag", "choice", "step"})
         self.assertGreater(min(counts.values()), 75, counts)
+        self.assertGreater(min(rare.values()), 10, rare)
+
+    def test_steps_and_both_rules_come_often(self):
+        made = [problem_maker.problem_of(1, number)[0] for number in range(300)]
+        declared = [it for problem in made for it in problem.scenario.outputs]
+        steps = [it for it in declared if it.step > 1]
+        misses = [it for it in steps if (it.high - it.low) % it.step]
+        self.assertGreater(len(steps), 75)
+        self.assertGreater(len(misses), 50)
+        self.assertGreater(len([it for it in misses if len(apart.points_of(it)) == 1]), 5)
+        self.assertGreater(len([it for it in steps if it.kind == "real"]), 25)
+        rules = Counter(it.draws.rule for it in made)
+        self.assertGreater(min(rules[1], rules[2]), 100)
 
 
 def occurrences(formula):
@@ -129,16 +158,29 @@ def undirected(comparison):
     return max(form, constraints.changed(form, lambda it: -it))
 
 
-def features(formula):
-    """What makes a search for the solutions of a formula hard."""
+def steps_compared(formula, variables):
+    """Of each comparison of a formula the steps of its variables, and whether it's a difference."""
+    compared = [it for it in constraints.atoms_of(formula) if isinstance(it, Compared)]
+    steps = {it.name: it.step for it in variables}
+    of_one = lambda it: {steps[name] for name in constraints.names_of(it)}
+    return [(of_one(it), constraints.is_difference(it)) for it in compared]
+
+
+def features(looked):
+    """What makes a search for the solutions of what is looked at hard."""
+    formula, variables, _ = looked
     found = occurrences(formula)
     compared = [it for it in found if not isinstance(it, Flag)]
+    steps = steps_compared(formula, variables)
     has = {
-        "hard": constraints.hard_comparisons(formula),
+        "hard": constraints.hard_comparisons(formula, variables),
         "tie": len({undirected(it) for it in compared}) < len(compared),
         "unequal": any(isinstance(it, Not) and it.part.sign == "=" for it in compared),
         "flag": len(compared) < len(found),
         "choice": any(constraints.choices_of(it) > 1 for it in constraints.conjuncts_of(formula)),
+        "step": any(it - {1} for it, _ in steps),
+        "even": any(is_difference and len(it) == 1 and it != {1} for it, is_difference in steps),
+        "uneven": any(is_difference and len(it) == 2 for it, is_difference in steps),
     }
     return {it for it in has if has[it]}
 
