@@ -206,7 +206,7 @@ module _ (traces : ScenarioTracesShowTheirRun) (prefixes : ScenarioPrefixesShowT
     -- what is given out up to a side's fault
     fault_given : (received : Received) (out : List Piece) (fault : Option Who) (w : Who) → fault ≡ Some w → GivesOut k received out fault → ShowsRun request scene out (end.Device w)
     fault_given received out _ w is (drive.calm begins) = absurd (cc)
-    fault_given received out _ w is (drive.unheard v ps begins given_is) =
+    fault_given received out _ w is (drive.unheard v ps begins awaits given_is) =
         let same : v ≡ w = cc in
         let here = begins silent silent in
         let last = line_is ps v in
