@@ -41,7 +41,7 @@ f is node n() returns (x: int [-7;9;100]) = x <> 3
 > #step 1\n-7 #outs\n#end normal 1
 
 -- A local has a step too.
-f is node n() returns (x: int) = exist d: int [1;9;4] in x = d and x > 5
+f is node n() returns (x: int [0;9]) = exist d: int [1;9;4] in x = d and x > 5
 > #seed 0\n#inputs "x":int\n#outputs
 > #step 1\n9 #outs\n#end normal 1
 
