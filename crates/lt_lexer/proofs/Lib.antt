@@ -6,6 +6,7 @@ pub mod Giving
 pub mod Starts
 pub mod Numbers
 pub mod Finds
+pub mod Rows
 pub mod Symbols
 pub mod Comments
 pub mod Signs

@@ -1,78 +1,69 @@
 //! Signs by their letters.
 
 ghost use Rattle.std.specs.Prelude.{◌≡◌};
-ghost use Rattle.lt_lexer.specs.inner.Spelling.{sign_spelled, first_symbol};
+ghost use Rattle.lt_lexer.specs.inner.Spelling.{beginning_with, first_spelled, sign_spelled, first_symbol};
 
 use lt_ast::Sign;
 
-// Every sign that has letters of its own.
-const SIGNS: [Sign; 56] = [
-    Sign::Node,
-    Sign::Returns,
-    Sign::Let,
-    Sign::In,
-    Sign::Exist,
-    Sign::Bool,
-    Sign::Int,
-    Sign::Real,
-    Sign::Trace,
-    Sign::Ref,
-    Sign::Fby,
-    Sign::Loop,
-    Sign::Assert,
-    Sign::Raise,
-    Sign::Catch,
-    Sign::Do,
-    Sign::Trap,
-    Sign::Try,
-    Sign::Exception,
-    Sign::Pre,
-    Sign::Not,
-    Sign::And,
-    Sign::Or,
-    Sign::Xor,
-    Sign::If,
-    Sign::Then,
-    Sign::Else,
-    Sign::Div,
-    Sign::Mod,
-    Sign::True,
-    Sign::False,
-    Sign::Run,
-    Sign::Open,
-    Sign::Close,
-    Sign::OpenBrace,
-    Sign::CloseBrace,
-    Sign::OpenBracket,
-    Sign::CloseBracket,
-    Sign::Colon,
-    Sign::Semicolon,
-    Sign::Comma,
-    Sign::Equal,
-    Sign::Unequal,
-    Sign::Less,
-    Sign::LessEqual,
-    Sign::Greater,
-    Sign::GreaterEqual,
-    Sign::Plus,
-    Sign::Minus,
-    Sign::Star,
-    Sign::Slash,
-    Sign::Implies,
-    Sign::Bar,
-    Sign::Priority,
-    Sign::Parallel,
-    Sign::Tilde,
-];
+// The signs whose letters begin with a byte.
+fn beginning_with(byte: u8) -> &'static [Sign]
+    ensures { result.now ≡ beginning_with byte }
+{
+    match byte {
+        b'a' => &[Sign::Assert, Sign::And],
+        b'b' => &[Sign::Bool],
+        b'c' => &[Sign::Catch],
+        b'd' => &[Sign::Do, Sign::Div],
+        b'e' => &[Sign::Exist, Sign::Exception, Sign::Else],
+        b'f' => &[Sign::Fby, Sign::False],
+        b'i' => &[Sign::In, Sign::Int, Sign::If],
+        b'l' => &[Sign::Let, Sign::Loop],
+        b'm' => &[Sign::Mod],
+        b'n' => &[Sign::Node, Sign::Not],
+        b'o' => &[Sign::Or],
+        b'p' => &[Sign::Pre],
+        b'r' => &[Sign::Returns, Sign::Real, Sign::Ref, Sign::Raise, Sign::Run],
+        b't' => &[Sign::Trace, Sign::Trap, Sign::Try, Sign::Then, Sign::True],
+        b'x' => &[Sign::Xor],
+        b'(' => &[Sign::Open],
+        b')' => &[Sign::Close],
+        b'{' => &[Sign::OpenBrace],
+        b'}' => &[Sign::CloseBrace],
+        b'[' => &[Sign::OpenBracket],
+        b']' => &[Sign::CloseBracket],
+        b':' => &[Sign::Colon],
+        b';' => &[Sign::Semicolon],
+        b',' => &[Sign::Comma],
+        b'=' => &[Sign::Equal, Sign::Implies],
+        b'<' => &[Sign::Unequal, Sign::Less, Sign::LessEqual],
+        b'>' => &[Sign::Greater, Sign::GreaterEqual],
+        b'+' => &[Sign::Plus],
+        b'-' => &[Sign::Minus],
+        b'*' => &[Sign::Star],
+        b'/' => &[Sign::Slash],
+        b'|' => &[Sign::Bar, Sign::Priority],
+        b'&' => &[Sign::Parallel],
+        b'~' => &[Sign::Tilde],
+        _ => &[],
+    }
+}
+
+// The first of these signs that has these letters.
+fn first_spelled(signs: &[Sign], letters: &[u8]) -> Option<Sign>
+    ensures { result ≡ first_spelled letters.now signs.now }
+{
+    signs
+        .iter()
+        .copied()
+        .find(|sign| sign.text().as_bytes() == letters)
+}
 
 /// The sign that has these letters: a keyword or a symbol.
 pub fn sign_spelled(letters: &[u8]) -> Option<Sign>
     ensures { result ≡ sign_spelled letters.now }
 {
-    SIGNS
-        .iter()
-        .copied()
-        .find(|sign| sign.text().as_bytes() == letters)
+    let first = letters.first()?;
+    first_spelled(beginning_with(*first), letters)
 }
 
 /// The longest symbol at the front of a text, which begins with no letter.

@@ -1,8 +1,8 @@
 -- Signs by their letters.
-use Rattle.std.specs.Prelude.{ℕ, nat_eq, List, [], ◌∷◌, None}
+use Rattle.std.specs.Prelude.{ℕ, nat_eq, Bool, false, List, [], ◌∷◌, None}
 use Rattle.std.specs.declared.option.Option.{Option}
 use Rattle.std.specs.Cmp.Lexicographic.{pointwise}
-use Rattle.std.specs.List.{find}
+use Rattle.std.specs.List.{find, filter}
 use Rattle.std.specs.Option.{option_or}
 use Rattle.lt_ast.specs.Signs.{spelled}
 use Rattle.lt_ast.specs.declared.sign.Sign.{Sign}
@@ -21,9 +21,22 @@ signs =
     ∷ s.Slash ∷ s.Implies ∷ s.Bar ∷ s.Priority ∷ s.Parallel ∷ s.Tilde
     ∷ []
 
--- the one that is spelled so
+-- the letters begin with this byte
+abbrev pub begins : ℕ → List ℕ → Bool
+begins byte [] = false
+begins byte (b ∷ bs) = nat_eq b byte
+
+-- the signs whose letters do
+abbrev pub beginning_with : ℕ → List Sign
+beginning_with byte = filter (λ sign. begins byte (spelled sign)) signs
+
+-- the first of some signs that is spelled so
+abbrev pub first_spelled : List ℕ → List Sign → Option Sign
+first_spelled bytes among = find (λ sign. pointwise nat_eq (spelled sign) bytes) among
+
+-- the one sign that is
 abbrev pub sign_spelled : List ℕ → Option Sign
-sign_spelled bytes = find (λ sign. pointwise nat_eq (spelled sign) bytes) signs
+sign_spelled bytes = first_spelled bytes signs
 
 -- the longest symbol at the front of a text that begins with no letter: each symbol has one byte or two
 abbrev pub first_symbol : List ℕ → Option Sign
