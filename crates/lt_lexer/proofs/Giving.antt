@@ -1,11 +1,12 @@
 -- What the code answers at the front of a text is its first piece.
-use Rattle.std.proofs.Common.{◌≡◌, ℕ, ◌+◌, ◌-◌, ◌≤◌, ◌<◌, true, false, List, [], ◌∷◌, length, drop, get_or, refl, ap, sym, ◌∙◌, arith, subst, count_by, Some, None, Ok, Err, codes, length-append}
+use Rattle.std.proofs.Common.{◌≡◌, ℕ, ◌+◌, ◌-◌, ◌≤◌, ◌<◌, true, false, List, [], ◌∷◌, length, drop, get_or, refl, ap, sym, ◌∙◌, arith, subst, nat_eq, count_by, Some, None, Ok, Err, codes, length-append}
 use Rattle.std.specs.declared.option.Option.{Option}
 use Rattle.std.specs.declared.result.Result.{Result}
 use Rattle.std.specs.Option.{option_map}
 use Rattle.std.specs.List.{prefix_len}
 use Rattle.std.specs.Char.{is_ascii_digit, is_ascii_alphabetic}
 use Rattle.std.proofs.lemmas.Bool.{cond-true, cond-false, le-leb, lt-leb}
+use Rattle.std.proofs.lemmas.Bool.Decides.{nat_tests}
 use Rattle.lt_num.specs.Bounds.{most_digits}
 use Rattle.lt_lexer.specs.Byte.{is_blank, is_word_byte, is_in_line, begins_with}
 use Rattle.lt_lexer.specs.Piece.{blank, line_comment, token, begins_line_comment, begins_block_comment}
@@ -15,6 +16,7 @@ use Rattle.lt_lexer.specs.declared.piece.Piece as code
 use Rattle.lt_lexer.specs.declared.refusal.LexRefusal.{LexRefusal}
 use Rattle.lt_lexer.specs.declared.refusal.LexRefusal.TheVariants.{NumberTooLong}
 use Rattle.lt_lexer.specs.declared.token.TokenKind.TheVariants.{Word, Number}
+use Rattle.lt_lexer.proofs.Bools.{left_false}
 use Rattle.lt_lexer.proofs.Runs.{length-leading, drop-leading}
 use Rattle.lt_lexer.proofs.Digits.{count_by-number_bytes}
 
@@ -38,7 +40,33 @@ next_of-number b bs h k l m n = cond-false _ _ _ h ∙ cond-false _ _ _ k ∙ co
 pub next_of-symbol : (b : ℕ) (bs : List ℕ) → begins_line_comment (b ∷ bs) ≡ false → begins_block_comment (b ∷ bs) ≡ false → is_blank b ≡ false → is_ascii_alphabetic b ≡ false → is_ascii_digit b ≡ false → next_of (b ∷ bs) ≡ next_symbol (b ∷ bs) (first_symbol (b ∷ bs))
 next_of-symbol b bs h k l m n = cond-false _ _ _ h ∙ cond-false _ _ _ k ∙ cond-false _ _ _ l ∙ cond-false _ _ _ m ∙ cond-false _ _ _ n
 
--- what the code answers, by the same tests
+-- no comment begins with a blank, a letter or a digit
+
+blank-no_minus : (b : ℕ) → is_blank b ≡ true → nat_eq 45 b ≡ false
+blank-no_minus b h = grind (arith, nat_tests)
+
+blank-no_open : (b : ℕ) → is_blank b ≡ true → nat_eq 40 b ≡ false
+blank-no_open b h = grind (arith, nat_tests)
+
+letter-no_minus : (b : ℕ) → is_ascii_alphabetic b ≡ true → nat_eq 45 b ≡ false
+letter-no_minus b h = grind (arith, nat_tests)
+
+letter-no_open : (b : ℕ) → is_ascii_alphabetic b ≡ true → nat_eq 40 b ≡ false
+letter-no_open b h = grind (arith, nat_tests)
+
+digit-no_minus : (b : ℕ) → is_ascii_digit b ≡ true → nat_eq 45 b ≡ false
+digit-no_minus b h = grind (arith, nat_tests)
+
+digit-no_open : (b : ℕ) → is_ascii_digit b ≡ true → nat_eq 40 b ≡ false
+digit-no_open b h = grind (arith, nat_tests)
+
+no_line : (b : ℕ) (bs : List ℕ) → nat_eq 45 b ≡ false → begins_line_comment (b ∷ bs) ≡ false
+no_line b bs h = left_false (nat_eq 45 b) _ h
+
+no_block : (b : ℕ) (bs : List ℕ) → nat_eq 40 b ≡ false → begins_block_comment (b ∷ bs) ≡ false
+no_block b bs h = left_false (nat_eq 40 b) _ h
+
+-- what the code answers, by these tests
 
 to_next : (place : ℕ) (r : Result code.Piece LexRefusal) (x y : Next) → x ≡ y → Gives place r y → Gives place r x
 to_next place r x y e g = let P : Next → Type 0 = Gives place r in subst P (sym e) g
@@ -51,17 +79,17 @@ pub gives_block : (place : ℕ) (r : Result code.Piece LexRefusal) (text : List 
 gives_block place r [] h k g = absurd (cc)
 gives_block place r (b ∷ bs) h k g = to_next place r _ _ (next_of-block b bs h k) g
 
-pub gives_blank : (place : ℕ) (p : code.Piece) (text : List ℕ) → begins_line_comment text ≡ false → begins_block_comment text ≡ false → 0 < length text → is_blank (get_or text 0 0) ≡ true → p.kind ≡ None → p.len ≡ 1 → Gives place (Ok p) (next_of text)
-gives_blank place p [] h k some l m n = absurd (omega arith)
-gives_blank place p (b ∷ bs) h k some l m n = to_next place (Ok p) _ _ (next_of-blank b bs h k l) (m, n)
+pub gives_blank : (place : ℕ) (p : code.Piece) (text : List ℕ) → 0 < length text → is_blank (get_or text 0 0) ≡ true → p.kind ≡ None → p.len ≡ 1 → Gives place (Ok p) (next_of text)
+gives_blank place p [] some l m n = absurd (omega arith)
+gives_blank place p (b ∷ bs) some l m n = to_next place (Ok p) _ _ (next_of-blank b bs (no_line b bs (blank-no_minus b l)) (no_block b bs (blank-no_open b l)) l) (m, n)
 
-pub gives_word : (place : ℕ) (p : code.Piece) (text : List ℕ) → begins_line_comment text ≡ false → begins_block_comment text ≡ false → 0 < length text → is_blank (get_or text 0 0) ≡ false → is_ascii_alphabetic (get_or text 0 0) ≡ true → p.kind ≡ Some Word → p.len ≡ 1 + prefix_len is_word_byte (drop 1 text) → Gives place (Ok p) (next_of text)
-gives_word place p [] h k some l a m n = absurd (omega arith)
-gives_word place p (b ∷ bs) h k some l a m n = to_next place (Ok p) _ _ (next_of-word b bs h k l a) (m, omega (arith, length-leading is_word_byte bs))
+pub gives_word : (place : ℕ) (p : code.Piece) (text : List ℕ) → 0 < length text → is_blank (get_or text 0 0) ≡ false → is_ascii_alphabetic (get_or text 0 0) ≡ true → p.kind ≡ Some Word → p.len ≡ 1 + prefix_len is_word_byte (drop 1 text) → Gives place (Ok p) (next_of text)
+gives_word place p [] some l a m n = absurd (omega arith)
+gives_word place p (b ∷ bs) some l a m n = to_next place (Ok p) _ _ (next_of-word b bs (no_line b bs (letter-no_minus b a)) (no_block b bs (letter-no_open b a)) l a) (m, omega (arith, length-leading is_word_byte bs))
 
-pub gives_number : (place : ℕ) (r : Result code.Piece LexRefusal) (text : List ℕ) → begins_line_comment text ≡ false → begins_block_comment text ≡ false → 0 < length text → is_blank (get_or text 0 0) ≡ false → is_ascii_alphabetic (get_or text 0 0) ≡ false → is_ascii_digit (get_or text 0 0) ≡ true → Gives place r (next_number text) → Gives place r (next_of text)
-gives_number place r [] h k some l a d g = absurd (omega arith)
-gives_number place r (b ∷ bs) h k some l a d g = to_next place r _ _ (next_of-number b bs h k l a d) g
+pub gives_number : (place : ℕ) (r : Result code.Piece LexRefusal) (text : List ℕ) → 0 < length text → is_blank (get_or text 0 0) ≡ false → is_ascii_alphabetic (get_or text 0 0) ≡ false → is_ascii_digit (get_or text 0 0) ≡ true → Gives place r (next_number text) → Gives place r (next_of text)
+gives_number place r [] some l a d g = absurd (omega arith)
+gives_number place r (b ∷ bs) some l a d g = to_next place r _ _ (next_of-number b bs (no_line b bs (digit-no_minus b d)) (no_block b bs (digit-no_open b d)) l a d) g
 
 pub gives_symbol : (place : ℕ) (r : Result code.Piece LexRefusal) (text : List ℕ) → begins_line_comment text ≡ false → begins_block_comment text ≡ false → 0 < length text → is_blank (get_or text 0 0) ≡ false → is_ascii_alphabetic (get_or text 0 0) ≡ false → is_ascii_digit (get_or text 0 0) ≡ false → Gives place r (next_symbol text (first_symbol text)) → Gives place r (next_of text)
 gives_symbol place r [] h k some l a d g = absurd (omega arith)

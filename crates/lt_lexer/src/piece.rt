@@ -49,16 +49,16 @@ pub fn first_piece(text: &[u8], place: usize) -> Result<Piece, LexRefusal>
     ensures { Gives place result (next_of text.now) }
 {
     let first = text[0];
-    if text.starts_with(b"--") {
-        Ok(Piece::passed_over(2 + line_bytes(&text[2..])))
-    } else if text.starts_with(b"(*") {
-        comment(&text[2..], place)
-    } else if is_blank(first) {
+    if is_blank(first) {
         Ok(Piece::passed_over(1))
     } else if first.is_ascii_alphabetic() {
         Ok(Piece::token(TokenKind::Word, 1 + word_bytes(&text[1..])))
     } else if first.is_ascii_digit() {
         number(text, place)
+    } else if text.starts_with(b"--") {
+        Ok(Piece::passed_over(2 + line_bytes(&text[2..])))
+    } else if text.starts_with(b"(*") {
+        comment(&text[2..], place)
     } else {
         symbol(text, place)
     }

@@ -7,16 +7,14 @@ use Rattle.lt_lexer.proofs.piece.first_piece.Goals as goal
 
 pub returns-then-starts_with : goal.returns-then-starts_with
 returns-then-starts_with c =
-    gives_line c.args.place c.passed_over.result c.args.text.now
+    gives_line c.args.place c.passed_over-then-starts_with.result c.args.text.now
     (sym c.starts_with.ensures.value ∙ c.if-starts_with.true)
-    c.passed_over.ensures.kind
-    (c.passed_over.ensures.len ∙ ap (λ n. 2 + n) (c.line_bytes.ensures.count ∙ ap (prefix_len is_in_line) (take_rest c.args.text.now 2)))
+    c.passed_over-then-starts_with.ensures.kind
+    (c.passed_over-then-starts_with.ensures.len ∙ ap (λ n. 2 + n) (c.line_bytes.ensures.count ∙ ap (prefix_len is_in_line) (take_rest c.args.text.now 2)))
 
 pub returns-then-is_ascii_alphabetic : goal.returns-then-is_ascii_alphabetic
 returns-then-is_ascii_alphabetic c =
     gives_word c.args.place c.token.result c.args.text.now
-    (sym c.starts_with.ensures.value ∙ c.if-starts_with.false)
-    (sym c.starts_with-else-starts_with.ensures.value ∙ c.if-starts_with-2.false)
     c.requires
     (sym c.is_blank.ensures ∙ c.if-is_blank.false)
     (sym c.is_ascii_alphabetic.ensures.value ∙ c.if-is_ascii_alphabetic.true)
