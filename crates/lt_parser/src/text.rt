@@ -45,6 +45,7 @@ fn program_of(alloc: Global, text: &[u8]) -> Result<Program, ParseRefusal>
 {
     let lexed = lex(alloc, text)?;
     let tokens = tokens_of(alloc, text, &lexed)?;
+    drop(lexed);
     match parse_program(alloc, &tokens) {
         Ok(program) => Ok(program),
         Err(refusal) => Err(placed(text, &tokens, refusal)),
