@@ -8,7 +8,7 @@ fn runs_end_for_their_reasons(rt: HostRuntime) -> Result<(), Fail> {
     check_rows(
         &rt,
         "",
-        33,
+        34,
         r#"
 ## a run is written to its end or limit
 f is node n() returns (b: bool) = b fby not b
@@ -172,6 +172,12 @@ f is node n() returns (x, y, z: int [0;5]) = 2 * x + 2 * y + 2 * z = 7
 -- Differences need no more than that, whatever the ranges are.
 $ run f
 f is node n() returns (x, y, z: int) = x < y and y < z and z < x
+> #end deadlock 1
+= 4 lurette: deadlock 1
+
+-- What no values meet needs no search, however many there are.
+$ run f
+f is node n() returns (x, y, z: int) = false
 > #end deadlock 1
 = 4 lurette: deadlock 1
 

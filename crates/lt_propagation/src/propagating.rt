@@ -296,7 +296,7 @@ fn lower_gate(
 {
     let whole = kleene_at(circuit, number, count, ranges);
     match circuit.gate(number) {
-        Gate::Truth(_) => true,
+        Gate::Truth(_) => raise_gate(circuit, number, decimals, count, ranges, agenda),
         Gate::Flag(variable) => lower_flag(variable, whole, count, ranges, agenda),
         Gate::Compare { .. } => lower_comparison(circuit, number, decimals, count, ranges, agenda),
         Gate::Not(part) => demand(circuit, part, whole.not(), count, ranges, agenda),
