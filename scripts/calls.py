@@ -25,15 +25,23 @@ def seconds_so_far():
     return used.ru_utime + used.ru_stime
 
 
-def outcome(program, text, *words):
-    """What comes of a call of a program with a text as its file."""
+def outcome_of(program, *words, memory=None):
+    """What comes of a call of a program, which may take so many bytes of memory where a number
+    says so."""
     how = {"stdin": subprocess.DEVNULL, "stdout": subprocess.PIPE, "stderr": subprocess.PIPE}
+    if memory is not None:
+        how["preexec_fn"] = lambda: resource.setrlimit(resource.RLIMIT_AS, (memory, memory))
     before = seconds_so_far()
+    try:
+        run = subprocess.run([program, *words], timeout=SECONDS, check=False, **how)
+    except subprocess.TimeoutExpired:
+        return Outcome(None, b"", b"", SECONDS)
+    return Outcome(run.returncode, run.stdout, run.stderr, seconds_so_far() - before)
+
+
+def outcome(program, text, *words, memory=None):
+    """What comes of such a call with a text as its file."""
     with tempfile.NamedTemporaryFile(prefix="lurette-") as file:
         file.write(text)
         file.flush()
-        try:
-            run = subprocess.run([program, *words, file.name], timeout=SECONDS, check=False, **how)
-        except subprocess.TimeoutExpired:
-            return Outcome(None, b"", b"", SECONDS)
-    return Outcome(run.returncode, run.stdout, run.stderr, seconds_so_far() - before)
+        return outcome_of(program, *words, file.name, memory=memory)

@@ -10,11 +10,12 @@ drops lines, swaps tokens, repeats pieces and enlarges numbers. Each text goes t
 through `run -l 3`, and what `print` wrote goes through `print` once more.
 
 A finding is an end that docs/COMMAND.md doesn't have: a signal, another status, another line on
-standard error, a trace that ends otherwise, a call that hadn't ended after ten seconds or took more
-than one of the processor, or a printed text that is printed in another way. It is told with the
-number of its text. The same seed and number make the same text, in every version of Python, as long
-as the examples stay as they are: --show writes it to standard output, and tries nothing. The
-program is the one that `rt ci` leaves in the checkout, where no option names another.
+standard error, a trace that ends otherwise, a call that hadn't ended after ten seconds, or took
+more than one of the processor or more memory than a text of its length may, or a printed text that
+is printed in another way. It is told with the number of its text. The same seed and number make the
+same text, in every version of Python, as long as the examples stay as they are: --show writes it to
+standard output, and tries nothing. The program is the one that `rt ci` leaves in the checkout,
+where no option names another.
 """
 
 import argparse
@@ -322,17 +323,30 @@ def name_of_end(mode, found):
     return f"{mode} {found.status} {what}".rstrip()
 
 
+def fault_of_cost(length, found):
+    """What is wrong with what a call took for a text of so many bytes; None where nothing is."""
+    if found.seconds > 1:
+        return f"took {found.seconds:.1f} seconds of the processor"
+    if found.status == 11:
+        return f"took more than {memory_for(length)} bytes of memory"
+    return None
+
+
+def memory_for(length):
+    """How many bytes of memory a call may take for a text of so many bytes."""
+    return (64 << 20) + 256 * length
+
+
 def tried(program, text):
     """The ends of a text's calls, and what is wrong with them."""
-    printed = calls.outcome(program, text, "print")
-    run = calls.outcome(program, text, "run", "-l", str(STEPS))
+    memory = memory_for(len(text))
+    printed = calls.outcome(program, text, "print", memory=memory)
+    run = calls.outcome(program, text, "run", "-l", str(STEPS), memory=memory)
     again = calls.outcome(program, printed.output, "print") if printed.status == 0 else printed
     ends, faults = [], []
     for mode, found in (("print", printed), ("run", run)):
         ends.append(name_of_end(mode, found))
-        fault = fault_of(mode, len(text), found)
-        if fault is None and found.seconds > 1:
-            fault = f"took {found.seconds:.1f} seconds of the processor"
+        fault = fault_of(mode, len(text), found) or fault_of_cost(len(text), found)
         faults += [f"{mode} {fault}"] if fault else []
     beside = fault_between(printed, again, run)
     return ends, faults + ([beside] if beside else [])
