@@ -16,6 +16,7 @@ import signal
 import subprocess
 import sys
 import tempfile
+import time
 import unittest
 from collections import namedtuple
 
@@ -255,6 +256,50 @@ class Files(Fault):
         if not os.path.exists("/dev/zero"):
             self.skipTest("no file without end is known")
         self.check_each("/dev/zero", 3, "refused file.TooLong")
+
+    def test_a_file_without_bytes(self):
+        self.write("empty", "")
+        self.write("played", CONTROLLER.scenario)
+        missed = texts(CONTROLLER, 0) + "#end ended controller 1\n"
+        for name in ("empty", os.devnull):
+            with self.subTest(name):
+                self.check(self.call("run", name), 3, "refused type.NoNode", "")
+                self.check(self.call("print", name), 0, "", "")
+                found = self.call("run", "played", f"--replay={name}")
+                self.check(found, 8, "ended controller 1", missed)
+
+    def test_a_queue_that_nobody_writes_to_is_waited_for(self):
+        self.write("played", CONTROLLER.scenario)
+        os.mkfifo(self.path("queue"))
+        printed = "node n ( ) returns ( x : int [ 0 ; 3 ] ) = loop x = 1\n"
+        for words, text, output in (
+            (("print", "queue"), ORACLE.scenario, printed),
+            (("run", "queue", "-l", "3"), ORACLE.scenario, texts(ORACLE, 3) + "#end limit 3\n"),
+            (
+                ("run", "played", "-l", "3", "--replay=queue"),
+                "1 #outs 5\n" * 3,
+                texts(CONTROLLER, 3) + "#end limit 3\n",
+            ),
+        ):
+            with self.subTest(words=words):
+                call = self.begin(words, {})
+                self.feed(call, "queue", text)
+                self.check(self.finish(call), 0, "", output)
+
+    def feed(self, call, name, text):
+        """Writes to a queue once a call has opened it, and waits for that."""
+        end = None
+        until = time.monotonic() + SECONDS
+        while end is None and time.monotonic() < until:
+            try:
+                end = os.open(self.path(name), os.O_WRONLY | os.O_NONBLOCK)
+            except OSError:
+                # Nobody reads it yet.
+                self.assertIsNone(call.poll(), "the call has ended before it was given a text")
+                time.sleep(0.001)
+        self.assertIsNotNone(end, "the queue was not opened")
+        os.write(end, text.encode())
+        os.close(end)
 
     def test_no_program_is_started_where_a_file_fails(self):
         command = self.side(CONTROLLER, GOOD)
