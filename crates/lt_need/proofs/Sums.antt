@@ -14,7 +14,7 @@ use Rattle.lt_need.specs.inner.Conjuncts.{choices_at}
 use Rattle.lt_need.proofs.Standings.{and_left, and_right_test, less_from}
 use Rattle.lt_need.specs.inner.Faces.{IsBase, IsConjunction, IsCore, StandsFor, absorbed_at, denied_more}
 
-choices_append : (fs gs : List Formula) → choices_of (fs ++ gs) ≡ choices_of fs + choices_of gs
+pub choices_append : (fs gs : List Formula) → choices_of (fs ++ gs) ≡ choices_of fs + choices_of gs
 choices_append [] gs = omega arith
 choices_append (f ∷ fs) gs = omega (arith, choices_append fs gs)
 

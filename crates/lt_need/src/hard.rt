@@ -77,8 +77,8 @@ fn is_hard(terms: &[(u32, i64)], is_equation: bool, ranges: &[Range], shared: &[
     !is_difference(terms, ranges) && (is_equation || has_shared(terms, shared))
 }
 
-// Whether terms are one variable less another one of the same step, but for a factor.
-fn is_difference(terms: &[(u32, i64)], ranges: &[Range]) -> bool
+/// Whether terms are one variable less another one of the same step, but for a factor.
+pub(crate) fn is_difference(terms: &[(u32, i64)], ranges: &[Range]) -> bool
     ensures { result ≡ is_difference ranges.now terms.now }
 {
     terms.len() == 2

@@ -22,8 +22,10 @@ mod gathering;
 mod hard;
 mod measuring;
 mod product;
+mod quick;
 mod room;
 mod uses;
 
 pub use measuring::measure;
+pub use quick::quick_bound;
 pub use room::Room;

@@ -66,8 +66,8 @@ pub fn measure(
     times_threes(times_points(variables, &room.hard, ranges), choices)
 }
 
-// How many variables a scope has.
-fn variables_in(scope: &[bool]) -> usize
+/// How many variables a scope has.
+pub(crate) fn variables_in(scope: &[bool]) -> usize
     ensures value { result ≡ variables_in scope.now }
     ensures most { result ≤ length scope.now }
 {

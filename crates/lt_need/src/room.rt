@@ -6,6 +6,7 @@ ghost use Rattle.lt_need.specs.inner.GatheringView.{HasRoom};
 
 use crate::faces::Face;
 use crate::gathering::Gathering;
+use crate::quick::Leaves;
 use std::alloc::{AllocError, Global};
 
 // How many variables a circuit may have: `most_variables`.
@@ -19,6 +20,9 @@ pub struct Room {
 
     /// What each gate stands for.
     pub(crate) faces: Vec<Face>,
+
+    /// What is counted of each gate for a quick bound.
+    pub(crate) leaves: Vec<Leaves>,
 
     /// How often the conjuncts of each gate count.
     pub(crate) weights: Vec<usize>,
@@ -35,6 +39,7 @@ pub struct Room {
     /// Which variables are hard.
     pub(crate) hard: Vec<bool>,
     ghost for_faces: { gates ≤ vec_capacity faces },
+    ghost for_leaves: { gates ≤ vec_capacity leaves },
     ghost for_weights: { gates ≤ vec_capacity weights },
     ghost for_atoms: { HasRoom gates gathering },
     ghost all_owners: { length owners.items ≡ most_variables },
@@ -56,6 +61,7 @@ impl Room {
         Ok(Room {
             gates,
             faces: Vec::with_capacity(alloc, gates)?,
+            leaves: Vec::with_capacity(alloc, gates)?,
             weights: Vec::with_capacity(alloc, gates)?,
             gathering: Gathering {
                 marks: vec![in alloc; false; gates]?,

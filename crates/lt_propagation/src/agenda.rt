@@ -4,6 +4,7 @@
 ghost use Rattle.std.specs.Prelude.{◌≡◌, ◌<◌, ◌≤◌};
 ghost use Rattle.lt_space.specs.CircuitView.{circuit_len};
 
+use crate::linked::Linked;
 use lt_num::Interval;
 use lt_space::{Circuit, Gate};
 use std::alloc::{AllocError, Global};
@@ -19,7 +20,7 @@ const MOST_LINKS: usize = 7;
 #[derive(Clone, Copy)]
 struct Link {
     gate: u32,
-    next: Option<usize>,
+    next: Option<u32>,
 }
 
 /// Which gates of a circuit are still to be looked at. A place of a box is that of a variable, or that of a gate; beside it stand
@@ -27,8 +28,10 @@ struct Link {
 #[derive(Drop)]
 pub struct Agenda {
     variables: usize,
+    // The circuit that the links are of.
+    linked: Linked,
     // For each place, where the first gate beside it is found.
-    first: Vec<Option<usize>>,
+    first: Vec<Option<u32>>,
     links: Vec<Link>,
     // Comparisons of so many variables that they have no links.
     wide: Vec<u32>,
@@ -37,6 +40,8 @@ pub struct Agenda {
     is_reached: Vec<bool>,
     // A bit for each gate that waits, in words of 64.
     waiting: Vec<u64>,
+    // How many words the gates up to the root have.
+    words: usize,
     // No word before this one has a bit.
     lowest: usize,
     // The gate that is looked at.
@@ -53,22 +58,29 @@ impl Agenda {
         let places = variables.saturating_add(gates);
         Ok(Agenda {
             variables,
+            linked: Linked::make(alloc, gates)?,
             first: vec![in alloc; None; places]?,
             links: Vec::with_capacity(alloc, gates.saturating_mul(MOST_LINKS))?,
             wide: Vec::with_capacity(alloc, gates)?,
             atoms: Vec::with_capacity(alloc, gates)?,
             is_reached: vec![in alloc; false; gates]?,
             waiting: vec![in alloc; 0; gates / 64 + 1]?,
+            words: 0,
             lowest: 0,
             at_hand: None,
         })
     }
 
-    /// Finds out which gates up to a root stand beside which places. Nothing waits then.
+    /// Finds out which gates up to a root stand beside which places, unless that is known from the time before. Nothing waits
+    /// then.
     pub fn prepare(&mut self, circuit: &Circuit, same: &[u32], root: u32, variables: usize)
         requires { root < circuit_len circuit.now }
     {
         self.clear();
+        if self.variables == variables && self.linked.is_of(circuit, root) {
+            return;
+        }
+        self.linked.keep(circuit, root);
         self.forget(root, variables);
         self.reach(root);
         for passed in 0..root {
@@ -84,16 +96,12 @@ impl Agenda {
         self.wide.clear();
         self.atoms.clear();
         let gates = (root as usize).saturating_add(1);
-        for place in 0..variables.saturating_add(gates) {
-            if place < self.first.len() {
-                self.first[place] = None;
-            }
-        }
-        for number in 0..gates {
-            if number < self.is_reached.len() {
-                self.is_reached[number] = false;
-            }
-        }
+        self.words = (root as usize / 64 + 1).min(self.waiting.len());
+        self.lowest = self.words;
+        let places = variables.saturating_add(gates).min(self.first.len());
+        self.first[..places].fill(None);
+        let reached = gates.min(self.is_reached.len());
+        self.is_reached[..reached].fill(false);
     }
 
     // Marks a gate that is reached from the root.
@@ -175,7 +183,7 @@ impl Agenda {
     fn link(&mut self, place: usize, gate: u32) {
         if place < self.first.len() && self.links.len() < self.links.capacity() {
             let next = self.first[place];
-            self.first[place] = Some(self.links.len());
+            self.first[place] = u32::try_from(self.links.len()).ok();
             self.links.push_reserved(Link { gate, next });
         }
     }
@@ -213,18 +221,14 @@ impl Agenda {
 
     // The first gate beside a place.
     fn link_at(&self, place: usize) -> Option<Link> {
-        match self.first.get(place) {
-            Some(Some(at)) => self.links.get(*at).copied(),
-            _ => None,
-        }
+        let at = self.first.get(place).copied()??;
+        self.links.get(at as usize).copied()
     }
 
     // The next gate beside the same place.
     fn link_after(&self, link: Link) -> Option<Link> {
-        match link.next {
-            Some(at) => self.links.get(at).copied(),
-            None => None,
-        }
+        let at = link.next?;
+        self.links.get(at as usize).copied()
     }
 
     // Adds a gate, but not the one at hand.
@@ -247,7 +251,7 @@ impl Agenda {
     // Adds a gate.
     fn want(&mut self, gate: usize) {
         let word = gate / 64;
-        if word < self.waiting.len() {
+        if word < self.words && word < self.waiting.len() {
             self.waiting[word] |= 1 << (gate % 64);
             self.lowest = self.lowest.min(word);
         }
@@ -256,7 +260,7 @@ impl Agenda {
     /// Takes the first gate that waits; none, where none waits.
     pub(crate) fn take(&mut self) -> Option<u32> {
         self.at_hand = None;
-        for word in self.lowest..self.waiting.len() {
+        for word in self.lowest..self.words.min(self.waiting.len()) {
             let bits = self.waiting[word];
             if bits != 0 {
                 self.waiting[word] = bits & (bits - 1);
@@ -268,7 +272,7 @@ impl Agenda {
                 return u32::try_from(gate).ok();
             }
         }
-        self.lowest = self.waiting.len();
+        self.lowest = self.words;
         None
     }
 
@@ -279,8 +283,10 @@ impl Agenda {
 
     /// Takes all gates away.
     pub(crate) fn clear(&mut self) {
-        self.waiting.fill(0);
-        self.lowest = self.waiting.len();
+        for word in self.lowest..self.words.min(self.waiting.len()) {
+            self.waiting[word] = 0;
+        }
+        self.lowest = self.words;
         self.at_hand = None;
     }
 }

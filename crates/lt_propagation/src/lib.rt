@@ -22,6 +22,7 @@ mod differences;
 mod evaluation;
 mod kleene;
 mod laws;
+mod linked;
 mod narrowing;
 mod points;
 mod propagating;

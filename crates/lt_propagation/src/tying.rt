@@ -69,21 +69,33 @@ fn narrow_both(ranges: &mut [Interval], place: usize, other: usize, agenda: &mut
     narrow(ranges, other, range, agenda)
 }
 
-/// Finds for each gate an earlier one with the same form, or else itself, in reserved room. `latest` has gates by their forms:
-/// what stands there from before is no matter.
+/// Finds for each gate up to the last comparison an earlier one with the same form, or else itself, in reserved room. `latest`
+/// has gates by their forms: what stands there from before is no matter.
 pub fn find_ties(circuit: &Circuit, latest: &mut [u32], same: &mut Vec<u32>)
     requires room { circuit_len circuit.now ≤ vec_capacity same.old }
     requires latest { 0 < length latest.old }
     ensures ties { AreTies circuit.now same.new.items }
-    ensures len { length same.new.items ≡ circuit_len circuit.now }
     ensures room { vec_capacity same.new ≡ vec_capacity same.old }
     ensures latest { length latest.new ≡ length latest.old }
 {
     same.clear();
-    for number in 0..circuit.len() {
+    for number in 0..compared(circuit) {
         let tie = tie_of(circuit, number as u32, latest);
         same.push_reserved(tie);
     }
+}
+
+// How many gates stand up to the last comparison.
+fn compared(circuit: &Circuit) -> usize
+    ensures { result ≤ circuit_len circuit.now }
+{
+    let mut after = 0;
+    for number in 0..circuit.len() {
+        if let Gate::Compare { .. } = circuit.gate(number as u32) {
+            after = number + 1;
+        }
+    }
+    after
 }
 
 // An earlier gate with the same form as a gate, or that gate.

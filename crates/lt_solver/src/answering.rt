@@ -1,11 +1,12 @@
 //! Answers within a budget.
 
-ghost use Rattle.std.specs.Prelude.{◌≡◌, ◌≤◌, IsTrue, ℕ, false, length, slice_index_or, vec_capacity};
+ghost use Rattle.std.specs.Prelude.{◌≡◌, ◌<◌, ◌≤◌, IfErr, IfOk, IsTrue, ℕ, false, length, slice_index_or, vec_capacity};
 ghost use Rattle.lt_bounds.specs.Places.{AreScaled};
 ghost use Rattle.lt_formula.specs.Limits.{most_variables};
 ghost use Rattle.lt_formula.specs.Solution.{IsPointOf, first_solution};
 ghost use Rattle.lt_formula.specs.Translation.{box_of, scales_of, starts_of, values_at};
 ghost use Rattle.lt_need.specs.Need.{need};
+ghost use Rattle.lt_need.specs.RoomView.{room_gates};
 ghost use Rattle.lt_space.specs.CircuitView.{circuit_len};
 ghost use Rattle.lt_space.specs.Formula.{holds};
 ghost use Rattle.lt_space.specs.Scope.{ranges_in};
@@ -21,7 +22,7 @@ use crate::placing::{first_raw, places_of};
 use crate::search::search;
 use lt_bounds::value_at;
 use lt_formula::Scale;
-use lt_need::measure;
+use lt_need::{measure, quick_bound};
 use lt_num::{Interval, Range};
 use lt_propagation::find_ties;
 use lt_space::Space;
@@ -94,10 +95,10 @@ pub(crate) fn answer_within(
     ensures gates { vec_capacity room.new.boxes.refuter.kleenes ≡
         vec_capacity room.old.boxes.refuter.kleenes }
 {
-    let need = measure(space.circuit(), space.root(), scope, ranges, &mut room.need);
-    if need > u128::from(budget) {
-        return Answer::Budget(need);
-    }
+    let steps = match steps_within(space, scope, ranges, budget, &mut room.need) {
+        Ok(steps) => steps,
+        Err(need) => return Answer::Budget(need),
+    };
     write_places(
         scope,
         ranges,
@@ -118,7 +119,7 @@ pub(crate) fn answer_within(
         &room.scales,
         &room.starts,
         &room.need.hard()[..targets.len()],
-        u64::try_from(need).unwrap_or(budget),
+        steps,
         &mut room.current,
         &mut room.stack,
         &mut room.boxes,
@@ -128,6 +129,35 @@ pub(crate) fn answer_within(
     } else {
         Answer::Unsat
     }
+}
+
+// A number of steps that the need is not over, and that is within the budget, or else the need. Afterwards the room has
+// the hard variables.
+fn steps_within(
+    space: &Space,
+    scope: &[bool],
+    ranges: &[Range],
+    budget: u64,
+    room: &mut lt_need::Room,
+) -> Result<u64, u128>
+    requires domains { IsTrue (are_domains ranges.now) }
+    requires room { circuit_len (space_circuit space.now) ≤ room_gates room.old }
+    ensures within { IfOk result (λ _.
+        need (space_formula space.now) scope.now ranges.now ≤ budget) }
+    ensures over { IfErr result (λ n. (budget < n) ×
+        (n ≡ need (space_formula space.now) scope.now ranges.now)) }
+    ensures gates { room_gates room.new ≡ room_gates room.old }
+{
+    if let Some(bound) = quick_bound(space.circuit(), space.root(), scope, ranges, room) {
+        if bound <= u128::from(budget) {
+            return Ok(u64::try_from(bound).unwrap_or(budget));
+        }
+    }
+    let need = measure(space.circuit(), space.root(), scope, ranges, room);
+    if need > u128::from(budget) {
+        return Err(need);
+    }
+    Ok(u64::try_from(need).unwrap_or(budget))
 }
 
 // Writes the scales, the box and the starts of the places of all variables, in reserved room.

@@ -5,9 +5,6 @@ use Rattle.lt_bounds.proofs.Public.{narrower_length}
 use Rattle.lt_bounds.specs.Places.{AreScaled}
 use Rattle.lt_formula.specs.Translation.{box_of, scales_of, starts_of, values_at}
 use Rattle.lt_num.specs.declared.interval.Interval.{Interval}
-use Rattle.lt_need.specs.Need.{need}
-use Rattle.lt_space.specs.Circuit.{formula_at}
-use Rattle.lt_space.specs.CircuitView.{circuit_formulas}
 use Rattle.lt_space.specs.SpaceView.{space_circuit}
 use Rattle.lt_space.specs.declared.circuit.Circuit.{Circuit}
 use Rattle.lt_propagation.specs.Ties.{AreTies}
@@ -16,13 +13,10 @@ use Rattle.lt_solver.specs.inner.Placed.{all_places}
 use Rattle.lt_solver.specs.inner.Points.{first_point}
 use Rattle.lt_solver.proofs.Found.{box_count, found_none, found_some, starts_count}
 use Rattle.lt_solver.proofs.Levels.{levels_most}
-use Rattle.lt_solver.proofs.PlacedLemmas.{all_points, all_scaled}
+use Rattle.lt_solver.proofs.PlacedLemmas.{all_scaled}
 use Rattle.lt_solver.proofs.Scaled.{scaled_narrower}
 use Rattle.lt_solver.proofs.Written.{refilled}
 use Rattle.lt_solver.proofs.answering.answer_within.Goals as goal
-
-pub measure-need-requires-clause-points : goal.measure-need-requires-clause-points
-measure-need-requires-clause-points c = all_points c.args.ranges.now c.requires.domains
 
 pub search-requires : goal.search-requires
 search-requires c =
@@ -43,7 +37,7 @@ search-requires c =
       scaled = all_scaled scope ranges targets down c.requires.domains;
       few = omega (arith, long, c.requires.few);
       starts = many ∙ sym long;
-      ties = subst (λ (xs : List ℕ). AreTies (space_circuit c.args.space.now) xs) (sym c.deref-3.ensures.value) (subst (λ (k : Circuit). AreTies k c.find_ties.new.same.items) c.circuit-2.ensures c.find_ties.ensures.ties);
+      ties = subst (λ (xs : List ℕ). AreTies (space_circuit c.args.space.now) xs) (sym c.deref-3.ensures.value) (subst (λ (k : Circuit). AreTies k c.find_ties.new.same.items) c.circuit.ensures c.find_ties.ensures.ties);
       hard = omega (arith, length-take (length targets) c.hard.result.now, c.hard.ensures.len, c.requires.targets, c.requires.few, long);
       stack = omega (arith, most, ap (λ n. n * 42 * n) long, c.requires.roomy.stack);
       widened = omega (arith, long, c.requires.roomy.wide.widened);
@@ -83,9 +77,8 @@ returns-then-search-clause-tells c =
     let long = narrower_length c.deref_mut-2.result.now new c.search.ensures.narrower in
     let last = c.deref-then-search-3.ensures.value ∙ refilled c.write_places.new.current.len c.write_places.new.current.items new c.write_places.new.current.ok.0 (long ∙ ap length c.deref_mut-2.ensures.value) in
     let starts = c.deref-then-search-2.ensures.value ∙ sym c.deref-5.ensures.value in
-    let scales = c.deref-then-search.ensures.value ∙ sym c.deref-4.ensures.value in
-    let need_is = c.measure-need.ensures.need ∙ (λ i. need (formula_at (circuit_formulas (c.circuit.ensures i)) (c.root.ensures.root i)) c.args.scope.now c.args.ranges.now) in (
-      omega (arith, need_is, c.if-need-from.false, c.from.ensures),
+    let scales = c.deref-then-search.ensures.value ∙ sym c.deref-4.ensures.value in (
+      c.in-Ok.ensures.within,
       found_some c.args.space.now c.args.scope.now c.args.ranges.now c.args.targets.now c.args.down.now c.requires.domains c.requires.points c.deref-4.result.now c.deref_mut-2.result.now c.deref-5.result.now told box begun (first_point c.deref-5.result.now new) c.if-search.ensures.found
           ∙ ap Some (sym (c.write_first.ensures ∙ (λ i. values_at (scales i) (first_point (starts i) (last i))))),
     )
@@ -94,9 +87,8 @@ pub returns-else-search-clause-tells : goal.returns-else-search-clause-tells
 returns-else-search-clause-tells c =
     let box = c.deref_mut-2.ensures.value ∙ c.write_places.ensures.current in
     let begun = c.deref-5.ensures.value ∙ c.write_places.ensures.starts in
-    let told = c.deref-4.ensures.value ∙ c.write_places.ensures.scales in
-    let need_is = c.measure-need.ensures.need ∙ (λ i. need (formula_at (circuit_formulas (c.circuit.ensures i)) (c.root.ensures.root i)) c.args.scope.now c.args.ranges.now) in (
-      omega (arith, need_is, c.if-need-from.false, c.from.ensures),
+    let told = c.deref-4.ensures.value ∙ c.write_places.ensures.scales in (
+      c.in-Ok.ensures.within,
       found_none c.args.space.now c.args.scope.now c.args.ranges.now c.args.targets.now c.args.down.now c.requires.domains c.requires.points c.deref-4.result.now c.deref_mut-2.result.now c.deref-5.result.now told box begun c.if-search.ensures.found,
     )
 
@@ -116,7 +108,7 @@ returns-then-search-clause-roomy c gates roomy = record {
       let same = c.find_ties.ensures.latest ∙ ap length c.deref_mut.ensures.value in
       omega (arith, ap length (refilled c.args.room.now.latest.len c.args.room.now.latest.items c.find_ties.new.latest c.args.room.now.latest.ok.0 same), same, roomy.latest);
   same = omega (arith, roomy.same, c.find_ties.ensures.room);
-  need = omega (arith, roomy.need, c.measure-need.ensures.gates);
+  need = omega (arith, roomy.need, c.steps_within.ensures.gates);
 }
 
 pub returns-else-search-clause-roomy : goal.returns-else-search-clause-roomy
@@ -135,5 +127,5 @@ returns-else-search-clause-roomy c gates roomy = record {
       let same = c.find_ties.ensures.latest ∙ ap length c.deref_mut.ensures.value in
       omega (arith, ap length (refilled c.args.room.now.latest.len c.args.room.now.latest.items c.find_ties.new.latest c.args.room.now.latest.ok.0 same), same, roomy.latest);
   same = omega (arith, roomy.same, c.find_ties.ensures.room);
-  need = omega (arith, roomy.need, c.measure-need.ensures.gates);
+  need = omega (arith, roomy.need, c.steps_within.ensures.gates);
 }
