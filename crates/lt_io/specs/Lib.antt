@@ -17,6 +17,8 @@ pub mod Cuts
 pub mod SinkState
 -- Texts that were written or sent in part.
 pub mod Sending
+-- Texts that are written together.
+pub mod Gathering
 -- A link in memory: what clauses see of it, how long a piece is, and where sending fails.
 pub mod ScriptState
 -- A spawner in memory: the links of a command, and where a call fails.

@@ -1,5 +1,5 @@
 -- What a sink tells of itself.
-use Rattle.std.specs.Prelude.{ℕ, List}
+use Rattle.std.specs.Prelude.{ℕ, Bool, List}
 use Rattle.std.specs.declared.option.Option.{Option}
 
 -- what a sink tells at one moment
@@ -8,3 +8,5 @@ pub record Sink : Type 0 where
   pub written : Option (List ℕ)
   -- how many of its calls failed, up to the greatest number of 64 bits
   pub faults : ℕ
+  -- whether texts may wait for further ones, to be written together with them
+  pub gathers : Bool

@@ -1,5 +1,5 @@
 -- A sink in memory.
-use Rattle.std.specs.Prelude.{ℕ, ◌≡◌, ◌⊎◌, List, Some}
+use Rattle.std.specs.Prelude.{ℕ, ◌≡◌, ◌⊎◌, false, List, Some}
 use Rattle.lt_io.specs.Calls.{IsNextToFail}
 use Rattle.lt_io.specs.Sink.{Sink}
 use Rattle.lt_io.specs.declared.calls.Calls.{Calls}
@@ -15,9 +15,9 @@ pub record SinkState : Type 0 where
   -- the calls of `write`
   pub calls : Calls
 
--- what it tells: everything
+-- what it tells: everything; each text is written at once
 abbrev pub sink_of : SinkState → Sink
-sink_of sink = record { written = Some sink.written; faults = sink.calls.faults }
+sink_of sink = record { written = Some sink.written; faults = sink.calls.faults; gathers = false }
 
 -- the next call fails: it is to fail, or no room is left
 abbrev pub Fails : SinkState → Type 0

@@ -83,6 +83,11 @@ impl MemSink {
 impl Sink for MemSink {
     ghost state = { λ s. sink_of s };
 
+    /// Each text is a call of its own, so which call fails is plain.
+    fn gathers(&self) -> bool {
+        false
+    }
+
     /// Takes as much of the piece as its cut and the room let it, which falls by as much.
     ///
     /// It fails exactly where the call is to fail or no room is left, and then no cut is used.
@@ -93,6 +98,7 @@ impl Sink for MemSink {
         ensures appends { WriteAppends (Some self.old.written) (Some self.new.written) result
             bytes.now }
         ensures cause { HasCause self.old.calls.faults self.new.calls.faults result }
+        ensures still { (sink_of self.new).gathers ≡ (sink_of self.old).gathers }
 
         // Beyond the trait: which calls fail, how much the others take, and what each call leaves.
         ensures fails { IsErr result ↔ Fails self.old }

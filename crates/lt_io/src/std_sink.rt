@@ -1,6 +1,6 @@
 //! A sink over a writer of the system.
 
-ghost use Rattle.std.specs.Prelude.{◌≡◌};
+ghost use Rattle.std.specs.Prelude.{◌≡◌, true};
 
 use crate::sink::{Failed, Sink};
 use std::io::Write;
@@ -26,7 +26,16 @@ impl<W: Write + Drop> StdSink<W> {
 }
 
 impl<W: Write + Drop> Sink for StdSink<W> {
-    ghost state = { λ s. record { written = W.contents s.writer; faults = s.faults } };
+    ghost state = { λ s. record {
+      written = W.contents s.writer;
+      faults = s.faults;
+      gathers = true;
+    } };
+
+    /// Each write is a call of the system, so the fewer there are the better.
+    fn gathers(&self) -> bool {
+        true
+    }
 
     /// An error of the writer is a fault, and so is a write that takes nothing.
     fn write(&mut self, bytes: &[u8]) -> Result<usize, Failed> {

@@ -1,16 +1,9 @@
-use Rattle.std.proofs.Common.{◌≡◌, ◌≤◌, ◌-◌, ◌∙◌, arith, length, drop, take, length-drop}
-use Rattle.std.proofs.lemmas.List.{take_all}
-use Rattle.lt_io.proofs.Texts.{written_more}
+use Rattle.lt_io.proofs.Texts.{all_but_an_end}
 use Rattle.lt_io.proofs.putting.put.Goals as goal
 
-pub loop-written-preserved : goal.loop-written-preserved
-loop-written-preserved g c =
-    let text = c.args.text.now in
-    let all : take (length text - c.loop-written.written) (drop c.loop-written.written text) ≡ drop c.loop-written.written text = take_all _ _ (omega (arith, length-drop c.loop-written.written text)) in
-    let within : c.in_ok-written.field-0 ≤ length (drop c.loop-written.written text) = rw all at c.in_ok-written.ensures.within in
-    let appends = rw all at c.in_ok-written.ensures.appends in
-    record {
-      short = omega (arith, within, length-drop c.loop-written.written text);
-      prefix = written_more (g.S.Sink.state c.args.sink.now).written (g.S.Sink.state c.loop-written.sink).written (g.S.Sink.state c.write.new.self).written text c.loop-written.written c.in_ok-written.field-0 c.loop-written.invariant.prefix appends;
-      calm = c.in_ok-written.ensures.cause.calm ∙ c.loop-written.invariant.calm;
-    }
+pub returns-in-Err : goal.returns-in-Err
+returns-in-Err g c = record {
+  all = tt;
+  prefix = all_but_an_end (g.S.Sink.state c.args.sink.now).written (g.S.Sink.state c.put_counted.new.sink).written c.args.text.now c.in-Err.field-0 c.in-Err.ensures.part c.in-Err.ensures.prefix;
+  cause = record { later = c.in-Err.ensures.cause.later; failed = c.in-Err.ensures.cause.failed; calm = tt };
+}
