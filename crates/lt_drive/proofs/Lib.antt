@@ -6,4 +6,5 @@ pub mod Telling
 pub mod Receipts
 pub mod Drives
 pub mod Wholes
+pub mod Waiting
 mod Unended

@@ -1,5 +1,5 @@
 -- What is told to a core, and what comes of it.
-use Rattle.std.proofs.Common.{◌≡◌, ℕ, ◌+◌, Bool, true, false, List, [], ◌∷◌, ◌++◌, None, Some, refl, ap, sym, subst, ◌∙◌, arith}
+use Rattle.std.proofs.Common.{◌≡◌, ℕ, ◌+◌, Bool, true, false, List, [], ◌∷◌, ◌++◌, None, Some, refl, ap, sym, subst, ◌∙◌, append-nil, arith}
 use Rattle.std.specs.declared.option.Option.{Option}
 use Rattle.lt_rif.specs.declared.end.End.{End}
 use Rattle.lt_rif.specs.declared.end.End.TheVariants as end
@@ -16,7 +16,7 @@ use Rattle.lt_loop.specs.declared.event.Destination.TheVariants as destination
 use Rattle.lt_loop.specs.declared.event.PieceKind.{PieceKind}
 use Rattle.lt_loop.specs.declared.event.PieceKind.TheVariants as piece_kind
 use Rattle.lt_loop.specs.declared.phase.Phase.TheVariants as phase
-use Rattle.lt_drive.specs.Drive.{Begins, Continuation, GivesOut, HasPutOut, IsDriven, IsUnended, calm, continuation_of, failed, fault_line, play_on, failed_step, unheard, unsent, untraced}
+use Rattle.lt_drive.specs.Drive.{Begins, Continuation, GivesOut, HasPutOut, HasPutOutBehind, IsDriven, IsUnended, calm, continuation_of, failed, fault_line, play_on, failed_step, unheard, unsent, untraced}
 use Rattle.lt_drive.specs.Interaction.{Interaction, Received, piece, side, silence}
 use Rattle.lt_io.specs.Outside.{Links, Outside}
 use Rattle.lt_io.specs.Sink.{Sink}
@@ -39,6 +39,15 @@ part_at_side : (w : Who) (d : Destination) (P : Option Who → Bool → Type 0) 
 part_at_side who.Controller d P goes p = subst (λ (x : Destination). P (side_at x) (is_trace x)) goes p
 part_at_side who.Oracle d P goes p = subst (λ (x : Destination). P (side_at x) (is_trace x)) goes p
 
+-- where no step was to be written together with it, none is lost
+nothing_lost : {State : Type 0} (k : Continuation) (r : Received) (fault : Option Who) (whole given : List Piece) (core : CoreState State) (trace : Sink) → GivesOut k r whole fault → HasPutOut k given core → HasPutOutBehind k r fault whole given core trace
+nothing_lost k r fault whole given core trace gives counts = record {
+  lost = [];
+  gives = subst (λ (t : List Piece). GivesOut k r t fault) (sym (append-nil whole)) gives;
+  counts = subst (λ (t : List Piece). HasPutOut k t core) (sym (append-nil given)) counts;
+  none = λ _. refl;
+}
+
 module _ {State : Type 0} (k : Continuation) (old mid : Outside Links) (trace : Sink) (r : Received) (given : List Piece) (w : Who) (s core : CoreState State) where
   counts_line : (text : List ℕ) → HasPutOut k given s → StandsAs s core → HasPutOut k (given ++ piece piece_kind.EndLine text ∷ []) core
   counts_line text counts same = (same.0 ∙ counts.0, omega (arith, same.1, counts.1, step_count-append given (piece piece_kind.EndLine text ∷ [])))
@@ -54,7 +63,9 @@ module _ {State : Type 0} (k : Continuation) (old mid : Outside Links) (trace : 
       let part = fails.2 in
       subst (λ (x : ℕ). IsDriven k old (record mid { trace = trace }) core (drive_end.TraceWriteFailed x)) (sym (fails.0 ∙ ap (λ (x : ℕ). x + 1) counts.1))
       (untraced r (Some w) given piece_kind.EndLine part.0 part.1 (subst (λ (t : List ℕ). GivesOut k r (given ++ piece piece_kind.EndLine t ∷ []) (Some w)) part.2 gives) refl part.3
-      (line_unwritten old mid trace r given (Some w) part.0 interaction part.4 fails.3) (counts_line part.0 counts fails.1))
+      (line_unwritten old mid trace r given (Some w) part.0 interaction part.4 fails.3)
+      (nothing_lost k r (Some w) (given ++ piece piece_kind.EndLine (part.0 ++ part.1) ∷ []) (given ++ piece piece_kind.EndLine part.0 ∷ []) core trace
+      (subst (λ (t : List ℕ). GivesOut k r (given ++ piece piece_kind.EndLine t ∷ []) (Some w)) part.2 gives) (counts_line part.0 counts fails.1)))
 
 -- a piece that is this one has its text
 line_put : (p : Option PieceKind) (text line : List ℕ) → piece_of p text ≡ piece piece_kind.EndLine line ∷ [] → (steps_in p ≡ 0) × (text ≡ line)
@@ -99,7 +110,8 @@ module _ {State : Type 0} where
           d ≡ drive_end.TraceWriteFailed (failed_step kind (s.written + 0)) → IsDriven (continuation_due s e) old mid new d
       untraced_with old mid d goes part is =
           subst (IsDriven (continuation_due s e) old mid new) (sym is)
-          (untraced silence None [] kind part.0 part.1 (calm (begins_with part.0 part.1 part.2)) goes (part.3 goes) (subst (λ (x : Destination). Interaction old mid silence (piece kind part.0 ∷ []) (side_at x) (is_trace x)) goes part.4) (plan, omega (arith, written)))
+          (untraced silence None [] kind part.0 part.1 (calm (begins_with part.0 part.1 part.2)) goes (part.3 goes) (subst (λ (x : Destination). Interaction old mid silence (piece kind part.0 ∷ []) (side_at x) (is_trace x)) goes part.4)
+          (nothing_lost (continuation_due s e) silence None ([] ++ piece kind (part.0 ++ part.1) ∷ []) ([] ++ piece kind part.0 ∷ []) new mid.trace (calm (begins_with part.0 part.1 part.2)) (plan, omega (arith, written))))
 
       -- it could not be sent to its side
       pub unsent_with : (old mid : Outside Links) (trace : Sink) (core : CoreState State) (w : Who) (d : DriveEnd) → destination_of kind ≡ side w → GivesPart kind text old mid →

@@ -9,9 +9,10 @@ use Rattle.lt_loop.specs.Run.{pieces_then}
 use Rattle.lt_loop.specs.Side.{Rest, silent}
 use Rattle.lt_loop.specs.CoreState.{CoreState}
 use Rattle.lt_loop.specs.declared.event.PieceKind.TheVariants as piece_kind
-use Rattle.lt_drive.specs.Drive.{Begins, BeginsUnended, Continuation, GivesOut, HasPutOut, IsDriven, calm, ended, failed, fault_line, play_on, failed_step, unheard, unsent, untraced}
+use Rattle.lt_drive.specs.Drive.{Begins, BeginsUnended, Continuation, GivesOut, HasPutOut, HasPutOutBehind, IsDriven, calm, ended, failed, fault_line, play_on, failed_step, steps, unheard, unsent, untraced}
 use Rattle.lt_drive.specs.Interaction.{Interaction, Received, piece, received_then}
 use Rattle.lt_io.specs.Outside.{Links, Outside}
+use Rattle.lt_io.specs.Sink.{Sink}
 use Rattle.lt_drive.specs.declared.drive_end.DriveEnd.{DriveEnd}
 use Rattle.lt_drive.specs.declared.drive_end.DriveEnd.TheVariants as drive_end
 use Rattle.lt_drive.proofs.Interactions.{both_received, happens_both, received_both, step_count-append}
@@ -64,6 +65,14 @@ module _ (k rest : Continuation) (r : Received) (ps : List Piece) (leads : Leads
     pub counts_both : (qs : List Piece) (core : CoreState State) → HasPutOut rest qs core → HasPutOut k (ps ++ qs) core
     counts_both qs core counts = (counts.0 ∙ leads.counts.0, counts.1 ∙ steps_both qs)
 
+    behind_it : (q : Received) (fault : Option Who) (whole given : List Piece) (core : CoreState State) (trace : Sink) → HasPutOutBehind rest q fault whole given core trace → HasPutOutBehind k (both_received r q) fault (ps ++ whole) (ps ++ given) core trace
+    behind_it q fault whole given core trace h = record {
+      lost = h.lost;
+      gives = subst (λ (t : List Piece). GivesOut k (both_received r q) t fault) (sym (append_assoc ps whole (steps h.lost))) (gives_both q (whole ++ steps h.lost) fault h.gives);
+      counts = subst (λ (t : List Piece). HasPutOut k t core) (sym (append_assoc ps given (steps h.lost))) (counts_both (given ++ steps h.lost) core h.counts);
+      none = h.none;
+    }
+
     -- it was driven up to what is left, and that was driven
     pub driven_both : (old mid new : Outside Links) (core : CoreState State) (d : DriveEnd) → Interaction old mid r ps None false → IsDriven rest mid new core d → IsDriven k old new core d
     driven_both old mid new core _ first (ended q qs e whole interaction counts over) =
@@ -76,4 +85,6 @@ module _ (k rest : Continuation) (r : Received) (ps : List Piece) (leads : Leads
         (subst (λ (t : List Piece). GivesOut k (both_received r q) t fault) (sym (append_assoc ps given (piece kind (prefix ++ back) ∷ []))) (gives_both q (given ++ piece kind (prefix ++ back) ∷ []) fault gives))
         goes some
         (subst (λ (t : List Piece). Interaction old new (both_received r q) t fault true) (sym (append_assoc ps given (piece kind prefix ∷ []))) (happens_both old mid new r q ps (given ++ piece kind prefix ∷ []) fault true first interaction))
-        (subst (λ (t : List Piece). HasPutOut k t core) (sym (append_assoc ps given (piece kind prefix ∷ []))) (counts_both (given ++ piece kind prefix ∷ []) core counts)))
+        (subst (λ (t : List Piece). HasPutOutBehind k (both_received r q) fault t ((ps ++ given) ++ piece kind prefix ∷ []) core new.trace) (sym (append_assoc ps given (piece kind (prefix ++ back) ∷ [])))
+        (subst (λ (t : List Piece). HasPutOutBehind k (both_received r q) fault (ps ++ (given ++ piece kind (prefix ++ back) ∷ [])) t core new.trace) (sym (append_assoc ps given (piece kind prefix ∷ [])))
+        (behind_it q fault (given ++ piece kind (prefix ++ back) ∷ []) (given ++ piece kind prefix ∷ []) core new.trace counts))))

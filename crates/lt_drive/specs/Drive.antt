@@ -1,5 +1,5 @@
 -- How a run is driven between what is outside and its core, and how that ends.
-use Rattle.std.specs.Prelude.{◌≡◌, ◌≢◌, ℕ, ◌+◌, ◌<◌, Bool, true, false, List, [], ◌∷◌, ◌++◌, length, None, Some}
+use Rattle.std.specs.Prelude.{◌≡◌, ◌≢◌, ℕ, ◌+◌, ◌<◌, Bool, true, false, List, [], ◌∷◌, ◌++◌, length, map, None, Some}
 use Rattle.std.specs.declared.option.Option.{Option}
 use Rattle.lt_rif.specs.Trace.{end_number, step_at_hand}
 use Rattle.lt_rif.specs.declared.end.End.{End}
@@ -17,6 +17,7 @@ use Rattle.lt_loop.specs.declared.phase.Phase.TheVariants as phase
 use Rattle.lt_loop.specs.declared.setup.Talk.{Talk}
 use Rattle.lt_loop.specs.declared.setup.Talk.TheVariants as talk
 use Rattle.lt_io.specs.Outside.{Links, Outside}
+use Rattle.lt_io.specs.Sink.{Sink}
 use Rattle.lt_drive.specs.Interaction.{Interaction, Received, piece, received_then, side}
 use Rattle.lt_drive.specs.declared.drive_end.DriveEnd.{DriveEnd}
 use Rattle.lt_drive.specs.declared.drive_end.DriveEnd.TheVariants as drive_end
@@ -86,6 +87,18 @@ failed_step _ steps = step_at_hand steps
 abbrev pub HasPutOut : {State : Type 0} → Continuation → List Piece → CoreState State → Type 0
 HasPutOut k ps new = (new.plan ≡ k.plan) × (new.written ≡ k.written + step_count ps)
 
+-- the steps of these texts
+abbrev pub steps : List (List ℕ) → List Piece
+steps texts = map (λ text. piece piece_kind.Step text) texts
+
+-- Pieces were put out of which the last one could not be written whole, but only as in these others. Behind it the core has
+-- put out further steps, which were to be written together with it and are lost: none at a trace that gathers nothing.
+pub record HasPutOutBehind {State : Type 0} (k : Continuation) (received : Received) (fault : Option Who) (whole given : List Piece) (core : CoreState State) (trace : Sink) : Type 0 where
+  pub lost : List (List ℕ)
+  pub gives : GivesOut k received (whole ++ steps lost) fault
+  pub counts : HasPutOut k (given ++ steps lost) core
+  pub none : trace.gathers ≡ false → lost ≡ []
+
 -- What is left of a run was driven from one moment to another. The core stands there, and this is how it ended. A row a way.
 pub data IsDriven {State : Type 0} (k : Continuation) (old new : Outside Links) (core : CoreState State) : DriveEnd → Type 0 where
   -- the run ended: all pieces of the play on what was received were given out, and it ended as the play does
@@ -94,8 +107,10 @@ pub data IsDriven {State : Type 0} (k : Continuation) (old new : Outside Links) 
   -- a side failed, and the run ended by its fault
   failed : (received : Received) (given : List Piece) (w : Who) → GivesOut k received given (Some w) →
       Interaction old new received given (Some w) false → HasPutOut k given core → core.phase ≡ phase.Over (end.Device w) → IsDriven k old new core (drive_end.Ended (end.Device w))
-  -- a piece could not be written to the trace, but for a prefix that is not all of it; that may be the end line of a side's fault
+  -- a piece could not be written to the trace, but for a prefix that is not all of it; that may be the end line of a side's
+  -- fault, and steps that were to be written together with it are lost
   untraced : (received : Received) (fault : Option Who) (given : List Piece) (kind : PieceKind) (prefix rest : List ℕ) →
       GivesOut k received (given ++ piece kind (prefix ++ rest) ∷ []) fault → destination_of kind ≡ destination.Trace → 0 < length rest →
-      Interaction old new received (given ++ piece kind prefix ∷ []) fault true → HasPutOut k (given ++ piece kind prefix ∷ []) core →
+      Interaction old new received (given ++ piece kind prefix ∷ []) fault true →
+      HasPutOutBehind k received fault (given ++ piece kind (prefix ++ rest) ∷ []) (given ++ piece kind prefix ∷ []) core new.trace →
       IsDriven k old new core (drive_end.TraceWriteFailed (failed_step kind (k.written + step_count given)))

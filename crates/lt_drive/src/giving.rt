@@ -1,22 +1,56 @@
 //! Pieces on their way out, and what ends a run that can't go on.
 
-ghost use Rattle.std.specs.Prelude.{◌≡◌, ◌≢◌, ◌+◌, ◌≤◌, ℕ, [], ◌∷◌, true, false, None, OnOk, OnErr};
+ghost use Rattle.std.specs.Prelude.{◌≡◌, ◌≢◌, ◌+◌, ◌≤◌, ℕ, [], ◌∷◌, true, false, None, Some, OnOk, OnErr};
 ghost use Rattle.lt_loop.specs.CoreView.{last_text, core_state};
-ghost use Rattle.lt_loop.specs.Event.{listens};
+ghost use Rattle.lt_loop.specs.CoreState.{CoreState};
+ghost use Rattle.lt_loop.specs.Event.{Told, listens};
 ghost use Rattle.lt_loop.specs.Machine.{most_steps};
 ghost use Rattle.lt_loop.specs.Play.{destination_of, steps_of};
+ghost use Rattle.lt_loop.specs.Run.{Answers};
 ghost use Rattle.lt_drive.specs.Drive.{failed_step};
 ghost use Rattle.lt_drive.specs.Interaction.{Interaction, piece, side, silence};
 ghost use Rattle.lt_io.specs.Outside.{linked};
-ghost use Rattle.lt_drive.specs.inner.Steps.{Fails, GivesPart, StandsAs, fault_text};
+ghost use Rattle.lt_drive.specs.inner.Steps.{Fails, GivesPart, IfGoes, Proceeds, StandsAs, answer_of, continuation_due, fault_text};
 
 use crate::drive_end::DriveEnd;
+use crate::progress::Progress;
 use lt_io::{Failed, Link, Sink, put};
 use lt_loop::{Core, Destination, Emits, Event, Machine, Phase, PieceKind, faults_are_cuts};
 use lt_rif::{End, Who, step_at_hand};
 
+// Gives what a core answered to where it goes, if a piece was put out.
+pub(crate) fn give_out<M: Machine, C: Link, O: Link, S: Sink>(
+    emits: Emits,
+    core: &mut Core<M>,
+    controller: &mut C,
+    oracle: &mut O,
+    trace: &mut S,
+) -> Progress
+    requires { (w : Who) (kind : PieceKind) → emits.piece ≡ Some kind →
+        destination_of kind ≡ side w → listens (core_state core.old) w ≡ true }
+    ensures proceeds { (s : CoreState M.State) (e : Told) →
+        Answers s e (answer_of emits (last_text core.old)) (core_state core.old) →
+        Proceeds (continuation_due s e)
+        (linked (C.state controller.old) (O.state oracle.old) (S.state trace.old))
+        (linked (C.state controller.new) (O.state oracle.new) (S.state trace.new))
+        (core_state core.new) result }
+    ensures goes { IfGoes result (core.new ≡ core.old) }
+    ensures no_controller { ((kind : PieceKind) → emits.piece ≡ Some kind →
+        destination_of kind ≢ Destination.Controller) → controller.new ≡ controller.old }
+    ensures no_oracle { ((kind : PieceKind) → emits.piece ≡ Some kind →
+        destination_of kind ≢ Destination.Oracle) → oracle.new ≡ oracle.old }
+{
+    let Some(kind) = emits.piece else {
+        return Progress::Goes(emits.wants);
+    };
+    match give(kind, core.text(), controller, oracle, trace) {
+        Ok(()) => Progress::Goes(emits.wants),
+        Err(Failed) => Progress::Over(break_off(kind, core, trace)),
+    }
+}
+
 // Gives a piece to where it goes.
-pub(crate) fn give<C: Link, O: Link, S: Sink>(
+fn give<C: Link, O: Link, S: Sink>(
     kind: PieceKind,
     text: &[u8],
     controller: &mut C,
@@ -43,11 +77,7 @@ pub(crate) fn give<C: Link, O: Link, S: Sink>(
 
 // Ends the driving where a piece that was put out could not be given to where it goes: by the fault of that side, or
 // of the trace.
-pub(crate) fn break_off<M: Machine, S: Sink>(
-    kind: PieceKind,
-    core: &mut Core<M>,
-    trace: &mut S,
-) -> DriveEnd
+fn break_off<M: Machine, S: Sink>(kind: PieceKind, core: &mut Core<M>, trace: &mut S) -> DriveEnd
     requires { (w : Who) → destination_of kind ≡ side w → listens (core_state core.old) w ≡ true }
     ensures side { (w : Who) → destination_of kind ≡ side w → Fails (core_state core.old) w
         (S.state trace.old) (S.state trace.new) (core_state core.new) result }

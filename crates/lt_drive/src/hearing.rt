@@ -9,7 +9,7 @@ ghost use Rattle.lt_drive.specs.Drive.{continuation_of, is_told};
 ghost use Rattle.lt_io.specs.Outside.{linked};
 ghost use Rattle.lt_drive.specs.inner.Steps.{Falls, Proceeds, continuation_due};
 
-use crate::giving::{break_off, fail, give};
+use crate::giving::{fail, give_out};
 use crate::progress::Progress;
 use lt_io::{Failed, Link, Sink};
 use lt_loop::{Core, Event, Machine, Wants};
@@ -102,11 +102,5 @@ pub(crate) fn tell<M: Machine, C: Link, O: Link, S: Sink>(
     ensures no_oracle { (core_state core.old).plan.has_oracle ≡ false → oracle.new ≡ oracle.old }
 {
     let emits = core.event(event);
-    let Some(kind) = emits.piece else {
-        return Progress::Goes(emits.wants);
-    };
-    match give(kind, core.text(), controller, oracle, trace) {
-        Ok(()) => Progress::Goes(emits.wants),
-        Err(Failed) => Progress::Over(break_off(kind, core, trace)),
-    }
+    give_out(emits, core, controller, oracle, trace)
 }

@@ -11,6 +11,7 @@ mod giving;
 mod hearing;
 mod laws;
 mod progress;
+mod turns;
 
 pub use drive_end::DriveEnd;
 pub use driving::drive;

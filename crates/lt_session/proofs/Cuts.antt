@@ -17,12 +17,13 @@ use Rattle.lt_loop.specs.declared.event.PieceKind.TheVariants as piece_kind
 use Rattle.lt_drive.specs.Drive.{Begins, Continuation, GivesOut, calm, failed_step, fault_line, play_on, unheard, unsent}
 use Rattle.lt_drive.specs.Interaction.{Received, bytes_to, piece, received_then, side, text_to}
 use Rattle.lt_drive.specs.Told.{closed}
+use Rattle.lt_io.specs.Sink.{Sink}
 use Rattle.lt_drive.specs.declared.drive_end.DriveEnd.{DriveEnd}
 use Rattle.lt_drive.specs.declared.drive_end.DriveEnd.TheVariants as drive_end
 use Rattle.lt_session.specs.Cut as cut
 use Rattle.lt_session.specs.Cut.{CutSessionsAreFronts, IsCutBy, IsCutText, NeverBreaks}
 use Rattle.lt_session.specs.Sent as sent
-use Rattle.lt_session.specs.Sent.{AreGiven, SidesGetTheirPieces}
+use Rattle.lt_session.specs.Sent.{AreGiven, IsCounted, SidesGetTheirPieces}
 use Rattle.lt_session.specs.Told.{IsFirstOf}
 
 -- two lists that end in one more are the same before it
@@ -161,16 +162,18 @@ module _ (k : Continuation) (received : Received) (c o : List ℕ) (written : �
         let steps : step_count before ≡ step_count ps = ap step_count same.0 ∙ steps_both ps (piece other part ∷ []) ∙ omega (arith, none) in
         line_cut w ps (pieces_then (whole ∷ []) front.0) (front.1 ∙ both_then ps (whole ∷ []) front.0) same.1 (ap (text_to destination.Trace) same.0 ∙ text_aside ps other w part goes_aside) steps
 
-  cut_by : (ps : List Piece) (fault : Option Who) (how : DriveEnd) → AreGiven k received ps fault how → written ≡ k.written + step_count ps → IsCutBy how → IsCutText k play (text_to destination.Trace ps) written how
-  cut_by ps _ _ (sent.whole _ e whole) counts cuts =
+  cut_by : (trace : Sink) (ps : List Piece) (fault : Option Who) (how : DriveEnd) → AreGiven k received ps fault how → IsCounted k ps how written trace → IsCutBy how → IsCutText k play (text_to destination.Trace ps) written how
+  cut_by trace ps _ _ (sent.whole _ e whole) counts cuts =
       let by = side_cut (drive_end.Ended e) e cuts refl in
       let all = whole (closed of_c.0) (closed of_o.0) in
       absurd (never (closed c) (closed o) by.0 (ap (λ (p : Play). p.stop) (sym play_is ∙ all) ∙ ap ends by.1))
-  cut_by ps _ _ (sent.failed _ w gives) counts cuts = side_cuts ps (Some w) w gives refl counts
-  cut_by _ fault _ (sent.untraced before _ kind prefix back gives goes some) counts cuts = trace_cuts before kind prefix back goes some fault gives
+  cut_by trace ps _ _ (sent.failed _ w gives) counts cuts =
+      let steps : written ≡ k.written + step_count ps = let none = counts.ended (end.Device w) refl in let all = counts.counts in omega (arith, all, none) in
+      side_cuts ps (Some w) w gives refl steps
+  cut_by trace _ fault _ (sent.untraced before _ kind prefix back gives goes some) counts cuts = trace_cuts before kind prefix back goes some fault gives
 
 -- however it was cut
 pub fronts : {State : Type 0} → SidesGetTheirPieces State → CutSessionsAreFronts State
 fronts law k controller oracle old new core how c o never plays cuts gives_c gives_o =
     let all = law k controller oracle old new core how plays in
-    (text_to destination.Trace all.1, all.8, cut_by k all.0 c o core.written never (all.6 c gives_c) (all.7 o gives_o) all.1 all.2 how all.5 all.12 cuts)
+    (text_to destination.Trace all.1, all.8, cut_by k all.0 c o core.written never (all.6 c gives_c) (all.7 o gives_o) new.trace all.1 all.2 how all.5 all.12 cuts)

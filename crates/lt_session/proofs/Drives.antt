@@ -31,7 +31,7 @@ module _ {State : Type 0} (k : Continuation) (old new : Outside Links) (core : C
   pub plan_kept : (how : DriveEnd) → IsDriven k old new core how → core.plan ≡ k.plan
   plan_kept _ (drive.ended received ps e is_whole interaction counts over) = counts.0
   plan_kept _ (drive.failed received given w gives interaction counts over) = counts.0
-  plan_kept _ (drive.untraced received fault given kind prefix rest gives goes is_part interaction counts) = counts.0
+  plan_kept _ (drive.untraced received fault given kind prefix rest gives goes is_part interaction counts) = counts.counts.0
 
   -- a run that no fault of a side ended counted none of them
   pub ended_calm : (how : DriveEnd) (e : End) → IsDriven k old new core how → how ≡ drive_end.Ended e → ((w : Who) → e ≢ end.Device w) → (w : Who) → faults_of (side w) new ≡ faults_of (side w) old

@@ -1,9 +1,10 @@
 -- What the two sides of a run were sent.
-use Rattle.std.specs.Prelude.{◌≡◌, ℕ, ◌<◌, ◌+◌, List, [], ◌∷◌, ◌++◌, length, None, Some, MatchBool}
+use Rattle.std.specs.Prelude.{◌≡◌, ℕ, ◌<◌, ◌+◌, false, List, [], ◌∷◌, ◌++◌, length, None, Some, MatchBool}
 use Rattle.std.specs.Io.KnownBytes.{Appends}
 use Rattle.std.specs.declared.option.Option.{Option}
 use Rattle.lt_io.specs.Causes.{WhereTold}
 use Rattle.lt_io.specs.Programs.{Closed, Programs}
+use Rattle.lt_io.specs.Sink.{Sink}
 use Rattle.lt_drive.specs.Interaction.{Received, is_fault_of, piece, text_to}
 use Rattle.lt_loop.specs.InputSource.{InputSource, from_program}
 use Rattle.lt_session.specs.Session.{IsPlayed}
@@ -50,9 +51,18 @@ AreSent controller oracle ps m n old new =
 abbrev pub IsFaulty : Who → Option Who → ℕ → Type 0
 IsFaulty w fault count = MatchBool (is_fault_of w fault) (0 < count) (count ≡ 0)
 
+-- The core counts the steps among the pieces that were given out. Where a write to a trace failed that gathers texts, it may
+-- have counted more of them, which were lost.
+pub record IsCounted (k : Continuation) (ps : List Piece) (how : DriveEnd) (written : ℕ) (trace : Sink) : Type 0 where
+  pub lost : ℕ
+  pub counts : written ≡ k.written + step_count ps + lost
+  pub prompt : trace.gathers ≡ false → lost ≡ 0
+  pub ended : (e : End) → how ≡ drive_end.Ended e → lost ≡ 0
+
 -- However a run ended that was driven, the trace and the two sides got what is for them of the same pieces, which are those
 -- of what was received: of each side, where it is told what comes of it, the first of that, and all of it where its end was
--- received. A side's link has faults exactly where it was this side that failed. The core counts the steps among the pieces.
+-- received. A side's link has faults exactly where it was this side that failed. The core counts the steps among the pieces, and
+-- those that were lost.
 abbrev pub SidesGetTheirPieces : Type 0 → Type 0
 SidesGetTheirPieces State =
     (k : Continuation) (controller oracle : InputSource) (old new : Outside Programs) (core : CoreState State) (how : DriveEnd) → IsPlayed k controller oracle old new core (session_end.Driven how) →
@@ -63,4 +73,4 @@ SidesGetTheirPieces State =
     × Appends old.trace.written new.trace.written (text_to destination.Trace ps)
     × IsFaulty who.Controller fault m × IsFaulty who.Oracle fault n
     × AreSent controller oracle ps m n old.inputs new.inputs
-    × (core.written ≡ k.written + step_count ps)
+    × IsCounted k ps how core.written new.trace

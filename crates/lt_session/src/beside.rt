@@ -45,13 +45,13 @@ pub(crate) fn play_beside<M: Machine, C: Link, P: Spawner, S: Sink>(
     let Some(command) = oracle else {
         let mut nobody = Recorded::new(&[]);
         return Beside {
-            played: SessionEnd::Driven(drive(core, controller, &mut nobody, trace)),
+            played: SessionEnd::Driven(drive(alloc, core, controller, &mut nobody, trace)),
             left: None,
         };
     };
     match spawner.start(alloc, command) {
         Ok(mut link) => {
-            let driven = drive(core, controller, &mut link, trace);
+            let driven = drive(alloc, core, controller, &mut link, trace);
             Beside {
                 played: SessionEnd::Driven(driven),
                 left: Some(link),

@@ -111,7 +111,7 @@ fn play(alloc: Global, number: u64, scenario: Scenario) -> Option<Ran>
     let Ok(mut core) = Core::make(alloc, player, setup(number)) else {
         return None;
     };
-    play_core(&mut core, &mut plant)
+    play_core(alloc, &mut core, &mut plant)
 }
 
 // What the core of the run is told.
@@ -136,14 +136,14 @@ fn setup(number: u64) -> Setup
 }
 
 // Plays the run of a core against a plant. None where a side failed.
-fn play_core(core: &mut Core<Player>, plant: &mut Plant) -> Option<Ran>
+fn play_core(alloc: Global, core: &mut Core<Player>, plant: &mut Plant) -> Option<Ran>
     requires { WantsTell (core_state core.old) Wants.Turn }
     ensures { (n : ℕ) (s : Scene) → IsContinuationOf n s (continuation_of (core_state core.old)) →
         plant_state plant.old ≡ fresh n →
         IfSome result (λ ran. HasRun n s ran.end ran.steps ran.sum) }
 {
     let mut nobody = Recorded::new(&[]);
-    match drive(core, plant, &mut nobody, &mut Nowhere) {
+    match drive(alloc, core, plant, &mut nobody, &mut Nowhere) {
         DriveEnd::Ended(end) => unbroken(end, core.steps(), plant.sum()),
         DriveEnd::TraceWriteFailed { .. } => unreachable!(),
     }

@@ -1,8 +1,10 @@
 -- How a run is driven step by step.
-use Rattle.std.specs.Prelude.{◌≡◌, ℕ, ◌<◌, Bool, true, false, List, [], ◌∷◌, ◌++◌, length, None, Some}
+use Rattle.std.specs.Prelude.{◌≡◌, ℕ, ◌-◌, ◌<◌, Bool, true, false, List, [], ◌∷◌, ◌++◌, length, None, Some}
+use Rattle.std.specs.List.{concat}
 use Rattle.std.specs.Io.KnownBytes.{Appends}
 use Rattle.std.specs.declared.option.Option.{Option}
 use Rattle.lt_io.specs.Causes.{Rose}
+use Rattle.lt_io.specs.Gathering.{AppendsUpTo}
 use Rattle.lt_io.specs.Sending.{AppendsProperPrefix}
 use Rattle.lt_rif.specs.Trace.{end_number, step_at_hand}
 use Rattle.lt_rif.specs.declared.end.End.TheVariants as end
@@ -11,15 +13,16 @@ use Rattle.lt_rif.specs.declared.end.Who.TheVariants as who
 use Rattle.lt_loop.specs.Event.{Told, play_due, taken_of, WantsTell}
 use Rattle.lt_loop.specs.Plan.{closing_text}
 use Rattle.lt_loop.specs.Play.{Piece, destination_of}
-use Rattle.lt_loop.specs.Run.{pieces_then}
+use Rattle.lt_loop.specs.Run.{Answer, pieces_then}
 use Rattle.lt_loop.specs.Side.{Rest}
 use Rattle.lt_loop.specs.CoreState.{CoreState, resume}
 use Rattle.lt_loop.specs.Work.{work_left}
 use Rattle.lt_loop.specs.declared.event.Destination.{Destination}
 use Rattle.lt_loop.specs.declared.event.Destination.TheVariants as destination
+use Rattle.lt_loop.specs.declared.event.Emits.{Emits}
 use Rattle.lt_loop.specs.declared.event.PieceKind.{PieceKind}
 use Rattle.lt_loop.specs.declared.phase.Phase.TheVariants as phase
-use Rattle.lt_drive.specs.Drive.{Continuation, HasPutOut, IsDriven, play_on}
+use Rattle.lt_drive.specs.Drive.{Continuation, HasPutOut, IsDriven, play_on, steps}
 use Rattle.lt_drive.specs.Interaction.{Interaction, Received, piece, silence}
 use Rattle.lt_io.specs.Outside.{Links, Outside}
 use Rattle.lt_io.specs.Sink.{Sink}
@@ -40,6 +43,44 @@ pub record Goes {State : Type 0} (k : Continuation) (old new : Outside Links) (c
   pub interaction : Interaction old new received pieces None false
   pub counts : HasPutOut k pieces core
   pub way : (c o : Rest) → play_on k received c o ≡ pieces_then pieces (resume core c o)
+
+-- what a core answered, whose text this is
+abbrev pub answer_of : Emits → List ℕ → Answer
+answer_of emits text = record { taken = emits.taken; piece = emits.piece; text = text; wanted = emits.wants }
+
+-- What is left of a run was driven up to where a core stands, but for these steps, which wait to be written: what was given
+-- out, these, and what the core will put out, is the play. At a trace that gathers nothing none waits.
+pub record Waits {State : Type 0} (k : Continuation) (old new : Outside Links) (core : CoreState State) (waiting : List (List ℕ)) : Type 0 where
+  pub received : Received
+  pub given : List Piece
+  pub interaction : Interaction old new received given None false
+  pub counts : HasPutOut k (given ++ steps waiting) core
+  pub way : (c o : Rest) → play_on k received c o ≡ pieces_then (given ++ steps waiting) (resume core c o)
+  pub gathers : new.trace.gathers ≡ false → waiting ≡ []
+
+-- these steps were written whole
+pub record IsWritten (waiting : List (List ℕ)) (old new : Sink) : Type 0 where
+  pub all : Appends old.written new.written (concat waiting)
+  pub calm : new.faults ≡ old.faults
+  pub still : new.gathers ≡ old.gathers
+
+-- One of these steps, which are the last of so many, was not written whole, and ended the driving.
+pub record IsLost (waiting : List (List ℕ)) (count : ℕ) (old new : Sink) (driven : DriveEnd) : Type 0 where
+  pub behind : ℕ
+  pub part : AppendsUpTo old.written new.written waiting behind
+  pub number : driven ≡ drive_end.TraceWriteFailed (count - behind)
+  pub rose : Rose old.faults new.faults
+  pub still : new.gathers ≡ old.gathers
+
+-- where it goes on, this holds
+abbrev pub IfGoes : Progress → Type 0 → Type 0
+IfGoes (progress.Goes w) P = P
+IfGoes (progress.Over d) P = Unit {0}
+
+-- it goes on, where these steps wait, or is over
+abbrev pub GoesOn : {State : Type 0} → Continuation → Outside Links → Outside Links → CoreState State → List (List ℕ) → Progress → Type 0
+GoesOn k old new core waiting (progress.Goes w) = Waits k old new core waiting × WantsTell core w
+GoesOn k old new core waiting (progress.Over d) = IsDriven k old new core d
 
 -- it goes on, or is over
 abbrev pub Proceeds : {State : Type 0} → Continuation → Outside Links → Outside Links → CoreState State → Progress → Type 0

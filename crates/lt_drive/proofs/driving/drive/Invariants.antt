@@ -6,16 +6,16 @@ use Rattle.lt_loop.specs.Stands.{has_controller}
 use Rattle.lt_loop.specs.Work.{work_left}
 use Rattle.lt_drive.specs.Drive.{continuation_of, is_told}
 use Rattle.lt_io.specs.Outside.{linked}
-use Rattle.lt_drive.specs.inner.Steps.{Goes}
+use Rattle.lt_drive.specs.inner.Steps.{Waits}
 use Rattle.lt_drive.proofs.driving.drive.Given as goal
 
--- what was given out, and what the core will put out, is the play
+-- what was given out, the steps that wait, and what the core will put out, is the play
 abbrev pub invariant-loop-next : goal.invariant-loop-next
 invariant-loop-next g l = record {
-  goes : Goes (continuation_of (core_state {b = g.M.Machine} l.fn.core))
+  waits : Waits (continuation_of (core_state {b = g.M.Machine} l.fn.core))
       (linked (g.C.Link.state l.fn.controller) (g.O.Link.state l.fn.oracle) (g.S.Sink.state l.fn.trace))
       (linked (g.C.Link.state l.controller) (g.O.Link.state l.oracle) (g.S.Sink.state l.trace))
-      (core_state {b = g.M.Machine} l.core);
+      (core_state {b = g.M.Machine} l.core) l.waiting;
   wants : WantsTell (core_state {b = g.M.Machine} l.core) l.wants;
   no_controller : has_controller (core_state {b = g.M.Machine} l.fn.core).plan.controller ≡ false → l.controller ≡ l.fn.controller;
   untold : is_told (core_state {b = g.M.Machine} l.fn.core).plan.controller ≡ false → Keeps (g.C.Link.state l.fn.controller).sent (g.C.Link.state l.controller).sent;
