@@ -71,22 +71,23 @@ impl Agenda {
         })
     }
 
-    /// Finds out which gates up to a root stand beside which places, unless that is known from the time before. Nothing waits
-    /// then.
-    pub fn prepare(&mut self, circuit: &Circuit, same: &[u32], root: u32, variables: usize)
+    /// Finds out which gates up to a root stand beside which places, unless that is known from the time before, and answers
+    /// whether it was. Nothing waits then.
+    pub fn prepare(&mut self, circuit: &Circuit, same: &[u32], root: u32, variables: usize) -> bool
         requires { root < circuit_len circuit.now }
     {
         self.clear();
         if self.variables == variables && self.linked.is_of(circuit, root) {
-            return;
+            return true;
         }
-        self.linked.keep(circuit, root);
+        let _ = self.linked.keep(circuit, root);
         self.forget(root, variables);
         self.reach(root);
         for passed in 0..root {
             self.enter(circuit, same, root - passed);
         }
         self.enter(circuit, same, 0);
+        false
     }
 
     // Forgets what stood beside the places of variables and of gates up to a root.

@@ -43,11 +43,12 @@ impl Propagator {
     }
 
     /// Finds out which gates up to a root stand beside which places, and whether some variable has steps. Nothing waits then.
-    pub fn prepare(&mut self, circuit: &Circuit, same: &[u32], root: u32, scales: &[Scale])
+    /// The answer is whether the circuit is that of the time before.
+    pub fn prepare(&mut self, circuit: &Circuit, same: &[u32], root: u32, scales: &[Scale]) -> bool
         requires { root < circuit_len circuit.now }
     {
-        self.agenda.prepare(circuit, same, root, scales.len());
         self.has_steps = have_steps(scales);
+        self.agenda.prepare(circuit, same, root, scales.len())
     }
 
     /// Notes what says something of a box of whose gates nothing is known.

@@ -28,3 +28,5 @@ mod Written
 mod Found
 -- What answers say of points.
 mod Tellings
+-- Boxes that are recalled.
+mod Recalls

@@ -6,4 +6,6 @@ pub mod Levels
 pub mod Classified
 pub mod Split
 pub mod Placed
+pub mod Propagated
+pub mod Begun
 pub mod Roomy

@@ -109,7 +109,8 @@ pub(crate) fn answer_within(
         &mut room.starts,
     );
     find_ties(space.circuit(), &mut room.latest, &mut room.same);
-    room.boxes
+    room.boxes.recall.is_due = room
+        .boxes
         .refuter
         .propagator
         .prepare(space.circuit(), &room.same, space.root(), &room.scales);

@@ -15,6 +15,7 @@ ghost use Rattle.lt_solver.specs.inner.Points.{AreFixed, first_point};
 ghost use Rattle.lt_solver.specs.inner.Classified.{Classifies, passes};
 
 use crate::diving::dive;
+use crate::recalling::Recall;
 use crate::widening::{copy_box, propagate_box, widen, write_values};
 use lt_formula::{Memory, Scale};
 use lt_num::Interval;
@@ -51,6 +52,9 @@ pub(crate) struct BoxRoom {
 
     /// Room for a dive and for the refuter.
     pub(crate) refuter: lt_propagation::Room,
+
+    /// The box that the last search began with.
+    pub(crate) recall: Recall,
 }
 
 impl BoxRoom {
@@ -77,6 +81,7 @@ impl BoxRoom {
                 places: Vec::with_capacity(alloc, MOST_BOXES)?,
                 propagator: Propagator::make(alloc, variables, gates)?,
             },
+            recall: Recall::make(alloc, variables, gates)?,
         })
     }
 }
@@ -127,6 +132,7 @@ pub(crate) fn classify(
         current,
         &mut room.point,
         &mut room.refuter,
+        &mut room.recall,
     )
 }
 
@@ -142,6 +148,7 @@ fn classify_widened(
     current: &mut [Interval],
     point: &mut Vec<Interval>,
     room: &mut lt_propagation::Room,
+    recall: &mut Recall,
 ) -> BoxStatus
     requires ties { AreTies (space_circuit space.now) same.now }
     requires scaled { AreScaled scales.now current.old }
@@ -160,7 +167,15 @@ fn classify_widened(
     ensures copy { vec_capacity room.old.current ≤ vec_capacity room.new.current }
     ensures kleenes { vec_capacity room.new.kleenes ≡ vec_capacity room.old.kleenes }
 {
-    if !propagate_box(space, same, scales, current, widened, &mut room.propagator) {
+    if !propagate_box(
+        space,
+        same,
+        scales,
+        current,
+        widened,
+        &mut room.propagator,
+        recall,
+    ) {
         return BoxStatus::Infeasible;
     }
     match first_open(current) {

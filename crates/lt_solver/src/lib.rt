@@ -17,6 +17,7 @@ mod classifying;
 mod diving;
 mod laws;
 mod placing;
+mod recalling;
 mod search;
 mod splitting;
 mod widening;

@@ -5,7 +5,7 @@ ghost use Rattle.lt_bounds.specs.Places.{AreScaled, values_in_box};
 ghost use Rattle.lt_bounds.specs.Ranges.{IsNarrower};
 ghost use Rattle.lt_formula.specs.Box.{IsInBox};
 ghost use Rattle.lt_formula.specs.Translation.{values_at};
-ghost use Rattle.lt_space.specs.CircuitView.{circuit_len};
+ghost use Rattle.lt_space.specs.CircuitView.{circuit_formulas, circuit_len};
 ghost use Rattle.lt_space.specs.Evaluated.{Where};
 ghost use Rattle.lt_space.specs.SpaceView.{space_circuit, space_decimals, space_formula, space_root};
 ghost use Rattle.lt_propagation.specs.Domains.{AreDomains};
@@ -13,7 +13,9 @@ ghost use Rattle.lt_propagation.specs.Ties.{AreTies};
 ghost use Rattle.lt_propagation.specs.Points.{AreScales, wide_at};
 ghost use Rattle.lt_solver.specs.inner.Dive.{Covers};
 ghost use Rattle.lt_solver.specs.inner.Classified.{passes};
+ghost use Rattle.lt_solver.specs.inner.Propagated.{IsPropagated};
 
+use crate::recalling::Recall;
 use lt_bounds::{places_within, values_within};
 use lt_formula::Scale;
 use lt_num::Interval;
@@ -21,8 +23,41 @@ use lt_propagation::{Propagator, demand_truth, propagate};
 use lt_space::Space;
 
 /// Narrows a box by what the formula says, and says whether it may have solutions. `widened` has the values of the box and any
-/// signs of the gates behind them, and becomes the narrowed values with narrowed signs.
+/// signs of the gates behind them, and becomes the narrowed values with narrowed signs. The box that a search begins with is
+/// recalled from the search before, if that began with the same.
 pub(crate) fn propagate_box(
+    space: &Space,
+    same: &[u32],
+    scales: &[Scale],
+    current: &mut [Interval],
+    widened: &mut [Interval],
+    propagator: &mut Propagator,
+    recall: &mut Recall,
+) -> bool
+    requires ties { AreTies (space_circuit space.now) same.now }
+    requires scaled { AreScaled scales.now current.old }
+    requires widened { widened.old ≡ values_in_box scales.now current.old ++
+        replicate (circuit_len (space_circuit space.now)) (record { low = negsuc 0; high = pos 1 }) }
+    ensures { IsPropagated (space_decimals space.now) (circuit_formulas (space_circuit space.now))
+        (space_root space.now) scales.now current.old result current.new widened.new }
+{
+    if !recall.is_due {
+        return propagate_anew(space, same, scales, current, widened, propagator);
+    }
+    recall.is_due = false;
+    if let Some(is_alive) = recall.tell(space, scales, current, widened) {
+        return is_alive;
+    }
+    let is_begun = recall.begin(space, scales, current);
+    let is_alive = propagate_anew(space, same, scales, current, widened, propagator);
+    if is_begun {
+        recall.end(is_alive, current, widened);
+    }
+    is_alive
+}
+
+// The same, with nothing to recall.
+fn propagate_anew(
     space: &Space,
     same: &[u32],
     scales: &[Scale],

@@ -1,4 +1,7 @@
+use Rattle.std.proofs.Common.{arith}
 use Rattle.lt_bounds.proofs.Public.{narrower_more, narrower_some}
+use Rattle.lt_space.specs.SpaceView.{space_circuit}
+use Rattle.lt_propagation.proofs.Gates.{formulas_length}
 use Rattle.lt_solver.proofs.Firsts.{narrow_solution}
 use Rattle.lt_solver.specs.inner.Classified.{passes}
 use Rattle.lt_solver.proofs.Classes.{none_left, seen_before}
@@ -35,3 +38,6 @@ returns-in-Some-clause-sees c =
 
 pub returns-in-Some-clause-narrower : goal.returns-in-Some-clause-narrower
 returns-in-Some-clause-narrower c = narrower_more c.args.current.now c.propagate_box.new.current c.classify_propagated.new.current c.propagate_box.ensures.narrower c.classify_propagated.ensures.narrower
+
+pub classify_propagated-requires-clause-long : goal.classify_propagated-requires-clause-long
+classify_propagated-requires-clause-long c = omega (arith, c.propagate_box.ensures.long, formulas_length (space_circuit c.args.space.now))
