@@ -151,11 +151,23 @@ pub enum Track {
 
 /// Terms to choose from, each with its weight.
 #[cycle(tracks)]
-#[derive(Drop)]
 pub enum Parts {
     /// None.
     End,
 
     /// One, and then the others.
     Part(u32, Box<Track>, Box<Parts>),
+}
+
+// Alternatives hang one behind the other, which a loop takes apart: how many there are takes no stack.
+impl Drop for Parts {
+    #[cycle(tracks)]
+    fn drop(mut self) {
+        loop {
+            match self {
+                Parts::Part(_, _, rest) => self = Box::into_inner(rest),
+                Parts::End => return,
+            }
+        }
+    }
 }
