@@ -638,6 +638,65 @@ class Outputs(Fault):
                     trace.seek(0)
                     self.check(found._replace(output=trace.read()), *end, self.TRACE[:most])
 
+    def steady(self):
+        """The words of a run that waits for nobody, and its trace."""
+        self.write("f", "node n() returns (b: bool) = loop { b fby not b }")
+        words = ("run", "f", "-l", "9999")
+        return words, self.call(*words).output
+
+    def step_at_hand(self, text):
+        """0 in the header, of three lines, and else 1 more than the whole steps, of two lines each."""
+        lines = text.count("\n")
+        return 0 if lines < 3 else (lines - 3) // 2 + 1
+
+    def test_steps_that_are_written_together(self):
+        # Many steps are one write. The number is that of the first one that isn't there whole.
+        words, whole = self.steady()
+        for most in (33, 34, 35, 50, 51, 65_569, 65_570, 65_571, 131_000, len(whole) - 1):
+            with self.subTest(most=most):
+                with open(self.path("trace"), "w+", encoding="utf-8") as trace:
+                    how = {"stdout": trace, "preexec_fn": lambda most=most: grow_to(most)}
+                    found = self.call(*words, **how)
+                    trace.seek(0)
+                    line = f"device trace {self.step_at_hand(whole[:most])}"
+                    self.check(found._replace(output=trace.read()), 9, line, whole[:most])
+
+    def test_a_reader_that_goes_away_where_nobody_is_waited_for(self):
+        words, whole = self.steady()
+        for most in (0, 1, 100, 70_000):
+            with self.subTest(most=most):
+                trace, end = os.pipe()
+                call = self.begin(words, {"stdout": end})
+                os.close(end)
+                with open(trace, "rb", buffering=0) as stream:
+                    text = piece = stream.read(most)
+                    while piece and len(text) < most:
+                        piece = stream.read(most - len(text))
+                        text += piece
+                found = self.finish(call)
+                self.assertEqual(text.decode(), whole[:most])
+                head, number = found.errors.rsplit(" ", 1)
+                self.assertEqual((found.status, head), (9, "lurette: device trace"))
+                self.assertGreaterEqual(int(number), self.step_at_hand(whole[:most]))
+
+    def test_each_step_is_there_while_a_side_is_waited_for(self):
+        # The side answers its second line once the first step was read.
+        for role in ROLES:
+            with self.subTest(role.who):
+                seen = self.queue(f"{role.who}-seen")
+                waits = f"line(); wait_for('{role.who}-seen'); say(ANSWER + b' ')"
+                command = self.side(role, f"answer_lines(1); {waits}; answer_lines(9)")
+                trace, end = os.pipe()
+                call = self.begin(self.words_beside(role, command), {"stdout": end})
+                os.close(end)
+                due = texts(role, 1).encode()
+                with open(trace, "rb") as stream:
+                    self.assertEqual(stream.read(len(due)), due)
+                    os.write(seen, b"\n")
+                    rest = stream.read().decode()
+                self.check(self.finish(call), 0, "", "")
+                self.assertEqual(due.decode() + rest, texts(role, 3) + "#end limit 3\n")
+
     def test_standard_error_that_cannot_be_written(self):
         self.write("f", self.DEAD)
         rows = (

@@ -23,7 +23,7 @@ use Rattle.lt_drive.specs.declared.drive_end.DriveEnd.{DriveEnd}
 use Rattle.lt_drive.specs.declared.drive_end.DriveEnd.TheVariants as drive_end
 use Rattle.lt_drive.specs.declared.progress.Progress.{Progress}
 use Rattle.lt_drive.specs.declared.progress.Progress.TheVariants as progress
-use Rattle.lt_drive.specs.inner.Steps.{Goes, GoesOn, IsLost, IsWritten, Proceeds, Waits}
+use Rattle.lt_drive.specs.inner.Steps.{Goes, GoesOn, IsLost, IsWritten, Proceeds, GoesButFor}
 use Rattle.lt_drive.proofs.Interactions.{both_received, fits_same, happens_both, nothing_received, received_nothing, step_count-append}
 use Rattle.lt_drive.proofs.Drives.{driven_by, goes_on_by}
 use Rattle.lt_drive.proofs.Ways.{behind_both}
@@ -130,7 +130,7 @@ module _ (k : Continuation) where
 
 module _ {State : Type 0} (k : Continuation) (before : Outside Links) where
   -- where none waits, all was given out
-  pub waits_none : (new : Outside Links) (core : CoreState State) → Goes k before new core → Waits k before new core []
+  pub waits_none : (new : Outside Links) (core : CoreState State) → Goes k before new core → GoesButFor k before new core []
   waits_none new core h = record {
     received = h.received;
     given = h.pieces;
@@ -141,7 +141,7 @@ module _ {State : Type 0} (k : Continuation) (before : Outside Links) where
   }
 
   -- where they were written, all was given out
-  all_given : (mid : Outside Links) (t : Sink) (s : CoreState State) (waiting : List (List ℕ)) → Waits k before mid s waiting → IsWritten waiting mid.trace t → Goes k before (record mid { trace = t }) s
+  all_given : (mid : Outside Links) (t : Sink) (s : CoreState State) (waiting : List (List ℕ)) → GoesButFor k before mid s waiting → IsWritten waiting mid.trace t → Goes k before (record mid { trace = t }) s
   all_given mid t s waiting h wrote = record {
     received = h.received;
     pieces = h.given ++ steps waiting;
@@ -152,11 +152,11 @@ module _ {State : Type 0} (k : Continuation) (before : Outside Links) where
 
   goes_on_with : (mid new : Outside Links) (s core : CoreState State) (waiting : List (List ℕ)) (p : Progress) → waiting ≡ [] → Goes k before mid s → Proceeds (continuation_of s) mid new core p → GoesOn k before new core waiting p
   goes_on_with mid new s core waiting (progress.Goes w) none goes proceeds =
-      (subst (Waits k before new core) (sym none) (waits_none new core (goes_on_by k before mid new s core goes proceeds.0)), proceeds.1)
+      (subst (GoesButFor k before new core) (sym none) (waits_none new core (goes_on_by k before mid new s core goes proceeds.0)), proceeds.1)
   goes_on_with mid new s core waiting (progress.Over d) none goes proceeds = driven_by k before mid new s core d goes proceeds
 
   -- they were written, and then it was driven on
-  pub written_then : (mid new : Outside Links) (t : Sink) (s core : CoreState State) (waiting left : List (List ℕ)) (p : Progress) → Waits k before mid s waiting → IsWritten waiting mid.trace t → left ≡ [] →
+  pub written_then : (mid new : Outside Links) (t : Sink) (s core : CoreState State) (waiting left : List (List ℕ)) (p : Progress) → GoesButFor k before mid s waiting → IsWritten waiting mid.trace t → left ≡ [] →
       Proceeds (continuation_of s) (record mid { trace = t }) new core p → GoesOn k before new core left p
   written_then mid new t s core waiting left p h wrote none proceeds = goes_on_with (record mid { trace = t }) new s core left p none (all_given mid t s waiting h wrote) proceeds
 
@@ -179,7 +179,7 @@ module _ {State : Type 0} (k : Continuation) (before : Outside Links) where
         none = λ e. absurd (gathering e);
       })
 
-  module _ (old : Outside Links) (s core : CoreState State) (waiting : List (List ℕ)) (h : Waits k before old s waiting) where
+  module _ (old : Outside Links) (s core : CoreState State) (waiting : List (List ℕ)) (h : GoesButFor k before old s waiting) where
     -- one step more was put out
     module _ (text : List ℕ) (out : PutsOut (resume s) (Some piece_kind.Step) text core) (plan : core.plan ≡ s.plan) (counts : core.written ≡ s.written + 1) where
       joined_more : (h.given ++ steps waiting) ++ piece piece_kind.Step text ∷ [] ≡ h.given ++ steps (waiting ++ text ∷ [])
@@ -196,7 +196,7 @@ module _ {State : Type 0} (k : Continuation) (before : Outside Links) where
           ∙ ap (λ (t : List Piece). pieces_then t (resume core c o)) joined_more
 
       -- it waits too
-      pub one_more : old.trace.gathers ≡ true → Waits k before old core (waiting ++ text ∷ [])
+      pub one_more : old.trace.gathers ≡ true → GoesButFor k before old core (waiting ++ text ∷ [])
       one_more gathers = record {
         received = h.received;
         given = h.given;

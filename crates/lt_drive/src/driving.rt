@@ -7,7 +7,7 @@ ghost use Rattle.lt_loop.specs.Event.{WantsTell};
 ghost use Rattle.lt_loop.specs.Stands.{has_controller};
 ghost use Rattle.lt_drive.specs.Drive.{Continuation, IsDriven, continuation_of, is_told};
 ghost use Rattle.lt_io.specs.Outside.{Links, Outside, linked};
-ghost use Rattle.lt_drive.specs.inner.Steps.{Falls, GoesOn, Proceeds, Waits};
+ghost use Rattle.lt_drive.specs.inner.Steps.{Falls, GoesOn, Proceeds, GoesButFor};
 
 use crate::drive_end::DriveEnd;
 use crate::hearing::{hear_controller, hear_oracle};
@@ -65,7 +65,7 @@ fn step<M: Machine, C: Link, O: Link, S: Sink>(
 ) -> Progress
     requires { WantsTell (core_state core.old) wants }
     ensures proceeds { (k : Continuation) (before : Outside Links) →
-        Waits k before
+        GoesButFor k before
         (linked (C.state controller.old) (O.state oracle.old) (S.state trace.old))
         (core_state core.old) waiting.old →
         GoesOn k before

@@ -7,7 +7,7 @@ ghost use Rattle.lt_loop.specs.Event.{WantsTell};
 ghost use Rattle.lt_loop.specs.Stands.{has_controller};
 ghost use Rattle.lt_drive.specs.Drive.{Continuation, is_told};
 ghost use Rattle.lt_io.specs.Outside.{Links, Outside, linked};
-ghost use Rattle.lt_drive.specs.inner.Steps.{Falls, GoesOn, IsLost, IsWritten, Waits};
+ghost use Rattle.lt_drive.specs.inner.Steps.{Falls, GoesOn, IsLost, IsWritten, GoesButFor};
 
 use crate::drive_end::DriveEnd;
 use crate::giving::give_out;
@@ -26,7 +26,7 @@ pub(crate) fn take_turn<M: Machine, C: Link, O: Link, S: Sink>(
 ) -> Progress
     requires { WantsTell (core_state core.old) Wants.Turn }
     ensures proceeds { (k : Continuation) (before : Outside Links) →
-        Waits k before
+        GoesButFor k before
         (linked (C.state controller.old) (O.state oracle.old) (S.state trace.old))
         (core_state core.old) waiting.old →
         GoesOn k before

@@ -23,7 +23,7 @@ use Rattle.lt_drive.specs.declared.drive_end.DriveEnd.TheVariants as drive_end
 use Rattle.lt_session.specs.Cut as cut
 use Rattle.lt_session.specs.Cut.{CutSessionsAreFronts, IsCutBy, IsCutText, NeverBreaks}
 use Rattle.lt_session.specs.Sent as sent
-use Rattle.lt_session.specs.Sent.{AreGiven, IsCounted, SidesGetTheirPieces}
+use Rattle.lt_session.specs.Sent.{AreGiven, CountsSteps, SidesGetTheirPieces}
 use Rattle.lt_session.specs.Told.{IsFirstOf}
 
 -- two lists that end in one more are the same before it
@@ -162,7 +162,7 @@ module _ (k : Continuation) (received : Received) (c o : List ℕ) (written : �
         let steps : step_count before ≡ step_count ps = ap step_count same.0 ∙ steps_both ps (piece other part ∷ []) ∙ omega (arith, none) in
         line_cut w ps (pieces_then (whole ∷ []) front.0) (front.1 ∙ both_then ps (whole ∷ []) front.0) same.1 (ap (text_to destination.Trace) same.0 ∙ text_aside ps other w part goes_aside) steps
 
-  cut_by : (trace : Sink) (ps : List Piece) (fault : Option Who) (how : DriveEnd) → AreGiven k received ps fault how → IsCounted k ps how written trace → IsCutBy how → IsCutText k play (text_to destination.Trace ps) written how
+  cut_by : (trace : Sink) (ps : List Piece) (fault : Option Who) (how : DriveEnd) → AreGiven k received ps fault how → CountsSteps k ps how written trace → IsCutBy how → IsCutText k play (text_to destination.Trace ps) written how
   cut_by trace ps _ _ (sent.whole _ e whole) counts cuts =
       let by = side_cut (drive_end.Ended e) e cuts refl in
       let all = whole (closed of_c.0) (closed of_o.0) in

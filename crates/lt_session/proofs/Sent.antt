@@ -21,7 +21,7 @@ use Rattle.lt_io.specs.Outside.{Links, Outside, linked}
 use Rattle.lt_drive.specs.declared.drive_end.DriveEnd.{DriveEnd}
 use Rattle.lt_drive.specs.declared.drive_end.DriveEnd.TheVariants as drive_end
 use Rattle.lt_session.specs.Sent as sent
-use Rattle.lt_session.specs.Sent.{AreGiven, AreSent, IsCounted, IsFaulty, SidesGetTheirPieces}
+use Rattle.lt_session.specs.Sent.{AreGiven, AreSent, CountsSteps, IsFaulty, SidesGetTheirPieces}
 use Rattle.lt_session.specs.Session as session
 use Rattle.lt_session.specs.declared.session_end.SessionEnd.{SessionEnd}
 use Rattle.lt_session.specs.declared.session_end.SessionEnd.TheVariants as session_end
@@ -49,7 +49,7 @@ faulty_by true before now none rose = omega (arith, none)
 faulty_by false before now none same = same ∙ none
 
 -- all steps that were put out are among the pieces
-counted_all : (k : Continuation) (ps : List Piece) (how : DriveEnd) (written : ℕ) (trace : Sink) → written ≡ k.written + step_count ps → IsCounted k ps how written trace
+counted_all : (k : Continuation) (ps : List Piece) (how : DriveEnd) (written : ℕ) (trace : Sink) → written ≡ k.written + step_count ps → CountsSteps k ps how written trace
 counted_all k ps how written trace is = record { lost = 0; counts = omega (arith, is); prompt = λ _. refl; ended = λ _ _. refl }
 
 steps_of_both : (ps qs : List Piece) → step_count (ps ++ qs) ≡ step_count ps + step_count qs
@@ -60,7 +60,7 @@ none_counted : (lost : List (List ℕ)) → lost ≡ [] → step_count (steps lo
 none_counted lost none = rw none refl
 
 -- those that were lost are not
-counted_lost : (k : Continuation) (ps : List Piece) (step : ℕ) (written : ℕ) (trace : Sink) (lost : List (List ℕ)) → written ≡ k.written + step_count (ps ++ steps lost) → (trace.gathers ≡ false → lost ≡ []) → IsCounted k ps (drive_end.TraceWriteFailed step) written trace
+counted_lost : (k : Continuation) (ps : List Piece) (step : ℕ) (written : ℕ) (trace : Sink) (lost : List (List ℕ)) → written ≡ k.written + step_count (ps ++ steps lost) → (trace.gathers ≡ false → lost ≡ []) → CountsSteps k ps (drive_end.TraceWriteFailed step) written trace
 counted_lost k ps step written trace lost is none = record {
   lost = step_count (steps lost);
   counts = let both = steps_of_both ps (steps lost) in omega (arith, is, both);
@@ -70,7 +70,7 @@ counted_lost k ps step written trace lost is none = record {
 
 -- the pieces that were given out in a run that was driven
 given : {State : Type 0} (k : Continuation) (old new : Outside Links) (core : CoreState State) (how : DriveEnd) → IsDriven k old new core how →
-    (received : Received) × (ps : List Piece) × (fault : Option Who) × (trace : Bool) × AreGiven k received ps fault how × Interaction old new received ps fault trace × IsCounted k ps how core.written new.trace
+    (received : Received) × (ps : List Piece) × (fault : Option Who) × (trace : Bool) × AreGiven k received ps fault how × Interaction old new received ps fault trace × CountsSteps k ps how core.written new.trace
 given k old new core _ (drive.ended received ps e whole interaction put over) = (received, ps, None, false, sent.whole ps e whole, interaction, counted_all k ps (drive_end.Ended e) core.written new.trace put.1)
 given k old new core _ (drive.failed received ps w gives interaction put over) = (received, ps, Some w, false, sent.failed ps w gives, interaction, counted_all k ps (drive_end.Ended (end.Device w)) core.written new.trace put.1)
 given k old new core _ (drive.untraced received fault before kind prefix rest gives to some interaction put) =
@@ -82,7 +82,7 @@ module _ {State : Type 0} (k : Continuation) (controller oracle : InputSource) (
       × ((x : List ℕ) → Gives controller old.inputs x → IsFirstOf received.controller x) × ((x : List ℕ) → GivesBeside controller oracle old.inputs x → IsFirstOf received.oracle x)
       × Appends old.trace.written new.trace.written (text_to destination.Trace ps)
       × IsFaulty who.Controller fault m × IsFaulty who.Oracle fault n × AreSent controller oracle ps m n old.inputs new.inputs
-      × IsCounted k ps d core.written new.trace
+      × CountsSteps k ps d core.written new.trace
   got_by _ (session.driven c c' o o' p q r how opens opened drove closes closed) is =
       let how_is : how ≡ d = cc is in
       let all = given k (linked c o old.trace) (linked c' o' new.trace) core how drove in
@@ -99,7 +99,7 @@ module _ {State : Type 0} (k : Continuation) (controller oracle : InputSource) (
         faulty_by (is_fault_of who.Controller all.2) c.faults c'.faults (faultless controller old.inputs p c opens) (interaction.blames destination.Controller),
         faulty_by (is_fault_of who.Oracle all.2) o.faults o'.faults (faultless oracle p q o opened) (interaction.blames destination.Oracle),
         both_sent controller oracle old.inputs p q r new.inputs c c' o o' all.1 opens opened closes closed (interaction.gives destination.Controller) (interaction.gives destination.Oracle),
-        subst (λ (x : DriveEnd). IsCounted k all.1 x core.written new.trace) how_is all.6,
+        subst (λ (x : DriveEnd). CountsSteps k all.1 x core.written new.trace) how_is all.6,
       )
   got_by _ (session.no_controller command why unstarted trace_is) is = absurd (cc is)
   got_by _ (session.no_oracle command l p q why opens unstarted closes trace_is) is = absurd (cc is)

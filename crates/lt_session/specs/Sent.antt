@@ -53,7 +53,7 @@ IsFaulty w fault count = MatchBool (is_fault_of w fault) (0 < count) (count ≡ 
 
 -- The core counts the steps among the pieces that were given out. Where a write to a trace failed that gathers texts, it may
 -- have counted more of them, which were lost.
-pub record IsCounted (k : Continuation) (ps : List Piece) (how : DriveEnd) (written : ℕ) (trace : Sink) : Type 0 where
+pub record CountsSteps (k : Continuation) (ps : List Piece) (how : DriveEnd) (written : ℕ) (trace : Sink) : Type 0 where
   pub lost : ℕ
   pub counts : written ≡ k.written + step_count ps + lost
   pub prompt : trace.gathers ≡ false → lost ≡ 0
@@ -73,4 +73,4 @@ SidesGetTheirPieces State =
     × Appends old.trace.written new.trace.written (text_to destination.Trace ps)
     × IsFaulty who.Controller fault m × IsFaulty who.Oracle fault n
     × AreSent controller oracle ps m n old.inputs new.inputs
-    × IsCounted k ps how core.written new.trace
+    × CountsSteps k ps how core.written new.trace

@@ -50,7 +50,7 @@ answer_of emits text = record { taken = emits.taken; piece = emits.piece; text =
 
 -- What is left of a run was driven up to where a core stands, but for these steps, which wait to be written: what was given
 -- out, these, and what the core will put out, is the play. At a trace that gathers nothing none waits.
-pub record Waits {State : Type 0} (k : Continuation) (old new : Outside Links) (core : CoreState State) (waiting : List (List ℕ)) : Type 0 where
+pub record GoesButFor {State : Type 0} (k : Continuation) (old new : Outside Links) (core : CoreState State) (waiting : List (List ℕ)) : Type 0 where
   pub received : Received
   pub given : List Piece
   pub interaction : Interaction old new received given None false
@@ -79,7 +79,7 @@ IfGoes (progress.Over d) P = Unit {0}
 
 -- it goes on, where these steps wait, or is over
 abbrev pub GoesOn : {State : Type 0} → Continuation → Outside Links → Outside Links → CoreState State → List (List ℕ) → Progress → Type 0
-GoesOn k old new core waiting (progress.Goes w) = Waits k old new core waiting × WantsTell core w
+GoesOn k old new core waiting (progress.Goes w) = GoesButFor k old new core waiting × WantsTell core w
 GoesOn k old new core waiting (progress.Over d) = IsDriven k old new core d
 
 -- it goes on, or is over

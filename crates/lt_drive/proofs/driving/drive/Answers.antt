@@ -5,7 +5,7 @@ use Rattle.lt_loop.specs.Plan.{Plan}
 use Rattle.lt_loop.specs.Stands.{has_controller}
 use Rattle.lt_drive.specs.Drive.{continuation_of, is_told}
 use Rattle.lt_io.specs.Outside.{Links, Outside, linked}
-use Rattle.lt_drive.specs.inner.Steps.{Waits}
+use Rattle.lt_drive.specs.inner.Steps.{GoesButFor}
 use Rattle.lt_drive.proofs.Drives.{starts}
 use Rattle.lt_drive.proofs.Waiting.{waits_none}
 use Rattle.lt_drive.proofs.driving.drive.Goals as goal
@@ -15,7 +15,7 @@ loop-next-init g c = record {
   waits =
       let s = core_state {b = g.M.Machine} c.args.core.now in
       let outside : Outside Links = (linked (g.C.Link.state c.args.controller.now) (g.O.Link.state c.args.oracle.now) (g.S.Sink.state c.args.trace.now)) in
-      subst (Waits (continuation_of s) outside outside s) (sym c.make-waiting.ensures) (waits_none (continuation_of s) outside outside s (starts s outside));
+      subst (GoesButFor (continuation_of s) outside outside s) (sym c.make-waiting.ensures) (waits_none (continuation_of s) outside outside s (starts s outside));
   wants = c.requires;
   no_controller = λ _. refl;
   untold = λ _. Keeps-refl (g.C.Link.state c.args.controller.now).sent;

@@ -6,13 +6,13 @@ use Rattle.lt_loop.specs.Stands.{has_controller}
 use Rattle.lt_loop.specs.Work.{work_left}
 use Rattle.lt_drive.specs.Drive.{continuation_of, is_told}
 use Rattle.lt_io.specs.Outside.{linked}
-use Rattle.lt_drive.specs.inner.Steps.{Waits}
+use Rattle.lt_drive.specs.inner.Steps.{GoesButFor}
 use Rattle.lt_drive.proofs.driving.drive.Given as goal
 
 -- what was given out, the steps that wait, and what the core will put out, is the play
 abbrev pub invariant-loop-next : goal.invariant-loop-next
 invariant-loop-next g l = record {
-  waits : Waits (continuation_of (core_state {b = g.M.Machine} l.fn.core))
+  waits : GoesButFor (continuation_of (core_state {b = g.M.Machine} l.fn.core))
       (linked (g.C.Link.state l.fn.controller) (g.O.Link.state l.fn.oracle) (g.S.Sink.state l.fn.trace))
       (linked (g.C.Link.state l.controller) (g.O.Link.state l.oracle) (g.S.Sink.state l.trace))
       (core_state {b = g.M.Machine} l.core) l.waiting;

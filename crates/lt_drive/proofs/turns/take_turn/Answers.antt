@@ -9,7 +9,7 @@ use Rattle.lt_loop.specs.Run.{Answers}
 use Rattle.lt_loop.specs.declared.event.PieceKind.{PieceKind}
 use Rattle.lt_drive.specs.inner.Steps.{answer_of}
 use Rattle.lt_io.specs.Outside.{Links, Outside, linked}
-use Rattle.lt_drive.specs.inner.Steps.{IsLost, IsWritten, Waits}
+use Rattle.lt_drive.specs.inner.Steps.{IsLost, IsWritten, GoesButFor}
 use Rattle.lt_drive.proofs.Sides.{asked_where_put, has_where_put, listens_where_put}
 use Rattle.lt_drive.proofs.Waiting.{lost_at_turn, one_more, written_then}
 use Rattle.lt_drive.proofs.turns.take_turn.Goals as goal
@@ -27,7 +27,7 @@ returns-then-waits-clause-proceeds g c = λ k before waits.
     let out = subst (λ (p : Option PieceKind). PutsOut (play_due turn taken s) p text new) step put.out in
     let counts = put.counts ∙ ap (λ (p : Option PieceKind). s.written + steps_in p) step in
     let added = c.if-waits.ensures.added refl ∙ ap (λ (t : List ℕ). waiting ++ t ∷ []) c.text.ensures in (
-      subst (λ (ws : List (List ℕ)). Waits k before outside new ws) (sym added) (one_more k before outside s new waiting waits text out put.plan counts (c.if-waits.ensures.gathers refl)),
+      subst (λ (ws : List (List ℕ)). GoesButFor k before outside new ws) (sym added) (one_more k before outside s new waiting waits text out put.plan counts (c.if-waits.ensures.gathers refl)),
       put.wants,
     )
 
