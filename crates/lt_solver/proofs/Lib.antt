@@ -30,3 +30,5 @@ mod Found
 mod Tellings
 -- Boxes that are recalled.
 mod Recalls
+-- Tests that pass nowhere.
+mod Settled

@@ -20,6 +20,7 @@ ghost use Rattle.lt_solver.specs.inner.Roomy.{IsRoomy};
 use crate::classifying::BoxRoom;
 use crate::placing::{first_raw, places_of};
 use crate::search::search;
+use crate::settling::has_false_conjunct;
 use lt_bounds::value_at;
 use lt_formula::Scale;
 use lt_need::{measure, quick_bound};
@@ -99,6 +100,9 @@ pub(crate) fn answer_within(
         Ok(steps) => steps,
         Err(need) => return Answer::Budget(need),
     };
+    if has_false_conjunct(space.circuit(), space.root()) {
+        return Answer::Unsat;
+    }
     write_places(
         scope,
         ranges,

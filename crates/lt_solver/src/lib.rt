@@ -19,6 +19,7 @@ mod laws;
 mod placing;
 mod recalling;
 mod search;
+mod settling;
 mod splitting;
 mod widening;
 mod workspace;

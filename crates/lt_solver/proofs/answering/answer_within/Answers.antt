@@ -5,7 +5,11 @@ use Rattle.lt_bounds.proofs.Public.{narrower_length}
 use Rattle.lt_bounds.specs.Places.{AreScaled}
 use Rattle.lt_formula.specs.Translation.{box_of, scales_of, starts_of, values_at}
 use Rattle.lt_num.specs.declared.interval.Interval.{Interval}
-use Rattle.lt_space.specs.SpaceView.{space_circuit}
+use Rattle.lt_space.specs.Circuit.{formula_at}
+use Rattle.lt_space.specs.CircuitView.{circuit_formulas}
+use Rattle.lt_space.specs.Formula.{holds}
+use Rattle.lt_space.specs.Scope.{ranges_in}
+use Rattle.lt_space.specs.SpaceView.{space_circuit, space_decimals, space_formula}
 use Rattle.lt_space.specs.declared.circuit.Circuit.{Circuit}
 use Rattle.lt_propagation.specs.Ties.{AreTies}
 use Rattle.lt_solver.specs.inner.Levels.{levels_of}
@@ -15,6 +19,7 @@ use Rattle.lt_solver.proofs.Found.{box_count, found_none, found_some, starts_cou
 use Rattle.lt_solver.proofs.Levels.{levels_most}
 use Rattle.lt_solver.proofs.PlacedLemmas.{all_scaled}
 use Rattle.lt_solver.proofs.Scaled.{scaled_narrower}
+use Rattle.lt_solver.proofs.Settled.{none_first}
 use Rattle.lt_solver.proofs.Written.{refilled}
 use Rattle.lt_solver.proofs.answering.answer_within.Goals as goal
 
@@ -37,7 +42,7 @@ search-requires c =
       scaled = all_scaled scope ranges targets down c.requires.domains;
       few = omega (arith, long, c.requires.few);
       starts = many ∙ sym long;
-      ties = subst (λ (xs : List ℕ). AreTies (space_circuit c.args.space.now) xs) (sym c.deref-3.ensures.value) (subst (λ (k : Circuit). AreTies k c.find_ties.new.same.items) c.circuit.ensures c.find_ties.ensures.ties);
+      ties = subst (λ (xs : List ℕ). AreTies (space_circuit c.args.space.now) xs) (sym c.deref-3.ensures.value) (subst (λ (k : Circuit). AreTies k c.find_ties.new.same.items) c.circuit-2.ensures c.find_ties.ensures.ties);
       hard = omega (arith, length-take (length targets) c.hard.result.now, c.hard.ensures.len, c.requires.targets, c.requires.few, long);
       stack = omega (arith, most, ap (λ n. n * 42 * n) long, c.requires.roomy.stack);
       widened = omega (arith, long, c.requires.roomy.wide.widened);
@@ -129,3 +134,11 @@ returns-else-search-clause-roomy c gates roomy = record {
   same = omega (arith, roomy.same, c.find_ties.ensures.room);
   need = omega (arith, roomy.need, c.steps_within.ensures.gates);
 }
+
+pub returns-then-has_false_conjunct-clause-tells : goal.returns-then-has_false_conjunct-clause-tells
+returns-then-has_false_conjunct-clause-tells c = (
+  c.in-Ok.ensures.within,
+  none_first (λ vs. holds (space_decimals c.args.space.now) vs (space_formula c.args.space.now)) (ranges_in c.args.scope.now c.args.ranges.now) c.args.targets.now c.args.down.now
+      (λ vs. sym (λ i. holds (space_decimals c.args.space.now) vs (formula_at (circuit_formulas (c.circuit.ensures i)) (c.root.ensures.root i)))
+      ∙ c.has_false_conjunct.ensures c.if-has_false_conjunct.true (space_decimals c.args.space.now) vs),
+)
