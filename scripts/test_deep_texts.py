@@ -313,6 +313,13 @@ class Deep(unittest.TestCase):
             for name, way in TERMS.items():
                 self.check((name, truth), deep_term(way, 1000, inside, macros), STEP)
 
+    def test_choices_of_many_alternatives_in_one_another(self):
+        # Each alternative is two terms and expressions with its weight, so there is room for 49 in
+        # each of 997. The last one leads on.
+        for before, end in (("| raise e ", "5 raise e 1"), ("| 0: raise e ", STEP)):
+            way = "{ " + before * 48 + "| a }"
+            self.check(before, deep_term(way, 997, "{ loop b }"), end)
+
     def test_what_is_deep_beside_constraints(self):
         macros, _ = nested("a + 0", "int", 4999, "1")
         deep = lambda number: nested("a + 0", "int", 4999, number)[1]

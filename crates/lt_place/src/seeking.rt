@@ -1,6 +1,6 @@
 //! Searches along paths.
 
-ghost use Rattle.std.specs.Prelude.{◌≡◌, ◌<◌, ◌≤◌, ℕ, List, length, slice_index_or};
+ghost use Rattle.std.specs.Prelude.{◌≡◌, ◌<◌, ◌≤◌, ℕ, IfSome, List, MatchOption, length, slice_index_or};
 ghost use Rattle.lt_num.specs.declared.kind.Kind.{Kind};
 ghost use Rattle.lt_term.specs.Offers.{in_catch, in_par, offers_of};
 ghost use Rattle.lt_term.specs.Process.{count, dead, loop};
@@ -9,7 +9,7 @@ ghost use Rattle.lt_term.specs.Tree.{ordered, with_leaves};
 ghost use Rattle.lt_place.specs.inner.Finding.{AreWeights, Found, IsContext};
 ghost use Rattle.lt_place.specs.Room.{EachHandlesBelow, HandlesBelow};
 ghost use Rattle.lt_track.specs.Tallied.{AreTallied, IsTallied};
-ghost use Rattle.lt_track.specs.View.{begun, begun_each, body, choices_of};
+ghost use Rattle.lt_track.specs.View.{begun, begun_each, body, body_each, choices_of, nodes, nodes_of_each, standing, standing_each};
 
 use crate::aim::Aim;
 use crate::path::{Side, next_side};
@@ -157,38 +157,8 @@ fn enter<'a>(
     seek(part, is_fresh, path, aim, weights)
 }
 
-// Seeks in what one of some terms offers, and finds nothing where there is no such term.
-#[cycle(seek)]
-fn seek_part<'a>(
-    among: &Parts,
-    place: u32,
-    is_fresh: bool,
-    path: &'a [u32],
-    aim: Aim,
-    weights: &mut [u64],
-) -> Place<'a>
-    requires tallied { AreTallied among.now }
-    requires weights { AreWeights weights.old }
-    requires handlers { EachHandlesBelow (length weights.old) (choices_of among.now) }
-    ensures same_weights { weights.new ≡ weights.old }
-    ensures found { (kinds : List Kind) (w : Weights) → IsContext aim.vanish aim.go weights.old w →
-        Found w aim.parts
-        (offers_of kinds (slice_index_or (begun_each is_fresh among.now) place dead)) path.now
-        result }
-{
-    match among {
-        Parts::End => Place::Nothing(path),
-        Parts::Part(_, part, rest) => {
-            if place == 0 {
-                enter(part, is_fresh, path, aim, weights)
-            } else {
-                enter_part(rest, place - 1, is_fresh, path, aim, weights)
-            }
-        }
-    }
-}
-
-// The same, behind a box.
+// Seeks in what one of some terms offers, and finds nothing where there is no such term. It is found before it is
+// entered: those before it take no stack while it is searched.
 #[cycle(seek)]
 fn enter_part<'a>(
     among: &Box<Parts>,
@@ -207,7 +177,58 @@ fn enter_part<'a>(
         (offers_of kinds (slice_index_or (begun_each is_fresh among.now.value) place dead)) path.now
         result }
 {
-    seek_part(among, place, is_fresh, path, aim, weights)
+    match part_behind(among, place) {
+        None => Place::Nothing(path),
+        Some(part) => enter(part, is_fresh, path, aim, weights),
+    }
+}
+
+// One of some terms, if there is such a one.
+#[cycle(part)]
+fn part_behind(among: &Box<Parts>, place: u32) -> Option<&Box<Track>>
+    requires tallied { AreTallied among.now.value }
+    ensures begins { MatchOption result
+        (slice_index_or (body_each among.now.value) place dead ≡ dead)
+        (λ part. slice_index_or (body_each among.now.value) place dead ≡ body part.now.value) }
+    ensures stands { MatchOption result
+        (slice_index_or (standing_each among.now.value) place dead ≡ dead)
+        (λ part. slice_index_or (standing_each among.now.value) place dead
+        ≡ standing part.now.value) }
+    ensures tallied { IfSome result (λ part. IsTallied part.now.value) }
+    ensures handled { IfSome result (λ part. (n : ℕ) →
+        EachHandlesBelow n (choices_of among.now.value) → HandlesBelow n (body part.now.value)) }
+    ensures fewer { IfSome result (λ part.
+        nodes (body part.now.value) < nodes_of_each (choices_of among.now.value)) }
+{
+    part_among(among, place)
+}
+
+// The same, of terms that aren't behind a box.
+#[cycle(part)]
+fn part_among(among: &Parts, place: u32) -> Option<&Box<Track>>
+    requires tallied { AreTallied among.now }
+    ensures begins { MatchOption result
+        (slice_index_or (body_each among.now) place dead ≡ dead)
+        (λ part. slice_index_or (body_each among.now) place dead ≡ body part.now.value) }
+    ensures stands { MatchOption result
+        (slice_index_or (standing_each among.now) place dead ≡ dead)
+        (λ part. slice_index_or (standing_each among.now) place dead ≡ standing part.now.value) }
+    ensures tallied { IfSome result (λ part. IsTallied part.now.value) }
+    ensures handled { IfSome result (λ part. (n : ℕ) →
+        EachHandlesBelow n (choices_of among.now) → HandlesBelow n (body part.now.value)) }
+    ensures fewer { IfSome result (λ part.
+        nodes (body part.now.value) < nodes_of_each (choices_of among.now)) }
+{
+    match among {
+        Parts::End => None,
+        Parts::Part(_, part, rest) => {
+            if place == 0 {
+                Some(part)
+            } else {
+                part_behind(rest, place - 1)
+            }
+        }
+    }
 }
 
 // Seeks in what the next turn of a loop offers, and its end. A turn that takes no instant is none.

@@ -9,9 +9,6 @@ decreases-seek l = 3 * nodes (body l.track.now)
 abbrev pub decreases-enter : goal.decreases-enter
 decreases-enter l = 3 * nodes (body l.part.now.value) + 1
 
-abbrev pub decreases-seek_part : goal.decreases-seek_part
-decreases-seek_part l = 3 * nodes_of_each (choices_of l.among.now)
-
 abbrev pub decreases-enter_part : goal.decreases-enter_part
 decreases-enter_part l = 3 * nodes_of_each (choices_of l.among.now.value) + 1
 
