@@ -94,8 +94,11 @@ steps texts = map (λ text. piece piece_kind.Step text) texts
 -- Pieces were put out of which the last one could not be written whole, but only as in these others. Behind it the core has
 -- put out further steps, which were to be written together with it and are lost: none at a trace that gathers nothing.
 pub record HasPutOutBehind {State : Type 0} (k : Continuation) (received : Received) (fault : Option Who) (whole given : List Piece) (core : CoreState State) (trace : Sink) : Type 0 where
+  -- their texts
   pub lost : List (List ℕ)
+  -- they follow in the play
   pub gives : GivesOut k received (whole ++ steps lost) fault
+  -- the core counts them too
   pub counts : HasPutOut k (given ++ steps lost) core
   pub none : trace.gathers ≡ false → lost ≡ []
 

@@ -7,7 +7,7 @@ ghost use Rattle.lt_loop.specs.Event.{WantsTell};
 ghost use Rattle.lt_loop.specs.Stands.{has_controller};
 ghost use Rattle.lt_drive.specs.Drive.{Continuation, IsDriven, continuation_of, is_told};
 ghost use Rattle.lt_io.specs.Outside.{Links, Outside, linked};
-ghost use Rattle.lt_drive.specs.inner.Steps.{Falls, GoesOn, Proceeds, GoesButFor};
+ghost use Rattle.lt_drive.specs.inner.Steps.{Falls, GoesButFor, GoesOn, Proceeds};
 
 use crate::drive_end::DriveEnd;
 use crate::hearing::{hear_controller, hear_oracle};
@@ -21,10 +21,12 @@ use std::alloc::Global;
 ///
 /// The core is told what it waits for: a turn, or what comes of the side whose reply is awaited. What it puts out goes
 /// where it belongs, at once, but for steps that come of a turn: nobody was waited for there. At a trace that gathers texts
-/// such steps wait for each other, and are written together, before anything else is put out, and before a side is waited
-/// for. Where memory runs out for them, they are written at once too. A side that can't be sent to, or of which nothing can be received, ends the run by its
-/// fault. A trace that can't be written to ends the driving. A side that the run doesn't have is never touched,
-/// and nothing is sent to an earlier trace that stands for the controller.
+/// such steps wait for each other, and are written together before anything else is put out, and before a side is waited
+/// for. Where memory runs out for that, they are written at once too.
+///
+/// A side that can't be sent to, or of which nothing can be received, ends the run by its fault. A trace that can't be
+/// written to ends the driving. A side that the run doesn't have is never touched, and nothing is sent to an earlier trace
+/// that stands for the controller.
 pub fn drive<M: Machine, C: Link, O: Link, S: Sink>(
     alloc: Global,
     core: &mut Core<M>,

@@ -7,7 +7,7 @@ ghost use Rattle.lt_loop.specs.Event.{WantsTell};
 ghost use Rattle.lt_loop.specs.Stands.{has_controller};
 ghost use Rattle.lt_drive.specs.Drive.{Continuation, is_told};
 ghost use Rattle.lt_io.specs.Outside.{Links, Outside, linked};
-ghost use Rattle.lt_drive.specs.inner.Steps.{Falls, GoesOn, IsLost, IsWritten, GoesButFor};
+ghost use Rattle.lt_drive.specs.inner.Steps.{Falls, GoesButFor, GoesOn, IsLost, IsWritten};
 
 use crate::drive_end::DriveEnd;
 use crate::giving::give_out;

@@ -54,9 +54,12 @@ IsFaulty w fault count = MatchBool (is_fault_of w fault) (0 < count) (count ≡ 
 -- The core counts the steps among the pieces that were given out. Where a write to a trace failed that gathers texts, it may
 -- have counted more of them, which were lost.
 pub record CountsSteps (k : Continuation) (ps : List Piece) (how : DriveEnd) (written : ℕ) (trace : Sink) : Type 0 where
+  -- how many were lost
   pub lost : ℕ
   pub counts : written ≡ k.written + step_count ps + lost
+  -- a trace that gathers nothing loses none
   pub prompt : trace.gathers ≡ false → lost ≡ 0
+  -- nor does a run that ended by itself, or by the fault of a side
   pub ended : (e : End) → how ≡ drive_end.Ended e → lost ≡ 0
 
 -- However a run ended that was driven, the trace and the two sides got what is for them of the same pieces, which are those
