@@ -7,8 +7,8 @@ import tempfile
 from collections import namedtuple
 
 TOP = os.path.dirname(os.path.dirname(os.path.abspath(__file__)))
-# How long a call is waited for.
-SECONDS = 10
+# How long a call is waited for: one that should end at once, and one on a machine that may be busy.
+SECONDS, PATIENCE = 10, 120
 
 # What comes of a call. The status is None where the call hadn't ended. `seconds` are those of the
 # processor.
@@ -25,23 +25,23 @@ def seconds_so_far():
     return used.ru_utime + used.ru_stime
 
 
-def outcome_of(program, *words, memory=None):
+def outcome_of(program, *words, memory=None, seconds=SECONDS):
     """What comes of a call of a program, which may take so many bytes of memory where a number
-    says so."""
+    says so, and is waited for so long."""
     how = {"stdin": subprocess.DEVNULL, "stdout": subprocess.PIPE, "stderr": subprocess.PIPE}
     if memory is not None:
         how["preexec_fn"] = lambda: resource.setrlimit(resource.RLIMIT_AS, (memory, memory))
     before = seconds_so_far()
     try:
-        run = subprocess.run([program, *words], timeout=SECONDS, check=False, **how)
+        run = subprocess.run([program, *words], timeout=seconds, check=False, **how)
     except subprocess.TimeoutExpired:
-        return Outcome(None, b"", b"", SECONDS)
+        return Outcome(None, b"", b"", seconds)
     return Outcome(run.returncode, run.stdout, run.stderr, seconds_so_far() - before)
 
 
-def outcome(program, text, *words, memory=None):
+def outcome(program, text, *words, **how):
     """What comes of such a call with a text as its file."""
     with tempfile.NamedTemporaryFile(prefix="lurette-") as file:
         file.write(text)
         file.flush()
-        return outcome_of(program, *words, file.name, memory=memory)
+        return outcome_of(program, *words, file.name, **how)

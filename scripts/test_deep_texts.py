@@ -284,7 +284,8 @@ class Deep(unittest.TestCase):
 
     def check(self, name, text, end, words=ONE):
         with self.subTest(name, end=end, words=words):
-            found = calls.outcome(PROGRAM, text.encode("latin-1"), *words)
+            made = text.encode("latin-1")
+            found = calls.outcome(PROGRAM, made, *words, seconds=calls.PATIENCE)
             self.assertEqual(end_of(found), end)
 
     def check_chains(self, chains):

@@ -307,7 +307,7 @@ class Limits(unittest.TestCase):
                 replies.write(row.replies)
                 replies.flush()
                 words = (*words, "--replay", replies.name)
-            found = calls.outcome(PROGRAM, row.text.encode(), *words)
+            found = calls.outcome(PROGRAM, row.text.encode(), *words, seconds=calls.PATIENCE)
         self.assertEqual(end_of(found), row.end)
 
     def test_each_limit_at_its_value_and_past_it(self):
@@ -320,7 +320,8 @@ class Limits(unittest.TestCase):
         # It stands in the place of a file.
         for word, status in (("0", 0), ("999999", 0), ("1000000", 2), ("-1", 2)):
             with self.subTest(word):
-                self.assertEqual(calls.outcome_of(PROGRAM, "stress", word).status, status)
+                found = calls.outcome_of(PROGRAM, "stress", word, seconds=calls.PATIENCE)
+                self.assertEqual(found.status, status)
 
     def test_bytes_of_an_earlier_trace(self):
         # Its end isn't read over: the file has one reply, and zeros after it.
@@ -328,7 +329,8 @@ class Limits(unittest.TestCase):
             with self.subTest(length), tempfile.NamedTemporaryFile(prefix="lurette-") as replies:
                 replies.write(b"1 #outs 5\n")
                 replies.truncate(length)
-                found = calls.outcome(PROGRAM, ECHO.encode(), *one_step("--replay", replies.name))
+                words = one_step("--replay", replies.name)
+                found = calls.outcome(PROGRAM, ECHO.encode(), *words, seconds=calls.PATIENCE)
                 self.assertEqual(end_of(found), end)
 
 
