@@ -6,3 +6,5 @@ mod Gathering
 mod Pieces
 -- The links of a command.
 mod Links
+-- A reader of which no more than so many bytes are read.
+mod Loading

@@ -1,6 +1,6 @@
 //! The files of the system.
 
-ghost use Rattle.std.specs.Prelude.{◌≡◌, ◌≤◌, [], length, IfOk, None};
+ghost use Rattle.std.specs.Prelude.{◌≡◌, ◌≢◌, ◌<◌, ◌≤◌, [], length, IfOk, IfSome, Err, None};
 ghost use Rattle.lt_io.specs.Files.{names_of};
 
 use crate::files::{FileRefusal, Files, recorded};
@@ -33,7 +33,9 @@ impl<'a, R: rt::Files> DirFiles<'a, R> {
     }
 }
 
-fn refusal_of(error: &io::Error) -> FileRefusal {
+fn refusal_of(error: &io::Error) -> FileRefusal
+    ensures { result ≢ FileRefusal.TooLong }
+{
     if error.kind() == ErrorKind::OutOfMemory {
         FileRefusal::Memory
     } else {
@@ -41,24 +43,35 @@ fn refusal_of(error: &io::Error) -> FileRefusal {
     }
 }
 
-// The whole file, of which one byte more than `most` is read at most.
+// All that a reader has left, of which one byte more than `most` is read at most.
+fn whole<F: Read + Drop>(file: F, alloc: Global, most: usize) -> Result<Vec<u8>, FileRefusal>
+    ensures fits { IfOk result (λ v. length v.items ≤ most) }
+    ensures all { IfSome (F.remaining file) (λ bytes. IfOk result (λ v. v.items ≡ bytes)) }
+    ensures longer { IfSome (F.remaining file) (λ bytes.
+        result ≡ Err FileRefusal.TooLong → most < length bytes) }
+{
+    let mut bytes = Vec::new(alloc);
+    let mut file = file.take((most as u64).saturating_add(1));
+    match file.read_to_end(&mut bytes) {
+        Err(error) => Err(refusal_of(&error)),
+        Ok(_) if bytes.len() > most => Err(FileRefusal::TooLong),
+        Ok(_) => Ok(bytes),
+    }
+}
+
+// The whole file of this name, of which one byte more than `most` is read at most.
 fn load<R: rt::Files>(
     rt: &R,
     alloc: Global,
     name: &str,
     most: usize,
 ) -> Result<Vec<u8>, FileRefusal>
-    ensures { IfOk result (λ v. length v.items ≤ most) }
+    ensures all { IfOk result (λ v. (file : R.File) × IfSome (R.File.remaining file) (λ bytes.
+        v.items ≡ bytes)) }
+    ensures fits { IfOk result (λ v. length v.items ≤ most) }
 {
     let file = fs::open(rt, name).map_err(|error| refusal_of(&error))?;
-    let mut bytes = Vec::new(alloc);
-    file.take((most as u64).saturating_add(1))
-        .read_to_end(&mut bytes)
-        .map_err(|error| refusal_of(&error))?;
-    if bytes.len() > most {
-        return Err(FileRefusal::TooLong);
-    }
-    Ok(bytes)
+    whole(file, alloc, most)
 }
 
 impl<'a, R: rt::Files> Files for DirFiles<'a, R> {
