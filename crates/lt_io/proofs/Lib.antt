@@ -8,3 +8,7 @@ mod Pieces
 mod Links
 -- A reader of which no more than so many bytes are read.
 mod Loading
+-- The words of a command.
+mod Words
+-- What two pipes tell.
+mod Keeping

@@ -21,5 +21,9 @@ pub mod Sending
 pub mod Gathering
 -- A link in memory: what clauses see of it, how long a piece is, and where sending fails.
 pub mod ScriptState
+-- The two pipes of a program: what is left of them.
+pub mod Pipes
+-- The words of a command.
+pub mod Command
 -- A spawner in memory: the links of a command, and where a call fails.
 pub mod MemSpawner

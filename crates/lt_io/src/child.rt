@@ -1,35 +1,45 @@
 //! Programs of the system.
 
-ghost use Rattle.std.specs.Prelude.{◌≡◌, [], None, IfOk};
+ghost use Rattle.std.specs.Prelude.{◌≡◌, ◌≢◌, [], None, Some, IfOk, IfSome};
+ghost use Rattle.std.specs.IoError.{error_kind};
 ghost use Rattle.lt_io.specs.Files.{names_of};
 ghost use Rattle.lt_io.specs.Link.{anything};
+ghost use Rattle.lt_io.specs.Pipes.{left_of};
 
 use crate::asked::make_room;
+use crate::command::command_of;
 use crate::link::Link;
-use crate::pipes::Pipes;
+use crate::pipes::{Pipes, room};
 use crate::sink::Failed;
 use crate::spawner::{Spawner, StartRefusal};
 use std::alloc::Global;
-use std::io::ErrorKind;
-use std::process::{Command, Processes, Stdio, SystemProcess};
+use std::io::{ErrorKind, Read, Write};
+use std::os::fd::AsRawFd;
+use std::process::{ChildStdin, ChildStdout, Processes, SystemProcess};
 use std::{io, process};
 
 /// A program of the system that was started, whose standard input is sent to, and whose standard output is
-/// received. Its standard error is that of this process. It tells nothing.
+/// received. Its standard error is that of this process. It tells what its two pipes tell, which for those of the system
+/// is nothing.
 ///
 /// A program that has ended, or has closed its standard input, makes `send` fail; no signal is raised. One that writes
 /// while it is sent something is heard at once, up to 65,536 bytes that are kept. Where it writes more before it has read
 /// what it is sent, `send` fails too.
 #[derive(Drop)]
-pub struct Child {
+pub struct Child<W: Write + Drop = ChildStdin, R: Read + Drop = ChildStdout> {
     process: process::Child,
-    pipes: Pipes,
+    pipes: Pipes<W, R>,
     // How many calls failed, up to `u64::MAX`.
     faults: u64,
 }
 
-impl Link for Child {
-    ghost state = { λ c. record { sent = None; left = None; faults = c.faults; fits = anything } };
+impl<W: Write + AsRawFd + Drop, R: Read + AsRawFd + Drop> Link for Child<W, R> {
+    ghost state = { λ c. record {
+      sent = W.contents c.pipes.input;
+      left = left_of R.remaining c.pipes;
+      faults = c.faults;
+      fits = anything;
+    } };
 
     fn send(&mut self, bytes: &[u8]) -> Result<(), Failed> {
         let sent = self.pipes.send(bytes);
@@ -74,28 +84,15 @@ impl<'a, R: Processes<Started = SystemProcess>> ChildSpawner<'a, R> {
     }
 }
 
-fn refusal_of(error: &io::Error) -> StartRefusal {
+fn refusal_of(error: &io::Error) -> StartRefusal
+    ensures memory { error_kind error.now ≡ ErrorKind.OutOfMemory → result ≡ StartRefusal.Memory }
+    ensures failed { error_kind error.now ≢ ErrorKind.OutOfMemory → result ≡ StartRefusal.Failed }
+{
     if error.kind() == ErrorKind::OutOfMemory {
         StartRefusal::Memory
     } else {
         StartRefusal::Failed
     }
-}
-
-// The program and its arguments, with a pipe to each end of it. A command without a program is refused.
-fn command_of(alloc: Global, command: &str) -> Result<Command, StartRefusal> {
-    let mut words = command
-        .split([' ', '\t', '\n', '\r'])
-        .filter(|word| !word.is_empty());
-    let program = words.next().ok_or(StartRefusal::Failed)?;
-    let mut command = Command::new(alloc, program).map_err(|_| StartRefusal::Memory)?;
-    for word in words {
-        if command.arg(word).is_err() {
-            return Err(StartRefusal::Memory);
-        }
-    }
-    command.stdin(Stdio::piped()).stdout(Stdio::piped());
-    Ok(command)
 }
 
 // Starts a program by its command.
@@ -109,7 +106,11 @@ fn launched<R: Processes<Started = SystemProcess>>(
 }
 
 // The pipes of a program that has just been started.
-fn pipes_of(process: &mut process::Child, room: Vec<u8>) -> Option<Pipes> {
+fn pipes_of(process: &mut process::Child, room: Vec<u8>) -> Option<Pipes<ChildStdin, ChildStdout>>
+    ensures input { IfSome result (λ pipes. process.old.stdin ≡ Some pipes.input) }
+    ensures output { IfSome result (λ pipes. process.old.stdout ≡ Some pipes.output) }
+    ensures kept { IfSome result (λ pipes. pipes.kept ≡ room) }
+{
     let input = process.stdin.take()?;
     let output = process.stdout.take()?;
     Pipes::new(input, output, room).ok()
@@ -121,9 +122,10 @@ fn started<R: Processes<Started = SystemProcess>>(
     alloc: Global,
     command: &str,
 ) -> Result<Child, StartRefusal>
-    ensures { IfOk result (λ child. child.faults ≡ 0) }
+    ensures faults { IfOk result (λ child. child.faults ≡ 0) }
+    ensures kept { IfOk result (λ child. child.pipes.kept.items ≡ []) }
 {
-    let room = Pipes::room(alloc).map_err(|_| StartRefusal::Memory)?;
+    let room = room(alloc).map_err(|_| StartRefusal::Memory)?;
     let mut process = launched(rt, alloc, command)?;
     if let Some(pipes) = pipes_of(&mut process, room) {
         return Ok(Child {

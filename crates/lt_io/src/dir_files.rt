@@ -1,6 +1,7 @@
 //! The files of the system.
 
 ghost use Rattle.std.specs.Prelude.{◌≡◌, ◌≢◌, ◌<◌, ◌≤◌, [], length, IfOk, IfSome, Err, None};
+ghost use Rattle.std.specs.IoError.{error_kind};
 ghost use Rattle.lt_io.specs.Files.{names_of};
 
 use crate::files::{FileRefusal, Files, recorded};
@@ -34,7 +35,9 @@ impl<'a, R: rt::Files> DirFiles<'a, R> {
 }
 
 fn refusal_of(error: &io::Error) -> FileRefusal
-    ensures { result ≢ FileRefusal.TooLong }
+    ensures memory { error_kind error.now ≡ ErrorKind.OutOfMemory → result ≡ FileRefusal.Memory }
+    ensures failed { error_kind error.now ≢ ErrorKind.OutOfMemory → result ≡ FileRefusal.Failed }
+    ensures short { result ≢ FileRefusal.TooLong }
 {
     if error.kind() == ErrorKind::OutOfMemory {
         FileRefusal::Memory

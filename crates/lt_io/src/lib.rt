@@ -12,6 +12,7 @@
 mod asked;
 mod calls;
 mod child;
+mod command;
 mod cuts;
 mod descriptors;
 mod dir_files;
