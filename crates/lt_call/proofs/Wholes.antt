@@ -26,13 +26,16 @@ use Rattle.lt_session.specs.declared.session_end.SessionEnd.TheVariants as sessi
 use Rattle.lt_step.specs.Machine.{State}
 use Rattle.lt_term.specs.Scene.{Scene}
 use Rattle.lt_args.specs.Words.{Request}
+use Rattle.lt_stress.specs.Laws.{LargeRunsAreOne}
+use Rattle.lt_stress.specs.Run.{IsRunOf}
 use Rattle.lt_call.specs.Call.{AreContents, GivesDue, IsCounted, IsText, IsTrace, blames}
 use Rattle.lt_loop.specs.InputSource.{InputSource, from_nobody, from_program, from_trace, with_contents}
 use Rattle.lt_call.specs.Run.{IsContinuationOf, oracle_of, run_of}
+use Rattle.lt_call.specs.Due as cause
 use Rattle.lt_call.specs.Due.{Answer, Contents, IsDue, Work, has_file, refuses, writes, plays, stresses}
 use Rattle.lt_call.specs.Given as given
 use Rattle.lt_call.specs.Given.{Gives, IsDone, PutsNothing, status_of}
-use Rattle.lt_call.specs.Laws.{ContentsHaveOneDueAnswer, IsCutEarly, IsDetermined, IsUnbroken, IsUncut, IsWhole, RefusalsAreExact, SameCallSameBytes, SidesTell, Tell, TellsText, TellsTrace, UncutCallsAreWhole, UndisturbedCallsAreUncut, told_status, told_text}
+use Rattle.lt_call.specs.Laws.{ContentsHaveOneDueAnswer, IsCutEarly, IsUnbroken, IsUncut, IsWhole, RefusalsAreExact, SameCallSameBytes, SidesTell, Tell, TellsText, TellsTrace, UncutCallsAreWhole, UndisturbedCallsAreUncut, told_status, told_text}
 use Rattle.lt_call.specs.Lines.{status_lines}
 use Rattle.lt_call.specs.declared.status.Status.{Status}
 use Rattle.lt_call.specs.declared.status.Status.TheVariants as status
@@ -159,6 +162,24 @@ whole_bytes r trace c o (writes text) names old new s before now e f h = appends
 whole_bytes r trace c o (plays scene) names old new s before now e f h = appends_all old.trace.written new.trace.written before now _ e f h.4
 whole_bytes r trace c o (stresses n scene) names old new s before now e f h = appends_all old.trace.written new.trace.written before now _ e f h.5
 
+-- The work leaves no choice: where it is a large run, there is one such run at most. All other work is such.
+abbrev IsDetermined : Work → Type 0
+IsDetermined (stresses n scene) = (ps qs : List Piece) (e f : End) → IsRunOf n scene ps e → IsRunOf n scene qs f → (ps ≡ qs) × (e ≡ f)
+IsDetermined _ = Unit {0}
+
+-- work that is due leaves none
+determined : LargeRunsAreOne → (r : Request) (contents : Contents) (answer : Answer) → IsDue r contents answer → IsDetermined answer.work
+determined law r contents _ (cause.too_long has long) = tt
+determined law r contents _ (cause.no_scenario reason mode short is) = tt
+determined law r contents _ (cause.too_many_atoms scene mode short is many) = tt
+determined law r contents _ (cause.unserved scene mode short is few served) = tt
+determined law r contents _ (cause.long_trace scene name mode short is few served inputs long) = tt
+determined law r contents _ (cause.runs scene mode short is few served trace) = tt
+determined law r contents _ (cause.unprinted reason mode short is) = tt
+determined law r contents _ (cause.prints text mode short is) = tt
+determined law r contents _ (cause.unstressed n reason mode is) = tt
+determined law r contents _ (cause.stressed n scene mode is) = λ ps qs e f h k. law n scene ps qs e f is h k
+
 -- work that leaves no choice has the same bytes each time
 same_bytes : (r : Request) (trace c o : List ℕ) (work : Work) (names names' : List (List ℕ)) (old new old' new' : Outside Sources) (s s' : Status) → IsDetermined work → (h : IsWhole r trace c o work names old new s) (k : IsWhole r trace c o work names' old' new' s') →
     bytes_of r trace c o work names' old' new' s' k ≡ bytes_of r trace c o work names old new s h
@@ -181,12 +202,12 @@ same_status r trace c o (plays scene) names names' old new old' new' s s' one h 
 same_status r trace c o (stresses n scene) names names' old new old' new' s s' one h k =
     let same = one h.0 k.0 h.1 k.1 h.2 k.2 in (h.3 ∙ ap (λ ps. told_status ps h.1) same.0 ∙ ap (told_status k.0) same.1 ∙ sym k.3, h.4 ∙ sym k.4)
 
-pub same_call_same_bytes : ContentsHaveOneDueAnswer → UncutCallsAreWhole → SameCallSameBytes
-same_call_same_bytes due law r contents told told' names names' asked asked' old new old' new' before now before' now' s s' c o tell gives u sides tell' gives' u' sides' one e f e' f' =
+pub same_call_same_bytes : ContentsHaveOneDueAnswer → UncutCallsAreWhole → LargeRunsAreOne → SameCallSameBytes
+same_call_same_bytes due law large r contents told told' names names' asked asked' old new old' new' before now before' now' s s' c o tell gives u sides tell' gives' u' sides' e f e' f' =
     let answer = (due r contents).0 in
     let first = law r contents told names asked old new s c o answer.0 tell gives u sides answer.1 in
     let second = law r contents told' names' asked' old' new' s' c o answer.0 tell' gives' u' sides' answer.1 in
-    let det = one answer.0 answer.1 in
+    let det = determined large r contents answer.0 answer.1 in
     let same = same_status r contents.replay c o answer.0.work names names' old new old' new' s s' det first second in
     let bytes = same_bytes r contents.replay c o answer.0.work names names' old new old' new' s s' det first second in (
       same.0,

@@ -105,20 +105,14 @@ UncutCallsAreWhole =
     Tell request told contents → GivesDue request told asked old new names s → IsUncut s → SidesTell request contents old.inputs.programs c o → IsDue request contents answer →
     IsWhole request contents.replay c o answer.work names old new s
 
--- The work leaves no choice: where it is a large run, there is one such run at most. All other work is such.
-abbrev pub IsDetermined : Work → Type 0
-IsDetermined (stresses n scene) = (ps qs : List Piece) (e f : End) → IsRunOf n scene ps e → IsRunOf n scene qs f → (ps ≡ qs) × (e ≡ f)
-IsDetermined _ = Unit {0}
-
--- Two calls that ask for the same of the same contents, which leaves no choice, of which the same comes of both sides, and that neither a device
--- nor want of memory cuts short, have the same status, say the same, and append the same bytes to their traces, whatever
--- these held before.
+-- Two calls that ask for the same of the same contents, of which the same comes of both sides, and that neither a device nor
+-- want of memory cuts short, have the same status, say the same, and append the same bytes to their traces, whatever these
+-- held before.
 abbrev pub SameCallSameBytes : Type 0
 SameCallSameBytes =
     (request : Request) (contents : Contents) (told told' : List ℕ → Option (List ℕ)) (names names' asked asked' : List (List ℕ)) (old new old' new' : Outside Sources) (before now before' now' : List ℕ) (s s' : Status) (c o : List ℕ) →
     Tell request told contents → GivesDue request told asked old new names s → IsUncut s → SidesTell request contents old.inputs.programs c o →
     Tell request told' contents → GivesDue request told' asked' old' new' names' s' → IsUncut s' → SidesTell request contents old'.inputs.programs c o →
-    ((answer : Answer) → IsDue request contents answer → IsDetermined answer.work) →
     old.trace.written ≡ Some before → new.trace.written ≡ Some now → old'.trace.written ≡ Some before' → new'.trace.written ≡ Some now' →
     (s ≡ s') × (status_lines names s ≡ status_lines names' s') × ((bytes : List ℕ) × (now ≡ before ++ bytes) × (now' ≡ before' ++ bytes))
 

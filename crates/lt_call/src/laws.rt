@@ -6,6 +6,7 @@ ghost use Rattle.lt_call.specs.Laws.{ContentsHaveOneDueAnswer, RefusalsAreExact,
 use lt_frontend::{texts_have_one_printed_answer, texts_have_one_scenario_answer};
 use lt_play::Player;
 use lt_session::{cut_sessions_are_fronts, plays_never_break, undisturbed_sessions_are_whole};
+use lt_stress::large_runs_are_one;
 
 /// One answer is due to a request and the contents of its files.
 pub fn contents_have_one_due_answer()
@@ -49,6 +50,7 @@ pub fn same_call_same_bytes()
 {
     contents_have_one_due_answer();
     uncut_calls_are_whole();
+    large_runs_are_one();
 }
 
 /// What is to be refused is refused so, and nothing is put out, unless a file could not be read or memory ran out.

@@ -8,3 +8,13 @@ pub mod Stands
 pub mod Runs
 -- parts with a text between them
 pub mod Joins
+-- what a reply of the plant is read as
+pub mod Replies
+-- a run against the plant is the only one, where there is one input
+pub mod OneRun
+-- the first tokens of the text
+pub mod Tokens
+-- the first node of a program that begins with these tokens
+pub mod FirstNode
+-- the scenario of a number has one input, and what follows
+pub mod OneInput

@@ -9,5 +9,9 @@ pub mod Run
 pub mod Report
 -- how a large run ends
 pub mod Stressed
+-- how the run of a number ends
+pub mod Ends
+-- what follows for large runs
+pub mod Laws
 -- words of private contracts
 pub mod inner

@@ -2,9 +2,10 @@
 //! it.
 //!
 //! [`stress`] does all of it. `specs/Scenario.antt` has the scenario of a number, `specs/Plant.antt` what the plant replies,
-//! and `specs/Run.antt` what the run and its line are.
+//! and `specs/Run.antt` what the run and its line are. `laws.rt` has what follows.
 #![tactic(auto)]
 
+mod laws;
 mod nowhere;
 mod numbers;
 mod plant;
@@ -13,5 +14,8 @@ mod scenario;
 mod stressed;
 mod stressing;
 
+pub use laws::{
+    large_runs_are_one, large_runs_end, large_runs_never_wait, large_scenes_have_one_input,
+};
 pub use stressed::Stressed;
 pub use stressing::stress;
