@@ -6,9 +6,11 @@ ghost use Rattle.lt_instant.specs.StandingView.{process_of};
 ghost use Rattle.lt_term.specs.View.{process};
 
 use crate::finding::Finding;
+use crate::picker::Picker;
 use crate::solver::Solver;
+use lt_lazy::Rooms;
 use lt_num::Value;
-use lt_place::room_for;
+use lt_place::weights_for;
 use lt_term::{Memory, Scenario, body_is_valid};
 use lt_track::{Track, Walk, body_is_at_start, node_count, track_of};
 use std::alloc::Global;
@@ -23,20 +25,14 @@ pub struct Explorer {
     /// What was met on the way to the node that was visited last.
     pub walk: Walk,
 
-    /// Room for the way to the parts of a choice.
-    pub place: lt_place::Room,
+    /// Who chooses where the draw goes on.
+    pub picker: Picker,
 
     /// The solver of the scenario.
     pub solver: Solver,
 
-    /// What the locals were in the instant before, as they are in scope at the node that was visited last.
-    pub locals: Vec<Option<Value>>,
-
     /// Room for the locals in scope with their values.
     pub values: Vec<(u32, Value)>,
-
-    /// What was found at the leaf that was visited last.
-    pub found: Finding,
 }
 
 impl Explorer {
@@ -56,19 +52,20 @@ impl Explorer {
         let Some(nodes) = node_count(&track) else {
             return Err(Memory);
         };
-        let walk = Walk::make(alloc, nodes)?;
-        let place = room_for(alloc, &track)?;
+        let walk = Walk::make(alloc, nodes, weights_for(alloc, &track)?)?;
         let solver = Solver::make(alloc, scenario, nodes)?;
-        let locals = Vec::with_capacity(alloc, scenario.locals.len())?;
+        let picker = Picker {
+            rooms: Rooms::make(alloc)?,
+            locals: Vec::with_capacity(alloc, scenario.locals.len())?,
+            found: Finding::Passed,
+        };
         let values = Vec::with_capacity(alloc, nodes)?;
         Ok(Explorer {
             track,
             walk,
-            place,
+            picker,
             solver,
-            locals,
             values,
-            found: Finding::Passed,
         })
     }
 }

@@ -4,7 +4,6 @@ ghost use Rattle.std.specs.Prelude.{◌≤◌, ◌+◌, IfOk, length, vec_capaci
 ghost use Rattle.lt_instant.specs.Equipment.{IsRoomOf};
 
 use crate::earlier::Earlier;
-use lt_lazy::Rooms;
 use lt_num::Value;
 use lt_term::Scenario;
 use std::alloc::{AllocError, Global};
@@ -21,9 +20,6 @@ pub struct Room {
     /// Their directions.
     pub down: Vec<bool>,
 
-    /// The room of the draw.
-    pub draw: Rooms,
-
     /// The values of the locals.
     pub locals: Vec<Value>,
 }
@@ -38,7 +34,6 @@ impl Room {
             earlier: Earlier::make(alloc, scenario)?,
             targets: Vec::with_capacity(alloc, drawn)?,
             down: Vec::with_capacity(alloc, drawn)?,
-            draw: Rooms::make(alloc)?,
             locals: Vec::with_capacity(alloc, scenario.locals.len())?,
         })
     }

@@ -16,6 +16,7 @@ ghost use Rattle.lt_instant.specs.inner.MomentView.{configuration_in};
 ghost use Rattle.lt_instant.specs.inner.Takes.{Draws, IsDue};
 
 use crate::explorer::Explorer;
+use crate::exploring;
 use crate::finding::Finding;
 use crate::moment::Moment;
 use crate::reacting::react;
@@ -24,7 +25,6 @@ use crate::standing::Standing;
 use crate::targets::{find_directions, find_targets};
 use lt_draw::{Draw, StepWords};
 use lt_join::trees_agree;
-use lt_lazy::{Rooms, draw};
 use lt_num::{Arith, Value};
 use lt_term::Scenario;
 use lt_track::{size, steps_grow_by_one};
@@ -137,11 +137,11 @@ fn find_leaf(
         down: &room.down,
         budget,
     };
-    draw_leaf(&mut standing.explorer, &moment, &mut room.draw)
+    draw_leaf(&mut standing.explorer, &moment)
 }
 
 // Draws a leaf in a moment.
-fn draw_leaf(explorer: &mut Explorer, moment: &Moment<'_>, rooms: &mut Rooms) -> bool
+fn draw_leaf(explorer: &mut Explorer, moment: &Moment<'_>) -> bool
     requires ready { IsReady moment.now explorer.old }
     ensures draws { Draws moment.now.scenario.now moment.now.words.now.seed moment.now.draw
         moment.now.budget (configuration_in moment.now (process_of explorer.old))
@@ -153,7 +153,7 @@ fn draw_leaf(explorer: &mut Explorer, moment: &Moment<'_>, rooms: &mut Rooms) ->
     // which the draw goes is that of what is offered.
     steps_grow_by_one();
     trees_agree();
-    draw(explorer, moment, moment.words, rooms)
+    exploring::draw(explorer, moment)
 }
 
 // What is taken at the leaf that is drawn.
@@ -185,7 +185,7 @@ fn take_found(
     ensures past { IsPastOf scenario.now standing.new.past }
     ensures locals { vec_capacity locals.new ≡ vec_capacity locals.old }
 {
-    match standing.explorer.found {
+    match standing.explorer.picker.found {
         Finding::Passed => Taken::Nothing,
         Finding::Over(need) => Taken::Budget(need),
         Finding::Vanish => Taken::Vanish,

@@ -9,7 +9,7 @@ use Rattle.lt_term.specs.Size.{Weights, each_one, leaf_weight, tree_weight, bran
 use Rattle.lt_term.specs.Tree.{Leaf, vanish, nothing, raised, go, Tree, leaf, ordered, weighted, Branches, no_branch, branch, with_leaves}
 use Rattle.lt_tally.specs.Tally.{just_vanish, just_go, just_raise, nodes, vanishes, goes, raises}
 use Rattle.lt_tally.proofs.Public.{added, seq_weight}
-use Rattle.lt_place.specs.inner.Finding.{IsContext}
+use Rattle.lt_place.specs.inner.Context.{IsContext}
 
 -- what leaves weigh, but for exceptions from this one on, which weigh 1
 abbrev pub up_to : ℕ → Weights → Weights

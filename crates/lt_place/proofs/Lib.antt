@@ -1,5 +1,8 @@
 pub mod Handlers
 pub mod Contexts
 pub mod Spots
-pub mod Findings
-pub mod Counts
+pub mod Parts
+pub mod Asks
+pub mod Walked
+pub mod Underways
+pub mod Roots

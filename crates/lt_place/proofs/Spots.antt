@@ -119,7 +119,7 @@ module _ (w : Weights) (k : ℕ) where
       at (raised z) js = refl
       at (go cs ls n) js = refl
 
-  instant_spot : (cs : List ℕ) (ls : Lasts) (n : Process ℕ) (u : TermTree ℕ) (ks : List ℕ) → spot w k (with_leaves (joined cs ls n) u) ks ≡ joined_spot (spot (beside_weights w) k u ks)
+  pub instant_spot : (cs : List ℕ) (ls : Lasts) (n : Process ℕ) (u : TermTree ℕ) (ks : List ℕ) → spot w k (with_leaves (joined cs ls n) u) ks ≡ joined_spot (spot (beside_weights w) k u ks)
   instant_spot cs ls n u ks = behind w (beside_weights w) k (joined cs ls n) (joined_weight w cs ls n) joined_spot (λ n. refl) (λ js. refl) at u ks
     where
       at : (l : TermLeaf ℕ) (js : List ℕ) → spot w k (joined cs ls n l) js ≡ joined_spot (at_leaf l js)

@@ -1,14 +1,11 @@
-//! What a search takes along.
+//! What a walk takes along.
 
 ghost use Rattle.std.specs.Prelude.{◌≤◌};
 
-/// What a search takes along to a part of a tree: what it looks for, and what leaves weigh there, but for those that raise
-/// exceptions. Each weight is exact up to 65,537, which stands for more.
+/// What leaves weigh in the part of a tree at hand, but for those that raise exceptions: as many nodes as stand in their
+/// place in the whole tree. Each weight is exact up to 65,537, which stands for more.
 #[derive(Clone, Copy)]
-pub(crate) struct Aim {
-    /// How many parts of a choice are asked for.
-    pub parts: u32,
-
+pub struct Aim {
     /// What a leaf weighs that vanishes.
     pub vanish: u64,
 

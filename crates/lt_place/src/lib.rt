@@ -1,19 +1,19 @@
-//! How many nodes stand before a part of a choice, in the tree of what a body with marks offers.
+//! The walk to a leaf of what a body with marks offers.
 //!
-//! [`nodes_before`] goes along a path, once, and takes along what each leaf weighs in the part of the tree at hand: as many
-//! nodes as stand in its place in the whole tree. So it makes no tree, and looks at no part beside the path but by how large
-//! that is. It takes no memory: a [`Room`] is made once for a body.
-//!
-//! `specs/Before.antt` says what is counted, and `specs/inner/Spot.antt` what stands at a path in the part at hand.
+//! [`reach`] walks from the root along a path, and where this ends at a choice, its [`Chooser`] says which part to go on with.
+//! The walk takes along what each leaf weighs in the part of the tree at hand: as many nodes as stand in its place in the whole
+//! tree. So it can tell the chooser how many nodes stand before each part, makes no tree, and looks at no part beside its way but
+//! by how large that is. It takes no memory.
 #![tactic(auto)]
 
 mod aim;
-mod counting;
-mod path;
-mod place;
+mod arriving;
+mod chooser;
+mod choosing;
+mod reaching;
 mod room;
-mod seeking;
 mod weighing;
 
-pub use counting::nodes_before;
-pub use room::{Room, room_for};
+pub use chooser::Chooser;
+pub use reaching::reach;
+pub use room::weights_for;

@@ -1,4 +1,4 @@
-//! Room for a search.
+//! What leaves weigh that raise an exception.
 
 ghost use Rattle.std.specs.Prelude.{◌≤◌, ◌^◌, IfOk};
 ghost use Rattle.lt_place.specs.Room.{EachHandlesBelow, HandlesBelow, IsRoomFor};
@@ -7,21 +7,12 @@ ghost use Rattle.lt_track.specs.View.{body, choices_of};
 use lt_track::{Parts, Track};
 use std::alloc::{AllocError, Global};
 
-/// What a search in a body writes on: what leaves weigh that raise an exception, by the number of
-/// the exception. A search leaves it as it was: each weighs 1.
-#[derive(Drop)]
-pub struct Room {
-    /// The weights.
-    pub weights: Vec<u64>,
-}
-
-/// Room for each search in a body.
-pub fn room_for(alloc: Global, track: &Track) -> Result<Room, AllocError>
-    ensures { IfOk result (IsRoomFor (body track.now)) }
+/// Room for what leaves weigh that raise an exception, by the number of the exception: each weighs 1.
+pub fn weights_for(alloc: Global, track: &Track) -> Result<Vec<u64>, AllocError>
+    ensures { IfOk result (λ weights. IsRoomFor (body track.now) weights.items) }
 {
     let exceptions = exceptions_in(track) as usize;
-    let weights = vec![in alloc; 1; exceptions]?;
-    Ok(Room { weights })
+    Ok(vec![in alloc; 1; exceptions]?)
 }
 
 // One more than the greatest exception that a term handles.

@@ -1,15 +1,15 @@
 //! What parts of a tree weigh where their leaves stand for other trees.
 
-ghost use Rattle.std.specs.Prelude.{◌≡◌, ◌≤◌, ◌+◌, ◌-◌, ◌*◌, ℕ, List};
+ghost use Rattle.std.specs.Prelude.{◌≡◌, ◌<◌, ◌≤◌, ◌+◌, ◌++◌, ◌-◌, ◌*◌, ℕ, List, length, slice_index_or, vec_capacity};
 ghost use Rattle.lt_num.specs.declared.kind.Kind.{Kind};
 ghost use Rattle.lt_tally.specs.Tally.{raises};
 ghost use Rattle.lt_term.specs.Offers.{offers_of, offers_of_each};
 ghost use Rattle.lt_term.specs.Process.{count, loop};
 ghost use Rattle.lt_term.specs.Size.{Weights, capped, tree_weight};
-ghost use Rattle.lt_place.specs.inner.Finding.{AreWeights, IsContext, IsWeight};
-ghost use Rattle.lt_place.specs.inner.Spot.{first_side, first_weight};
+ghost use Rattle.lt_place.specs.inner.Context.{AreWeights, IsContext, IsWeight};
+ghost use Rattle.lt_place.specs.inner.Spot.{weights_before};
 ghost use Rattle.lt_track.specs.Tallied.{AreTallied, IsTallied};
-ghost use Rattle.lt_track.specs.View.{begun, body, choices_of};
+ghost use Rattle.lt_track.specs.View.{begun, body, choices_of, nodes_of_each};
 
 use crate::aim::Aim;
 use lt_tally::{grown, joined};
@@ -50,6 +50,14 @@ fn with_raised(number: u64, part: &Box<Track>, is_fresh: bool, exception: u32, w
     grown(number, raised, weight)
 }
 
+/// What a leaf weighs that raises an exception.
+pub(crate) fn weight_at(weights: &[u64], exception: u32) -> u64
+    requires within { exception < length weights.now }
+    ensures is { result ≡ slice_index_or weights.now exception 0 }
+{
+    weights[exception as usize]
+}
+
 /// What a loop weighs that begins a turn, whether it is counted or not. A turn that takes no instant is none.
 pub(crate) fn weigh_loop(again: &Box<Track>, aim: Aim, weights: &[u64]) -> u64
     requires tallied { IsTallied again.now.value }
@@ -63,7 +71,6 @@ pub(crate) fn weigh_loop(again: &Box<Track>, aim: Aim, weights: &[u64]) -> u64
         result ≡ capped (tree_weight w (offers_of kinds (count i done (body again.now.value)))) }
 {
     let inside = Aim {
-        parts: aim.parts,
         vanish: 1,
         go: aim.go,
     };
@@ -72,52 +79,26 @@ pub(crate) fn weigh_loop(again: &Box<Track>, aim: Aim, weights: &[u64]) -> u64
     joined(parts, 1, 1)
 }
 
-/// What so many parts of a choice between two trees weigh, of which this is the first.
-pub(crate) fn weigh_side(first: &Box<Track>, is_fresh: bool, aim: Aim, weights: &[u64]) -> u64
-    requires tallied { IsTallied first.now.value }
-    requires weights { AreWeights weights.now }
-    ensures few { result ≤ 65537 }
-    ensures is { (kinds : List Kind) (w : Weights) →
-        IsContext aim.vanish aim.go weights.now w → result ≡
-        capped (first_side w (offers_of kinds (begun is_fresh first.now.value)) aim.parts) }
-{
-    if aim.parts == 0 {
-        return 0;
-    }
-    weigh(first, is_fresh, aim, weights)
-}
-
-/// What so many of some terms to choose from weigh, from the first one on.
-#[cycle(first)]
-pub(crate) fn weigh_first(among: &Box<Parts>, parts: u32, aim: Aim, weights: &[u64]) -> u64
-    requires tallied { AreTallied among.now.value }
-    requires weights { AreWeights weights.now }
-    ensures few { result ≤ 65537 }
-    ensures is { (kinds : List Kind) (w : Weights) →
-        IsContext aim.vanish aim.go weights.now w → result ≡
-        capped (first_weight w (offers_of_each kinds (choices_of among.now.value)) parts) }
-{
-    weigh_among(among, parts, aim, weights)
-}
-
-// The same, of terms that aren't behind a box.
-#[cycle(first)]
-fn weigh_among(among: &Parts, parts: u32, aim: Aim, weights: &[u64]) -> u64
+/// Puts how many nodes stand before each of some terms to choose from, behind so many.
+#[cycle(before)]
+pub(crate) fn put_before(
+    among: &Parts,
+    nodes: u64,
+    aim: Aim,
+    weights: &[u64],
+    before: &mut Vec<u64>,
+)
     requires tallied { AreTallied among.now }
     requires weights { AreWeights weights.now }
-    ensures few { result ≤ 65537 }
-    ensures is { (kinds : List Kind) (w : Weights) →
-        IsContext aim.vanish aim.go weights.now w → result ≡
-        capped (first_weight w (offers_of_each kinds (choices_of among.now)) parts) }
+    requires few { nodes ≤ 65537 }
+    requires room { length before.old.items + nodes_of_each (choices_of among.now) ≤ vec_capacity before.old }
+    ensures puts { (kinds : List Kind) (w : Weights) (n : ℕ) → IsContext aim.vanish aim.go weights.now w → nodes ≡ capped n →
+        before.new.items ≡ before.old.items ++ weights_before w n (offers_of_each kinds (choices_of among.now)) }
+    ensures room { vec_capacity before.new ≡ vec_capacity before.old }
 {
-    match among {
-        Parts::End => 0,
-        Parts::Part(_, part, rest) => {
-            if parts == 0 {
-                return 0;
-            }
-            let first = weigh(part, true, aim, weights);
-            joined(first, 1, weigh_first(rest, parts - 1, aim, weights))
-        }
+    if let Parts::Part(_, part, rest) = among {
+        before.push_reserved(nodes);
+        let first = weigh(part, true, aim, weights);
+        put_before(rest, joined(nodes, 1, first), aim, weights, before);
     }
 }

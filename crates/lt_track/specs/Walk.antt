@@ -1,6 +1,5 @@
 -- Walks along paths.
-use Rattle.std.specs.Prelude.{◌≡◌, ◌≤◌, ◌+◌, ℕ, zero, suc, List, [], ◌∷◌, ◌++◌, drop, take, length, map, None, Some, vec_capacity}
-use Rattle.std.specs.declared.option.Option.{Option}
+use Rattle.std.specs.Prelude.{◌≡◌, ◌≤◌, ◌+◌, ℕ, List, [], ◌++◌, take, length, map, vec_capacity}
 use Rattle.lt_term.specs.Offers.{TermTree}
 use Rattle.lt_term.specs.Process.{Process}
 use Rattle.lt_term.specs.Tree.{Lasts, Weight, vanish, nothing, raised, go}
@@ -8,8 +7,6 @@ use Rattle.lt_term.specs.TreeView.{weight}
 use Rattle.lt_track.specs.Path.{Arrival, at_leaf, at_ordered, at_weighted, at_path}
 use Rattle.lt_track.specs.declared.walk.Reached.{Reached}
 use Rattle.lt_track.specs.declared.walk.Reached.TheVariants as reached
-use Rattle.lt_track.specs.declared.walk.Side.{Side}
-use Rattle.lt_track.specs.declared.walk.Side.TheVariants as side
 use Rattle.lt_track.specs.declared.walk.Walk.{Walk}
 
 -- what a walk holds
@@ -24,10 +21,10 @@ pub record State : Type 0 where
   pub scope : Lasts
   pub weights : List (Weight ℕ)
 
--- what a walk along a path holds
+-- what a walk holds that has these choices left
 abbrev pub held : List ℕ → Walk → State
-held path w = record {
-  rest = drop w.taken path;
+held left w = record {
+  rest = left;
   fired = w.fired.items;
   lasts = w.lasts.items;
   scope = w.scope.items;
@@ -40,6 +37,7 @@ pub record Rooms : Type 0 where
   pub lasts : ℕ
   pub scope : ℕ
   pub weights : ℕ
+  pub before : ℕ
 
 abbrev pub rooms : Walk → Rooms
 rooms w = record {
@@ -47,6 +45,7 @@ rooms w = record {
   lasts = vec_capacity w.lasts;
   scope = vec_capacity w.scope;
   weights = vec_capacity w.weights;
+  before = vec_capacity w.before;
 }
 
 -- a walk has room for a term of so many nodes
@@ -55,6 +54,7 @@ pub record HasRoom (n : ℕ) (w : Walk) : Type 0 where
   pub lasts : length w.lasts.items + n ≤ (rooms w).lasts
   pub scope : length w.scope.items + n ≤ (rooms w).scope
   pub weights : n ≤ (rooms w).weights
+  pub before : n ≤ (rooms w).before
 
 -- a walk that holds nothing has room for a term of so many nodes
 pub record IsRoomy (n : ℕ) (w : Walk) : Type 0 where
@@ -62,6 +62,7 @@ pub record IsRoomy (n : ℕ) (w : Walk) : Type 0 where
   pub lasts : n ≤ (rooms w).lasts
   pub scope : n ≤ (rooms w).scope
   pub weights : n ≤ (rooms w).weights
+  pub before : n ≤ (rooms w).before
 
 -- a walk that sets out on a path
 abbrev pub setting_out : List ℕ → State
@@ -107,14 +108,3 @@ abbrev pub closed : Reached → ℕ → ℕ → State → State
 closed reached.Go lasts scope s = record s { scope = take scope s.scope }
 closed reached.Weighted lasts scope s = record s { lasts = take lasts s.lasts }
 closed r lasts scope s = record s { lasts = take lasts s.lasts; scope = take scope s.scope }
-
--- the next of some choices between two trees, and the others
-abbrev pub next_side : List ℕ → Side × List ℕ
-next_side [] = (side.End, [])
-next_side (zero ∷ ks) = (side.First, ks)
-next_side (suc k ∷ ks) = (side.Second, ks)
-
--- the next of some choices, and the others
-abbrev pub next_choice : List ℕ → Option ℕ × List ℕ
-next_choice [] = (None, [])
-next_choice (k ∷ ks) = (Some k, ks)

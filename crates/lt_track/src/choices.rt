@@ -13,14 +13,16 @@ use lt_num::{Kind, Value};
 use lt_term::{Last, Var, Weight};
 
 /// Meets the weights of a counted loop: of one more turn, and of the end.
-pub(crate) fn meet_turns(walk: &mut Walk, counter: u32, done: u64)
+pub fn meet_turns(walk: &mut Walk, counter: u32, done: u64)
     requires { 2 ≤ (rooms walk.old).weights }
-    ensures holds { (path : List ℕ) →
-        held path walk.new ≡
-        record (held path walk.old) { weights = more counter done ∷ stop counter done ∷ [] } }
+    ensures holds { (left : List ℕ) →
+        held left walk.new ≡
+        record (held left walk.old) { weights = more counter done ∷ stop counter done ∷ [] } }
     ensures fired { walk.new.fired ≡ walk.old.fired }
     ensures lasts { walk.new.lasts ≡ walk.old.lasts }
     ensures scope { walk.new.scope ≡ walk.old.scope }
+    ensures before { walk.new.before ≡ walk.old.before }
+    ensures raised { walk.new.raised ≡ walk.old.raised }
     ensures rooms { rooms walk.new ≡ rooms walk.old }
 {
     walk.weights.clear();
@@ -29,14 +31,16 @@ pub(crate) fn meet_turns(walk: &mut Walk, counter: u32, done: u64)
 }
 
 /// Meets the weights of some terms to choose from.
-pub(crate) fn meet_weights(walk: &mut Walk, parts: &Parts)
+pub fn meet_weights(walk: &mut Walk, parts: &Parts)
     requires { nodes_of_each (choices_of parts.now) ≤ (rooms walk.old).weights }
-    ensures holds { (path : List ℕ) →
-        held path walk.new ≡
-        record (held path walk.old) { weights = weights_in (choices_of parts.now) } }
+    ensures holds { (left : List ℕ) →
+        held left walk.new ≡
+        record (held left walk.old) { weights = weights_in (choices_of parts.now) } }
     ensures fired { walk.new.fired ≡ walk.old.fired }
     ensures lasts { walk.new.lasts ≡ walk.old.lasts }
     ensures scope { walk.new.scope ≡ walk.old.scope }
+    ensures before { walk.new.before ≡ walk.old.before }
+    ensures raised { walk.new.raised ≡ walk.old.raised }
     ensures rooms { rooms walk.new ≡ rooms walk.old }
 {
     walk.weights.clear();
@@ -48,15 +52,17 @@ pub(crate) fn meet_weights(walk: &mut Walk, parts: &Parts)
 fn push_weights(walk: &mut Walk, parts: &Parts)
     requires { length walk.old.weights.items + nodes_of_each (choices_of parts.now) ≤
         (rooms walk.old).weights }
-    ensures holds { (path : List ℕ) →
-        held path walk.new ≡
-        record (held path walk.old) {
+    ensures holds { (left : List ℕ) →
+        held left walk.new ≡
+        record (held left walk.old) {
           weights = map weight walk.old.weights.items ++
               weights_in (choices_of parts.now);
         } }
     ensures fired { walk.new.fired ≡ walk.old.fired }
     ensures lasts { walk.new.lasts ≡ walk.old.lasts }
     ensures scope { walk.new.scope ≡ walk.old.scope }
+    ensures before { walk.new.before ≡ walk.old.before }
+    ensures raised { walk.new.raised ≡ walk.old.raised }
     ensures rooms { rooms walk.new ≡ rooms walk.old }
 {
     if let Parts::Part(number, _, rest) = parts {

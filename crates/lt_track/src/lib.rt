@@ -13,21 +13,19 @@ mod choices;
 mod counting;
 mod extent;
 mod extents;
-mod following;
 mod going_on;
 mod laws;
 mod making;
 mod over;
 mod raising;
-mod reaching;
 mod scopes;
 mod track;
 mod walk;
 
+pub use choices::{meet_turns, meet_weights};
 pub use counting::node_count;
 pub use extent::Extent;
 pub use extents::{count_tally, loop_tally, part_tally, size};
-pub use following::follow;
 pub use going_on::go_on;
 pub use laws::{
     arrivals_are_nodes, body_is_at_start, choices_stay_narrow, numbers_stay, steps_grow_by_one,
@@ -35,6 +33,6 @@ pub use laws::{
 pub use making::track_of;
 pub use over::is_over;
 pub use raising::part_raises;
-pub use reaching::reach;
+pub use scopes::kept;
 pub use track::{Mark, Marks, Parts, Track};
 pub use walk::{Reached, Walk};

@@ -10,7 +10,7 @@ use lt_term::{Last, Var};
 
 /// What a local keeps until its next value is known: the value that it had, or false or 0 where it
 /// had none.
-pub(crate) fn kept(locals: &[Var], local: u32, last: Last) -> Last
+pub fn kept(locals: &[Var], local: u32, last: Last) -> Last
     ensures { result ≡ kept (start_of (kinds_of locals.now) local) last }
 {
     match last {

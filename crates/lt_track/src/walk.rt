@@ -1,7 +1,7 @@
 //! Walks along paths.
 
 ghost use Rattle.std.specs.Prelude.{◌≡◌, ◌<◌, ◌≤◌, ◌+◌, ◌++◌, ℕ, List, [], ◌∷◌, IfOk, length, map, take, vec_capacity};
-ghost use Rattle.lt_track.specs.Walk.{IsRoomy, State, closed, held, next_choice, next_side, rooms, setting_out, settled};
+ghost use Rattle.lt_track.specs.Walk.{IsRoomy, State, closed, held, rooms, setting_out, settled};
 
 use lt_term::{Last, Weight};
 use std::alloc::{AllocError, Global};
@@ -28,25 +28,9 @@ pub enum Reached {
     Weighted,
 }
 
-/// What a path says of a choice between two trees.
-#[derive(Clone, Copy)]
-pub(crate) enum Side {
-    /// It ends there.
-    End,
-
-    /// It leads into the first.
-    First,
-
-    /// It leads into the second.
-    Second,
-}
-
 /// What a walk along a path takes with it. All its room is reserved when it is made.
 #[derive(Drop)]
 pub struct Walk {
-    /// How many choices of the path were taken.
-    pub taken: usize,
-
     /// The constraints of the instant that was reached.
     pub fired: Vec<u32>,
 
@@ -58,106 +42,73 @@ pub struct Walk {
 
     /// These weights.
     pub weights: Vec<Weight>,
+
+    /// How many nodes stand before each of the parts that have these weights.
+    pub before: Vec<u64>,
+
+    /// What leaves weigh that raise an exception, by the number of the exception.
+    pub raised: Vec<u64>,
 }
 
 impl Walk {
-    /// A walk in terms of at most so many nodes.
-    pub fn make(alloc: Global, nodes: usize) -> Result<Walk, AllocError>
+    /// A walk in terms of at most so many nodes, where leaves that raise exceptions weigh this.
+    pub fn make(alloc: Global, nodes: usize, raised: Vec<u64>) -> Result<Walk, AllocError>
         ensures roomy { IfOk result (IsRoomy nodes) }
         ensures fired { IfOk result (λ walk. (rooms walk).fired ≡ nodes) }
         ensures lasts { IfOk result (λ walk. (rooms walk).lasts ≡ nodes) }
+        ensures raised { IfOk result (λ walk. walk.raised.items ≡ raised.items) }
     {
         Ok(Walk {
-            taken: 0,
             fired: Vec::with_capacity(alloc, nodes)?,
             lasts: Vec::with_capacity(alloc, nodes)?,
             scope: Vec::with_capacity(alloc, nodes)?,
             weights: Vec::with_capacity(alloc, nodes)?,
+            before: Vec::with_capacity(alloc, nodes)?,
+            raised,
         })
     }
 
-    // Sets out from the root.
-    pub(crate) fn set_out(&mut self)
-        ensures holds { (path : List ℕ) → held path self.new ≡ setting_out path }
+    /// Sets out from the root.
+    pub fn set_out(&mut self)
+        ensures holds { (left : List ℕ) → held left self.new ≡ setting_out left }
+        ensures raised { self.new.raised ≡ self.old.raised }
         ensures rooms { rooms self.new ≡ rooms self.old }
         ensures fired { self.new.fired.items ≡ [] }
         ensures lasts { self.new.lasts.items ≡ [] }
         ensures scope { self.new.scope.items ≡ [] }
+        ensures weights { self.new.weights.items ≡ [] }
     {
-        self.taken = 0;
         self.fired.clear();
         self.lasts.clear();
         self.scope.clear();
         self.weights.clear();
     }
 
-    // The next choice of a path between two trees.
-    pub(crate) fn side(&mut self, path: &[u32]) -> Side
-        ensures next { next_side (held path.now self.old).rest ≡
-            (result, (held path.now self.new).rest) }
-        ensures holds { held path.now self.new ≡
-            record (held path.now self.old) { rest = (held path.now self.new).rest } }
-        ensures fired { self.new.fired ≡ self.old.fired }
-        ensures lasts { self.new.lasts ≡ self.old.lasts }
-        ensures scope { self.new.scope ≡ self.old.scope }
-        ensures weights { self.new.weights ≡ self.old.weights }
-        ensures rooms { rooms self.new ≡ rooms self.old }
-    {
-        match self.choice(path) {
-            None => Side::End,
-            Some(choice) => {
-                if choice == 0 {
-                    Side::First
-                } else {
-                    Side::Second
-                }
-            }
-        }
-    }
-
-    // The next choice of a path.
-    pub(crate) fn choice(&mut self, path: &[u32]) -> Option<u32>
-        ensures next { next_choice (held path.now self.old).rest ≡
-            (result, (held path.now self.new).rest) }
-        ensures holds { held path.now self.new ≡
-            record (held path.now self.old) { rest = (held path.now self.new).rest } }
-        ensures fired { self.new.fired ≡ self.old.fired }
-        ensures lasts { self.new.lasts ≡ self.old.lasts }
-        ensures scope { self.new.scope ≡ self.old.scope }
-        ensures weights { self.new.weights ≡ self.old.weights }
-        ensures rooms { rooms self.new ≡ rooms self.old }
-    {
-        if self.taken >= path.len() {
-            return None;
-        }
-        let choice = path[self.taken];
-        self.taken += 1;
-        Some(choice)
-    }
-
-    // Meets a constraint.
-    pub(crate) fn meet(&mut self, constraint: u32)
+    /// Meets a constraint.
+    pub fn meet(&mut self, constraint: u32)
         requires { length self.old.fired.items < (rooms self.old).fired }
-        ensures holds { (path : List ℕ) →
-            held path self.new ≡
-            record (held path self.old) { fired = self.old.fired.items ++ constraint ∷ [] } }
+        ensures holds { (left : List ℕ) →
+            held left self.new ≡
+            record (held left self.old) { fired = self.old.fired.items ++ constraint ∷ [] } }
         ensures len { length self.new.fired.items ≡ length self.old.fired.items + 1 }
         ensures lasts { self.new.lasts ≡ self.old.lasts }
         ensures scope { self.new.scope ≡ self.old.scope }
         ensures weights { self.new.weights ≡ self.old.weights }
+        ensures raised { self.new.raised ≡ self.old.raised }
         ensures rooms { rooms self.new ≡ rooms self.old }
     {
         self.fired.push_reserved(constraint);
     }
 
-    // Takes all constraints but the first ones back, where no instant was reached.
-    pub(crate) fn settle(&mut self, reached: Reached, fired: usize)
-        ensures holds { (path : List ℕ) →
-            held path self.new ≡ settled reached fired (held path self.old) }
+    /// Takes all constraints but the first ones back, where no instant was reached.
+    pub fn settle(&mut self, reached: Reached, fired: usize)
+        ensures holds { (left : List ℕ) →
+            held left self.new ≡ settled reached fired (held left self.old) }
         ensures few { length self.new.fired.items ≤ length self.old.fired.items }
         ensures lasts { self.new.lasts ≡ self.old.lasts }
         ensures scope { self.new.scope ≡ self.old.scope }
         ensures weights { self.new.weights ≡ self.old.weights }
+        ensures raised { self.new.raised ≡ self.old.raised }
         ensures rooms { rooms self.new ≡ rooms self.old }
     {
         match reached {
@@ -166,29 +117,30 @@ impl Walk {
         }
     }
 
-    // Takes all constraints and locals of an instant back but the first ones.
-    pub(crate) fn keep(&mut self, fired: usize, lasts: usize)
-        ensures holds { (path : List ℕ) →
-            held path self.new ≡
-            record (held path self.old)
+    /// Takes all constraints and locals of an instant back but the first ones.
+    pub fn keep(&mut self, fired: usize, lasts: usize)
+        ensures holds { (left : List ℕ) →
+            held left self.new ≡
+            record (held left self.old)
             { fired = take fired self.old.fired.items; lasts = take lasts self.old.lasts.items } }
         ensures few_fired { length self.new.fired.items ≤ length self.old.fired.items }
         ensures few_lasts { length self.new.lasts.items ≤ length self.old.lasts.items }
         ensures scope { self.new.scope ≡ self.old.scope }
         ensures weights { self.new.weights ≡ self.old.weights }
+        ensures raised { self.new.raised ≡ self.old.raised }
         ensures rooms { rooms self.new ≡ rooms self.old }
     {
         self.fired.truncate(fired);
         self.lasts.truncate(lasts);
     }
 
-    // Enters the scope of a local.
-    pub(crate) fn open(&mut self, local: u32, last: Last)
+    /// Enters the scope of a local.
+    pub fn open(&mut self, local: u32, last: Last)
         requires lasts { length self.old.lasts.items < (rooms self.old).lasts }
         requires scope { length self.old.scope.items < (rooms self.old).scope }
-        ensures holds { (path : List ℕ) →
-            held path self.new ≡
-            record (held path self.old) {
+        ensures holds { (left : List ℕ) →
+            held left self.new ≡
+            record (held left self.old) {
               lasts = self.old.lasts.items ++ (local, last) ∷
                   [];
               scope = self.old.scope.items ++ (local, last) ∷ [];
@@ -197,21 +149,23 @@ impl Walk {
         ensures len_scope { length self.new.scope.items ≡ length self.old.scope.items + 1 }
         ensures fired { self.new.fired ≡ self.old.fired }
         ensures weights { self.new.weights ≡ self.old.weights }
+        ensures raised { self.new.raised ≡ self.old.raised }
         ensures rooms { rooms self.new ≡ rooms self.old }
     {
         self.lasts.push_reserved((local, last));
         self.scope.push_reserved((local, last));
     }
 
-    // Leaves the scope of a local: an instant keeps the locals in scope of instants, and a choice
-    // by weight those of weights; all others but the first ones are taken back.
-    pub(crate) fn close(&mut self, reached: Reached, lasts: usize, scope: usize)
-        ensures holds { (path : List ℕ) →
-            held path self.new ≡ closed reached lasts scope (held path self.old) }
+    /// Leaves the scope of a local: an instant keeps the locals in scope of instants, and a choice
+    /// by weight those of weights; all others but the first ones are taken back.
+    pub fn close(&mut self, reached: Reached, lasts: usize, scope: usize)
+        ensures holds { (left : List ℕ) →
+            held left self.new ≡ closed reached lasts scope (held left self.old) }
         ensures few_lasts { length self.new.lasts.items ≤ length self.old.lasts.items }
         ensures few_scope { length self.new.scope.items ≤ length self.old.scope.items }
         ensures fired { self.new.fired ≡ self.old.fired }
         ensures weights { self.new.weights ≡ self.old.weights }
+        ensures raised { self.new.raised ≡ self.old.raised }
         ensures rooms { rooms self.new ≡ rooms self.old }
     {
         match reached {

@@ -1,6 +1,6 @@
 -- What stands at a path.
 use Rattle.std.specs.Prelude.{ℕ, zero, suc, ◌+◌, List, [], ◌∷◌}
-use Rattle.lt_term.specs.Size.{Weights, tree_weight}
+use Rattle.lt_term.specs.Size.{Weights, capped, tree_weight}
 use Rattle.lt_term.specs.Tree.{Leaf, vanish, nothing, raised, go, Tree, leaf, ordered, weighted, Branches, no_branch, branch}
 
 -- what stands at a path: a leaf, with the choices of the path that are left; or a choice
@@ -29,6 +29,11 @@ abbrev pub first_weight : {C N : Type 0} → Weights → Branches C N → ℕ �
 first_weight w no_branch k = 0
 first_weight w (branch x t bs) zero = 0
 first_weight w (branch x t bs) (suc k) = tree_weight w t + first_weight w bs k
+
+-- what stands before each of some trees to choose from weighs, behind so much; it is known up to 65,537
+abbrev pub weights_before : {C N : Type 0} → Weights → ℕ → Branches C N → List ℕ
+weights_before w n no_branch = []
+weights_before w n (branch x t bs) = capped n ∷ weights_before w (n + tree_weight w t) bs
 
 -- what stands at a path in a tree, where so many parts of a choice are asked for
 abbrev mutual

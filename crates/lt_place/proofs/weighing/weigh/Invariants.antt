@@ -1,6 +1,6 @@
 use Rattle.std.proofs.Common.{◌≡◌, List}
 use Rattle.lt_num.specs.declared.kind.Kind.{Kind}
-use Rattle.lt_place.specs.inner.Finding.{IsContext, IsWeight}
+use Rattle.lt_place.specs.inner.Context.{IsContext, IsWeight}
 use Rattle.lt_place.proofs.Contexts.{up_to}
 use Rattle.lt_term.specs.Offers.{offers_of}
 use Rattle.lt_term.specs.Size.{Weights, capped, tree_weight}
