@@ -1,6 +1,5 @@
 -- What a chooser is asked at a choice.
-use Rattle.std.proofs.Common.{◌≡◌, ◌<◌, ℕ, zero, suc, ◌+◌, ◌*◌, List, [], ◌∷◌, ◌++◌, length, map, get_or, refl, ap, sym, ◌∙◌, append-nil, arith}
-use Rattle.std.specs.Prelude.{slice_index_or}
+use Rattle.std.proofs.Common.{◌≡◌, ◌<◌, ℕ, zero, suc, ◌+◌, List, [], ◌∷◌, ◌++◌, length, map, get_or, refl, ap, sym, ◌∙◌, append-nil, arith}
 use Rattle.lt_term.specs.Offers.{TermTree}
 use Rattle.lt_term.specs.Process.{Process}
 use Rattle.lt_term.specs.Size.{Weights, capped, tree_weight}

@@ -1,10 +1,10 @@
 -- A walk that sets out from the root.
-use Rattle.std.proofs.Common.{◌≡◌, ◌+◌, ◌++◌, ℕ, zero, suc, List, [], ◌∷◌, All, refl, ap, sym, ◌∙◌, arith}
+use Rattle.std.proofs.Common.{◌≡◌, ◌++◌, ℕ, zero, suc, List, [], ◌∷◌, All, refl, ap, sym, ◌∙◌, arith}
 use Rattle.lt_tally.proofs.Public.{nodes_are_size}
 use Rattle.lt_term.specs.Offers.{TermTree}
 use Rattle.lt_term.specs.Process.{Process}
-use Rattle.lt_term.specs.Size.{each_one, tree_weight}
-use Rattle.lt_term.specs.Tree.{Lasts, Branches, no_branch, branch, leaf, vanish, nothing, raised, go, ordered, size, weighted}
+use Rattle.lt_term.specs.Size.{each_one}
+use Rattle.lt_term.specs.Tree.{Lasts, Branches, no_branch, branch, leaf, vanish, nothing, raised, go, ordered, weighted}
 use Rattle.lt_track.specs.Path.{at_path, at_weighted}
 use Rattle.lt_place.specs.Before.{nodes_before, nodes_before_in, nodes_of_first}
 use Rattle.lt_place.specs.inner.Spot as s

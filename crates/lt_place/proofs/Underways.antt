@@ -7,8 +7,8 @@ use Rattle.lt_term.specs.declared.last.Last.{Last}
 use Rattle.lt_term.specs.Offers.{TermTree, in_assert, in_catch, in_exist, in_par, in_seq, in_try, in_turn, offers_of, offers_of_each}
 use Rattle.lt_term.specs.Process.{Process, dead}
 use Rattle.lt_term.specs.Size.{Weights, capped, tree_weight}
-use Rattle.lt_term.specs.Tree.{Lasts, Weight, Branches, weights_of, branch, go, leaf, no_branch, ordered, raised, vanish, weighted, with_leaves, with_local}
-use Rattle.lt_track.specs.Path.{at_leaf, at_path, at_weighted}
+use Rattle.lt_term.specs.Tree.{Lasts, Weight, Branches, weights_of, branch, leaf, no_branch, ordered, vanish, weighted, with_leaves, with_local}
+use Rattle.lt_track.specs.Path.{at_path, at_weighted}
 use Rattle.lt_track.specs.View.{body_each, choices_of}
 use Rattle.lt_track.specs.declared.track.Parts.{Parts}
 use Rattle.lt_track.specs.declared.walk.Reached.TheVariants as reached

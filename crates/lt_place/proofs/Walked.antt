@@ -1,14 +1,13 @@
 -- Walks in the trees of terms, by those in the trees of their parts.
-use Rattle.std.proofs.Common.{◌≡◌, ◌≢◌, ℕ, zero, suc, Bool, true, List, [], ◌∷◌, ◌++◌, length, map, take, refl, ap, sym, ◌∙◌, subst, append-nil, append_assoc, ◌≤◌, ◌+◌, arith}
+use Rattle.std.proofs.Common.{◌≡◌, ◌≢◌, ℕ, zero, suc, List, [], ◌∷◌, ◌++◌, length, map, take, refl, ap, sym, ◌∙◌, subst, append-nil, append_assoc, ◌≤◌, arith}
 use Rattle.std.specs.Prelude.{vec_capacity}
-use Rattle.lt_num.specs.declared.kind.Kind.{Kind}
 use Rattle.lt_num.specs.declared.value.Value.{Value}
 use Rattle.lt_term.specs.declared.last.Last.{Last}
 use Rattle.lt_term.specs.declared.tree.Weight.{Weight}
-use Rattle.lt_term.specs.Next.{asserting, beside, catching, followed_by, kept, trying, with_scope}
-use Rattle.lt_term.specs.Offers.{TermTree, in_assert, in_catch, in_exist, in_par, in_seq, in_try, in_turn}
+use Rattle.lt_term.specs.Next.{asserting, beside, kept, with_scope}
+use Rattle.lt_term.specs.Offers.{TermTree, in_assert, in_catch, in_exist, in_par, in_seq, in_turn}
 use Rattle.lt_term.specs.Process.{Process}
-use Rattle.lt_term.specs.Tree.{Branches, leaf, nothing, ordered, raised, vanish, weighted, weights_of, with_leaves, with_local}
+use Rattle.lt_term.specs.Tree.{Branches, ordered, weighted, weights_of, with_leaves, with_local}
 use Rattle.lt_term.specs.TreeView.{weight}
 use Rattle.lt_track.proofs.Public as f
 use Rattle.lt_track.specs.Path.{at_branch, at_path}

@@ -1,5 +1,5 @@
 -- Walks that are under way in a part of a tree.
-use Rattle.std.specs.Prelude.{◌≡◌, ◌<◌, ℕ, List, [], ◌++◌, length}
+use Rattle.std.specs.Prelude.{◌≡◌, ◌<◌, ℕ, List, ◌++◌, length}
 use Rattle.lt_term.specs.Offers.{TermTree}
 use Rattle.lt_term.specs.Process.{Process}
 use Rattle.lt_term.specs.Size.{Weights, tree_weight}

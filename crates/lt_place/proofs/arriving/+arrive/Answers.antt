@@ -1,19 +1,19 @@
 use Rattle.std.proofs.Common.{◌≡◌, ◌+◌, ◌++◌, ℕ, suc, [], ◌∷◌, Bool, true, false, length, take, slice_set, refl, ap, sym, ◌∙◌, subst, rules, arith}
-use Rattle.std.specs.Prelude.{slice_index_or, vec_capacity}
+use Rattle.std.specs.Prelude.{slice_index_or}
 use Rattle.lt_term.specs.Next.{followed_by, with_scope}
 use Rattle.lt_term.specs.Offers.{in_turn, offers_of, offers_of_each, start_of}
 use Rattle.lt_term.specs.Process.{count, dead, eps, loop, raise}
 use Rattle.lt_term.specs.Tree.{branch, leaf, more, no_branch, nothing, stop, vanish, weighted, with_leaves}
 use Rattle.lt_term.specs.View.{kinds_of}
-use Rattle.lt_track.specs.Marks.{assert_at, catch_at, count_at, exist_at, loop_at, try_at}
+use Rattle.lt_track.specs.Marks.{assert_at, count_at, exist_at, loop_at, try_at}
 use Rattle.lt_track.specs.Over.{is_over}
 use Rattle.lt_track.specs.Path.{at_branch}
 use Rattle.lt_track.specs.View.{begun, begun_each, body, body_each, choices_of, next, nodes, standing, standing_each}
 use Rattle.lt_track.specs.Walk.{held, settled, closed}
 use Rattle.lt_track.specs.declared.track.Parts.TheVariants.{End}
-use Rattle.lt_track.proofs.Public.{any_offers, assert_offers, begun_is, beyond_two, bodies_counted, assert_part, body_counted, branch_of, exist_part, part_counted, catch_offers, con_begun, con_over, count_new, count_offers, does_nothing, exist_offers, first_stays, first_stops, loop_new, loop_offers, meets, nodes_positive, not_handled, not_raised, par_offers, plain, pri_offers, raises, room_met, room_opened, room_same, seq_offers, tallied_still, tries, try_offers, try_over, vanishes, weights_are}
+use Rattle.lt_track.proofs.Public.{any_offers, assert_offers, begun_is, beyond_two, bodies_counted, assert_part, body_counted, branch_of, exist_part, part_counted, catch_offers, con_begun, con_over, count_new, count_offers, does_nothing, exist_offers, first_stays, first_stops, loop_new, loop_offers, meets, nodes_positive, not_handled, not_raised, par_offers, plain, pri_offers, raises, room_met, room_opened, seq_offers, tallied_still, tries, try_offers, try_over, vanishes, weights_are}
 use Rattle.lt_place.proofs.Asks.{still_held}
-use Rattle.lt_place.proofs.Contexts.{context_again, context_beside, put_back}
+use Rattle.lt_place.proofs.Contexts.{context_again, put_back}
 use Rattle.lt_place.proofs.Underways.{again, at_choice, at_order, at_turns, in_asserted, in_beside, in_branch, in_caught, in_first, in_first_turn, in_handler, in_left, in_one_turn, in_other, in_right, in_scope, in_second, in_side, in_this_turn, in_try_order, same_tree}
 use Rattle.lt_place.proofs.Walked.{asserts, both_go, exists, first_goes, first_leads, from_same, gone_scope, gone_weights, handled, on, raised_scope, raised_weights, room_walked, same_scope, same_weights, second_stops, side_leads, stays_there, still, stops_choice, stops_order, taken_first, taken_part, taken_second, to_same, turn_is_none}
 use Rattle.lt_place.specs.Room.{HandlesBelow}
@@ -26,7 +26,6 @@ use Rattle.lt_place.proofs.arriving.+arrive.Goals.{arrive-else-not-is_new-via-th
 no_part : (f : Bool) (place : ℕ) → slice_index_or (begun_each f End) place dead ≡ dead
 no_part true place = refl
 no_part false place = refl
-
 
 pub arrive-enter-requires-in_default-standing : goal.arrive-enter-requires-in_default-standing
 arrive-enter-requires-in_default-standing g t c κs within =
@@ -106,12 +105,12 @@ arrive-returns-then-raised-exception-clause-arrives g t c =
 
 pub arrive-returns-then-raised-exception-clause-same_raised : goal.arrive-returns-then-raised-exception-clause-same_raised
 arrive-returns-then-raised-exception-clause-same_raised g t c =
-    let pb : slice_set c.enter-reached-in_default-standing-6.new.walk.raised.items c.in-Catch.exception c.weight_at-outside.result ≡ c.args.walk.now.raised.items = ap (λ n. slice_set c.enter-reached-in_default-standing-6.new.walk.raised.items c.in-Catch.exception n) (c.weight_at-outside.ensures ∙ ap (λ ws. slice_index_or ws c.in-Catch.exception 0) c.deref-in_default-standing-6-2.ensures.value) ∙ put_back c.args.walk.now.raised.items c.enter-reached-in_default-standing-6.new.walk.raised.items c.in-Catch.exception c.weigh-weight.result c.enter-reached-in_default-standing-6.ensures.same_raised in
+    let pb : slice_set c.enter-reached-in_default-standing-6.new.walk.raised.items c.in-Catch.exception c.weight_at-outside.result ≡ c.args.walk.now.raised.items = ap (λ n. slice_set c.enter-reached-in_default-standing-6.new.walk.raised.items c.in-Catch.exception n) (c.weight_at-outside.ensures.is ∙ ap (λ ws. slice_index_or ws c.in-Catch.exception 0) c.deref-in_default-standing-6-2.ensures.value) ∙ put_back c.args.walk.now.raised.items c.enter-reached-in_default-standing-6.new.walk.raised.items c.in-Catch.exception c.weigh-weight.result c.enter-reached-in_default-standing-6.ensures.same_raised in
     pb
 
 pub arrive-enter-requires-in-Raised : goal.arrive-enter-requires-in-Raised
 arrive-enter-requires-in-Raised g t c κs within =
-    let pb : slice_set c.enter-reached-in_default-standing-6.new.walk.raised.items c.in-Catch.exception c.weight_at-outside.result ≡ c.args.walk.now.raised.items = ap (λ n. slice_set c.enter-reached-in_default-standing-6.new.walk.raised.items c.in-Catch.exception n) (c.weight_at-outside.ensures ∙ ap (λ ws. slice_index_or ws c.in-Catch.exception 0) c.deref-in_default-standing-6-2.ensures.value) ∙ put_back c.args.walk.now.raised.items c.enter-reached-in_default-standing-6.new.walk.raised.items c.in-Catch.exception c.weigh-weight.result c.enter-reached-in_default-standing-6.ensures.same_raised in
+    let pb : slice_set c.enter-reached-in_default-standing-6.new.walk.raised.items c.in-Catch.exception c.weight_at-outside.result ≡ c.args.walk.now.raised.items = ap (λ n. slice_set c.enter-reached-in_default-standing-6.new.walk.raised.items c.in-Catch.exception n) (c.weight_at-outside.ensures.is ∙ ap (λ ws. slice_index_or ws c.in-Catch.exception 0) c.deref-in_default-standing-6-2.ensures.value) ∙ put_back c.args.walk.now.raised.items c.enter-reached-in_default-standing-6.new.walk.raised.items c.in-Catch.exception c.weigh-weight.result c.enter-reached-in_default-standing-6.ensures.same_raised in
     (search rules, (within.0, (within.1, (search rules, (body_counted c.in-Catch.otherwise.value, (search rules, (subst AreWeights (sym pb) c.requires.weights, (subst (λ zs. HandlesBelow (length zs) (body c.in-Catch.otherwise.value)) (sym pb) (subst (HandlesBelow (length c.args.walk.now.raised.items)) (ap body c.in-Catch.is) c.requires.handlers).2, (raised_weights c.in-Raised.raised _ _ _ _ _ _ c.requires.none c.in-Raised.ensures.walks, (c.requires.underway.0, c.requires.underway.1, (in_handler _ _ _ _ _ _ _ _ _ _ _ _ (raised_scope c.in-Raised.raised _ _ _ _ _ _ c.in-Raised.ensures.walks) pb (c.in-Raised.ensures.arrives _ _ (in_caught _ _ _ _ _ _ _ _ c.in-Catch.exception _ (body c.in-Catch.otherwise.value) (offers_of (kinds_of c.args.locals.now) (body c.in-Catch.otherwise.value)) (offers_of (kinds_of c.args.locals.now) (begun c.is_new-in_default-standing-6.result c.in-Catch.body.value)) ((subst (HandlesBelow (length c.args.walk.now.raised.items)) (ap body c.in-Catch.is) c.requires.handlers).0) (λ w k. c.weigh-weight.ensures.is (kinds_of c.args.locals.now) w (context_again _ _ _ _ w c.deref-in_default-standing-6.ensures.value k)) (same_tree _ _ _ _ _ _ _ _ _ _ (catch_offers (kinds_of c.args.locals.now) c.args.is_fresh c.args.track.now c.in-Catch.marks.at c.standing-in-Catch.result c.is_new-in_default-standing-6.result c.standing-in-Catch.ensures c.in-Catch.exception c.in-Catch.body.value c.in-Catch.otherwise.value (ap standing c.in-Catch.is) (ap body c.in-Catch.is) c.in_default-standing-6.not-Second c.is_new-in_default-standing-6.ensures) c.requires.underway.2))) c.in-Catch.exception c.in-Raised.raised (body c.in-Catch.otherwise.value) (offers_of (kinds_of c.args.locals.now) (body c.in-Catch.otherwise.value)) (offers_of (kinds_of c.args.locals.now) (begun c.is_new-in_default-standing-6.result c.in-Catch.body.value)) _ _ _ c.if-raised-exception.false c.in-Raised.ensures.walks (same_tree _ _ _ _ _ _ _ _ _ _ (catch_offers (kinds_of c.args.locals.now) c.args.is_fresh c.args.track.now c.in-Catch.marks.at c.standing-in-Catch.result c.is_new-in_default-standing-6.result c.standing-in-Catch.ensures c.in-Catch.exception c.in-Catch.body.value c.in-Catch.otherwise.value (ap standing c.in-Catch.is) (ap body c.in-Catch.is) c.in_default-standing-6.not-Second c.is_new-in_default-standing-6.ensures) c.requires.underway.2))))))))))))
 
 pub arrive-returns-then-is_over-clause-walks : goal.arrive-returns-then-is_over-clause-walks
@@ -345,12 +344,12 @@ arrive-returns-else-raised-exception-clause-walks g t c =
 
 pub arrive-returns-else-raised-exception-clause-arrives : goal.arrive-returns-else-raised-exception-clause-arrives
 arrive-returns-else-raised-exception-clause-arrives g t c =
-    let pb : slice_set c.enter-reached-in_default-standing-6.new.walk.raised.items c.in-Catch.exception c.weight_at-outside.result ≡ c.args.walk.now.raised.items = ap (λ n. slice_set c.enter-reached-in_default-standing-6.new.walk.raised.items c.in-Catch.exception n) (c.weight_at-outside.ensures ∙ ap (λ ws. slice_index_or ws c.in-Catch.exception 0) c.deref-in_default-standing-6-2.ensures.value) ∙ put_back c.args.walk.now.raised.items c.enter-reached-in_default-standing-6.new.walk.raised.items c.in-Catch.exception c.weigh-weight.result c.enter-reached-in_default-standing-6.ensures.same_raised in
+    let pb : slice_set c.enter-reached-in_default-standing-6.new.walk.raised.items c.in-Catch.exception c.weight_at-outside.result ≡ c.args.walk.now.raised.items = ap (λ n. slice_set c.enter-reached-in_default-standing-6.new.walk.raised.items c.in-Catch.exception n) (c.weight_at-outside.ensures.is ∙ ap (λ ws. slice_index_or ws c.in-Catch.exception 0) c.deref-in_default-standing-6-2.ensures.value) ∙ put_back c.args.walk.now.raised.items c.enter-reached-in_default-standing-6.new.walk.raised.items c.in-Catch.exception c.weigh-weight.result c.enter-reached-in_default-standing-6.ensures.same_raised in
     λ whole most h. c.enter-in-Raised.ensures.arrives whole most (in_handler _ _ _ _ _ _ _ _ _ _ _ _ (raised_scope c.in-Raised.raised _ _ _ _ _ _ c.in-Raised.ensures.walks) pb (c.in-Raised.ensures.arrives _ _ (in_caught _ _ _ _ _ _ _ _ c.in-Catch.exception _ (body c.in-Catch.otherwise.value) (offers_of (kinds_of c.args.locals.now) (body c.in-Catch.otherwise.value)) (offers_of (kinds_of c.args.locals.now) (begun c.is_new-in_default-standing-6.result c.in-Catch.body.value)) ((subst (HandlesBelow (length c.args.walk.now.raised.items)) (ap body c.in-Catch.is) c.requires.handlers).0) (λ w k. c.weigh-weight.ensures.is (kinds_of c.args.locals.now) w (context_again _ _ _ _ w c.deref-in_default-standing-6.ensures.value k)) (same_tree _ _ _ _ _ _ _ _ _ _ (catch_offers (kinds_of c.args.locals.now) c.args.is_fresh c.args.track.now c.in-Catch.marks.at c.standing-in-Catch.result c.is_new-in_default-standing-6.result c.standing-in-Catch.ensures c.in-Catch.exception c.in-Catch.body.value c.in-Catch.otherwise.value (ap standing c.in-Catch.is) (ap body c.in-Catch.is) c.in_default-standing-6.not-Second c.is_new-in_default-standing-6.ensures) h))) c.in-Catch.exception c.in-Raised.raised (body c.in-Catch.otherwise.value) (offers_of (kinds_of c.args.locals.now) (body c.in-Catch.otherwise.value)) (offers_of (kinds_of c.args.locals.now) (begun c.is_new-in_default-standing-6.result c.in-Catch.body.value)) _ _ _ c.if-raised-exception.false c.in-Raised.ensures.walks (same_tree _ _ _ _ _ _ _ _ _ _ (catch_offers (kinds_of c.args.locals.now) c.args.is_fresh c.args.track.now c.in-Catch.marks.at c.standing-in-Catch.result c.is_new-in_default-standing-6.result c.standing-in-Catch.ensures c.in-Catch.exception c.in-Catch.body.value c.in-Catch.otherwise.value (ap standing c.in-Catch.is) (ap body c.in-Catch.is) c.in_default-standing-6.not-Second c.is_new-in_default-standing-6.ensures) h))
 
 pub arrive-returns-else-raised-exception-clause-same_raised : goal.arrive-returns-else-raised-exception-clause-same_raised
 arrive-returns-else-raised-exception-clause-same_raised g t c =
-    let pb : slice_set c.enter-reached-in_default-standing-6.new.walk.raised.items c.in-Catch.exception c.weight_at-outside.result ≡ c.args.walk.now.raised.items = ap (λ n. slice_set c.enter-reached-in_default-standing-6.new.walk.raised.items c.in-Catch.exception n) (c.weight_at-outside.ensures ∙ ap (λ ws. slice_index_or ws c.in-Catch.exception 0) c.deref-in_default-standing-6-2.ensures.value) ∙ put_back c.args.walk.now.raised.items c.enter-reached-in_default-standing-6.new.walk.raised.items c.in-Catch.exception c.weigh-weight.result c.enter-reached-in_default-standing-6.ensures.same_raised in
+    let pb : slice_set c.enter-reached-in_default-standing-6.new.walk.raised.items c.in-Catch.exception c.weight_at-outside.result ≡ c.args.walk.now.raised.items = ap (λ n. slice_set c.enter-reached-in_default-standing-6.new.walk.raised.items c.in-Catch.exception n) (c.weight_at-outside.ensures.is ∙ ap (λ ws. slice_index_or ws c.in-Catch.exception 0) c.deref-in_default-standing-6-2.ensures.value) ∙ put_back c.args.walk.now.raised.items c.enter-reached-in_default-standing-6.new.walk.raised.items c.in-Catch.exception c.weigh-weight.result c.enter-reached-in_default-standing-6.ensures.same_raised in
     c.enter-in-Raised.ensures.same_raised ∙ pb
 
 pub arrive-returns-in_default-reached-clause-walks : goal.arrive-returns-in_default-reached-clause-walks
@@ -363,7 +362,7 @@ arrive-returns-in_default-reached-clause-arrives g t c =
 
 pub arrive-returns-in_default-reached-clause-same_raised : goal.arrive-returns-in_default-reached-clause-same_raised
 arrive-returns-in_default-reached-clause-same_raised g t c =
-    let pb : slice_set c.enter-reached-in_default-standing-6.new.walk.raised.items c.in-Catch.exception c.weight_at-outside.result ≡ c.args.walk.now.raised.items = ap (λ n. slice_set c.enter-reached-in_default-standing-6.new.walk.raised.items c.in-Catch.exception n) (c.weight_at-outside.ensures ∙ ap (λ ws. slice_index_or ws c.in-Catch.exception 0) c.deref-in_default-standing-6-2.ensures.value) ∙ put_back c.args.walk.now.raised.items c.enter-reached-in_default-standing-6.new.walk.raised.items c.in-Catch.exception c.weigh-weight.result c.enter-reached-in_default-standing-6.ensures.same_raised in
+    let pb : slice_set c.enter-reached-in_default-standing-6.new.walk.raised.items c.in-Catch.exception c.weight_at-outside.result ≡ c.args.walk.now.raised.items = ap (λ n. slice_set c.enter-reached-in_default-standing-6.new.walk.raised.items c.in-Catch.exception n) (c.weight_at-outside.ensures.is ∙ ap (λ ws. slice_index_or ws c.in-Catch.exception 0) c.deref-in_default-standing-6-2.ensures.value) ∙ put_back c.args.walk.now.raised.items c.enter-reached-in_default-standing-6.new.walk.raised.items c.in-Catch.exception c.weigh-weight.result c.enter-reached-in_default-standing-6.ensures.same_raised in
     pb
 
 pub arrive-returns-in-None-choose_side-2-clause-walks : goal.arrive-returns-in-None-choose_side-2-clause-walks

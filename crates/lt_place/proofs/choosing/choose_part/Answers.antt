@@ -1,9 +1,7 @@
-use Rattle.std.proofs.Common.{◌≡◌, ◌++◌, [], List, ℕ, refl, ap, sym, ◌∙◌}
-use Rattle.lt_num.specs.declared.kind.Kind.{Kind}
-use Rattle.lt_term.specs.Offers.{TermTree, offers_of_each}
+use Rattle.std.proofs.Common.{◌++◌, [], refl, ap, sym, ◌∙◌}
+use Rattle.lt_term.specs.Offers.{offers_of_each}
 use Rattle.lt_track.proofs.Public.{weights_are}
 use Rattle.lt_track.specs.View.{choices_of}
-use Rattle.lt_place.specs.Asked.{IsChoice}
 use Rattle.lt_place.specs.inner.Spot.{weights_before}
 use Rattle.lt_place.proofs.Asks.{choice_asked, still_held}
 use Rattle.lt_place.proofs.Contexts.{context_again}

@@ -1,4 +1,4 @@
-use Rattle.std.proofs.Common.{◌≡◌, ◌++◌, [], ◌∷◌, refl, ap, sym, ◌∙◌}
+use Rattle.std.proofs.Common.{◌++◌, [], ◌∷◌, ap, ◌∙◌}
 use Rattle.lt_term.specs.Offers.{offers_of}
 use Rattle.lt_term.specs.Tree.{branch, leaf, more, no_branch, stop, vanish}
 use Rattle.lt_track.specs.View.{body}

@@ -1,5 +1,5 @@
-use Rattle.std.proofs.Common.{◌≡◌, ℕ, [], refl, ap, sym, ◌∙◌, subst}
-use Rattle.std.proofs.Common.{List, All}
+use Rattle.std.proofs.Common.{◌≡◌, sym, subst}
+use Rattle.std.proofs.Common.{All}
 use Rattle.lt_term.specs.Offers.{offers_of}
 use Rattle.lt_term.specs.View.{kinds_of}
 use Rattle.lt_track.specs.View.{standing}
