@@ -1,9 +1,9 @@
 //! Where a run stands in a scenario's body, as marks in the body itself.
 //!
 //! A [`Track`] is a term of which each node has its marks: where the run stands, and where it goes on behind the leaf that
-//! was reached last. [`track_of`] makes it of a body, once. [`follow`] goes along a path in the tree of what it offers, and
-//! says what stands there; [`reach`] does so from the root. [`go_on`] goes on behind the leaf that was reached last. None of
-//! the three takes memory. Each node keeps how large what it offers is, so that [`size`] looks at the root alone.
+//! was reached last. [`track_of`] makes it of a body, once. A [`Walk`] is what a walk to a leaf of what it offers takes with
+//! it, and [`go_on`] goes on behind the leaf that was reached last; neither takes memory on its way. Each node keeps how large
+//! what it offers is, so that [`size`] looks at the root alone.
 //!
 //! Contracts see a track as the term that is still to be done, `standing` of `specs/View.antt`. `specs/Walk.antt` says what
 //! it is to follow a path.
