@@ -59,10 +59,10 @@ abbrev mutual
       branch (worth_or_none (weigh ls w)) (valued weigh a) (valued_each weigh ls bs)
 
 -- this is a choice whose weights are worth that
-abbrev pub IsChoice : Result (List ℕ) Arith → Tree Spot → Type 0
-IsChoice (Ok ws) (weighted bs) = weights_of bs ≡ ws
-IsChoice (Err fault) (spoilt s bs) = s ≡ broken fault
-IsChoice r u = ⊥
+abbrev pub IsChoiceOf : Result (List ℕ) Arith → Tree Spot → Type 0
+IsChoiceOf (Ok ws) (weighted bs) = weights_of bs ≡ ws
+IsChoiceOf (Err fault) (spoilt s bs) = s ≡ broken fault
+IsChoiceOf r u = ⊥
 
 -- this is a choice between two trees
 abbrev pub IsOrdered : Tree Spot → Type 0
@@ -75,7 +75,7 @@ abbrev pub Agrees : Weigher ℕ → Arrival ℕ (Process ℕ) → Tree Spot → 
 Agrees weigh (at_leaf m []) u = u ≡ leaf (plain m)
 Agrees weigh (at_leaf m (k ∷ ks)) u = ⊥
 Agrees weigh at_ordered u = IsOrdered u
-Agrees weigh (at_weighted ls ws) u = IsChoice (worths weigh ls ws) u
+Agrees weigh (at_weighted ls ws) u = IsChoiceOf (worths weigh ls ws) u
 
 -- this leaf of the draw stands there
 abbrev pub IsSpotOf : Weigher ℕ → Spot → Arrival ℕ (Process ℕ) → Type 0
