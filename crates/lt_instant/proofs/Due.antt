@@ -96,29 +96,29 @@ module _ (m : Moment) (e : Explorer) (grow : StepsGrowByOne) (path : List ℕ) w
   behind_leaf l [] s h b = subst (λ y. IsBehind m.scenario.now.table e (outlook_of m y)) h b
   behind_leaf l (k ∷ ks) s h b = absurd h
 
-  behind_spot : (s : Spot) (r : Reached) (f : Follows (offered_by m (process_of e)) (setting_out path) r (held path e.walk) (track.next e.track))
-      → IsSpotOf (weigher_of m) s (arrival r (held path e.walk).rest f.found (track.next e.track)) → IsBehind m.scenario.now.table e (outlook_of m s)
-  behind_spot s reached.Vanish f i = behind_leaf vanish (held path e.walk).rest s i tt
-  behind_spot s reached.Nothing f i = behind_leaf nothing (held path e.walk).rest s i tt
-  behind_spot s (reached.Raised z) f i = behind_leaf (raised z) (held path e.walk).rest s i tt
-  behind_spot s reached.Go f i =
-      behind_leaf (go f.found.constraints f.found.lasts (track.next e.track)) (held path e.walk).rest s i
+  behind_spot : (s : Spot) (left : List ℕ) (r : Reached) (f : Follows (offered_by m (process_of e)) (setting_out path) r (held left e.walk) (track.next e.track))
+      → IsSpotOf (weigher_of m) s (arrival r left f.found (track.next e.track)) → IsBehind m.scenario.now.table e (outlook_of m s)
+  behind_spot s left reached.Vanish f i = behind_leaf vanish left s i tt
+  behind_spot s left reached.Nothing f i = behind_leaf nothing left s i tt
+  behind_spot s left (reached.Raised z) f i = behind_leaf (raised z) left s i tt
+  behind_spot s left reached.Go f i =
+      behind_leaf (go f.found.constraints f.found.lasts (track.next e.track)) left s i
       (behind_going ((worth_of m).formula f.found.lasts (map (meaning_of m.scenario.now.table) f.found.constraints)) f.found.lasts (ap (λ st. st.lasts) f.holds)
-      (λ k values d. grow k (kinds_of m.scenario.now.locals.items) (process_of e) (track.next e.track) (setting_out path) (held path e.walk) values d f))
-  behind_spot s reached.Ordered f i = absurd i
-  behind_spot s reached.Weighted f i = subst (λ y. IsBehind m.scenario.now.table e (outlook_of m y)) i.2 tt
+      (λ k values d. grow k (kinds_of m.scenario.now.locals.items) (process_of e) (track.next e.track) (setting_out path) (held left e.walk) values d f))
+  behind_spot s left reached.Ordered f i = absurd i
+  behind_spot s left reached.Weighted f i = subst (λ y. IsBehind m.scenario.now.table e (outlook_of m y)) i.2 tt
 
   module _ (leaves : LeavesAgree) (p : Process ℕ) (same : tree_by m e ≡ valued (weigher_of m) (offered_by m p)) where
     pub found_due : (s : Spot) → first m p ≡ Some s → lazy.leaf_of (lazy.below (valued (weigher_of m) (offered_by m p)) path) ≡ Some s → HasFound m path e
         → IsDue m.scenario.now m.words.now.seed m.draw m.budget (configuration_in m p) m.inputs.now e
     found_due s is at h =
         let there : lazy.leaf_of (lazy.below (tree_by m e) path) ≡ Some s = ap (λ t. lazy.leaf_of (lazy.below t path)) same ∙ at in
-        let spot = leaves (weigher_of m) (offered_by m (process_of e)) path h.reached (held path e.walk) (track.next e.track) s h.follows there in
+        let spot = leaves (weigher_of m) (offered_by m (process_of e)) path h.reached (held h.left e.walk) (track.next e.track) s h.follows there in
         record {
           leaf = outlook_of m s;
           due = due_is m p ∙ ap (option_map (outlook_of m)) is;
           finds = h.finds s spot;
-          behind = behind_spot s h.reached h.follows spot;
+          behind = behind_spot s h.left h.reached h.follows spot;
         }
 
     draws_by : (o : Option Spot) (b : Bool) → first m p ≡ o → Ends o (valued (weigher_of m) (offered_by m p)) path b → (b ≡ true → HasFound m path e)

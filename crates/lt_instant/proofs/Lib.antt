@@ -6,6 +6,8 @@ pub mod Picks
 pub mod Props
 pub mod Public
 pub mod Due
+pub mod Picked
+pub mod Arrived
 pub mod Explored
 pub mod Mapped
 pub mod LazyOrders

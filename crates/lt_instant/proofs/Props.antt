@@ -84,4 +84,4 @@ mutual
 
 -- an explorer goes through the body of a scenario
 pub explores-prop : (s : Scenario) (e : Explorer) → IsProp (IsExplorerOf s e)
-explores-prop s e = hlevel (props, tallied-prop e.track, narrow-prop (track.body e.track), handles-prop (length e.place.weights.items) (track.body e.track))
+explores-prop s e = hlevel (props, tallied-prop e.track, narrow-prop (track.body e.track), handles-prop (length e.walk.raised.items) (track.body e.track))

@@ -35,9 +35,9 @@ pub record IsExplorerOf (s : Scenario) (e : Explorer) : Type 0 where
   pub numbers : IsTrue (passes (numbers_of s) (track.body e.track))
   pub narrow : IsNarrow (track.body e.track)
   pub tallied : IsTallied e.track
-  pub place : IsRoomFor (track.body e.track) e.place
+  pub raised : IsRoomFor (track.body e.track) e.walk.raised.items
   pub roomy : IsRoomy (track.nodes (track.body e.track)) e.walk
   pub solver : IsSolverOf s e.solver
   pub constraints : (rooms e.walk).fired ≤ solver_most e.solver
   pub values : (rooms e.walk).lasts ≤ vec_capacity e.values
-  pub locals : length s.locals.items ≤ vec_capacity e.locals
+  pub locals : length s.locals.items ≤ vec_capacity e.picker.locals

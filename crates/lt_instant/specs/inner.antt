@@ -11,5 +11,5 @@ pub mod Exploring
 pub mod Worths
 -- what is taken at a leaf
 pub mod Takes
--- How a draw chooses.
+-- how a draw chooses
 pub mod Picking

@@ -71,9 +71,11 @@ leaf_reached other cs ls n = nothing
 -- what an explorer has found at a path
 pub record HasFound (m : Moment) (path : List ℕ) (e : Explorer) : Type 0 where
   pub reached : Reached
-  pub follows : Follows (offered_by m (process_of e)) (setting_out path) reached (held path e.walk)
+  -- the choices of the path that the walk has left
+  pub left : List ℕ
+  pub follows : Follows (offered_by m (process_of e)) (setting_out path) reached (held left e.walk)
       (track.next e.track)
   pub finds : (s : Spot) →
       IsSpotOf (weigher_of m) s
-      (arrival reached (held path e.walk).rest follows.found (track.next e.track)) →
-      finding (solver_values e.solver) e.found ≡ found_of m (outlook_of m s)
+      (arrival reached (held left e.walk).rest follows.found (track.next e.track)) →
+      finding (solver_values e.solver) e.picker.found ≡ found_of m (outlook_of m s)

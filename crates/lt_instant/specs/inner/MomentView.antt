@@ -1,6 +1,7 @@
 -- What is known in an instant of the code.
 use Rattle.std.specs.Prelude.{ℕ, Bool, List, []}
 use Rattle.std.specs.declared.option.Option.{Option}
+use Rattle.lt_draw.specs.Word.{word_at}
 use Rattle.lt_formula.specs.Expression.{Expression}
 use Rattle.lt_formula.specs.Table.{spelled}
 use Rattle.lt_formula.specs.Valuation.{Valuation}
@@ -36,6 +37,10 @@ configuration_in m p = record (configuration_of m) {
 -- the words of the instant, by slot
 abbrev pub word_of : Moment → ℕ → ℕ
 word_of m = words_of m.words.now.seed (configuration_of m)
+
+-- the words that the code draws
+abbrev pub drawn_word : Moment → ℕ → ℕ
+drawn_word m = word_at m.words.now.seed m.words.now.step
 
 -- what constraints and weights are worth
 abbrev pub worth_of : Moment → Worth Expression Formula

@@ -40,7 +40,7 @@ pub record IsDue (s : Scenario) (seed : ℕ) (draw : Draw) (most : ℕ) (c : Con
     (inputs : List Value) (e : Explorer) : Type 0 where
   pub leaf : Leaf
   pub due : due_leaf (taken_in (scene s) seed draw most c inputs) ≡ Some leaf
-  pub finds : finding (solver_values e.solver) e.found ≡
+  pub finds : finding (solver_values e.solver) e.picker.found ≡
       found_at (scene s) draw (words_of seed c) most leaf
   pub behind : IsBehind s.table e leaf
 
