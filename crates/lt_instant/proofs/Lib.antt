@@ -16,6 +16,9 @@ pub mod Weights
 pub mod Stops
 pub mod Takings
 pub mod Lengths
+pub mod Meanings
+pub mod Formulas
+pub mod Holdings
 pub mod Solves
 pub mod Ranges
 pub mod Domains

@@ -13,6 +13,7 @@ use Rattle.lt_track.specs.declared.track.Track.{Track}
 use Rattle.lt_track.specs.declared.track.Track.TheVariants.{Eps, Dead, Con, Raise, Seq', Loop', Count', Any', Pri', Par', Assert', Exist', Catch', Try'}
 use Rattle.lt_instant.specs.Equipment.{IsExplorerOf}
 use Rattle.lt_instant.specs.declared.explorer.Explorer.{Explorer}
+use Rattle.lt_instant.proofs.Formulas.{answer-set}
 
 module _ {C : Type 0} where
   mutual
@@ -84,4 +85,4 @@ mutual
 
 -- an explorer goes through the body of a scenario
 pub explores-prop : (s : Scenario) (e : Explorer) → IsProp (IsExplorerOf s e)
-explores-prop s e = hlevel (props, tallied-prop e.track, narrow-prop (track.body e.track), handles-prop (length e.walk.raised.items) (track.body e.track))
+explores-prop s e = hlevel (props, answer-set, tallied-prop e.track, narrow-prop (track.body e.track), handles-prop (length e.walk.raised.items) (track.body e.track))

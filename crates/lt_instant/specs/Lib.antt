@@ -10,6 +10,8 @@ pub mod Legal
 pub mod StandingView
 -- what the code takes of what a term offers
 pub mod TakenView
+-- expressions that mean the same in each instant
+pub mod Steady
 -- the solver of a scenario
 pub mod SolverView
 -- what an instant works with

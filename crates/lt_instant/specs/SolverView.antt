@@ -1,9 +1,15 @@
 -- The solver of a scenario.
-use Rattle.std.specs.Prelude.{◌≡◌, ◌≤◌, ◌+◌, ℕ, List, ℤ, length, vec_capacity}
-use Rattle.lt_space.specs.SpaceView.{space_gates, space_most, IsOver}
+use Rattle.std.specs.Prelude.{◌≡◌, ◌≤◌, ◌+◌, ℕ, true, List, ℤ, Ok, length, map, vec_capacity}
+use Rattle.lt_formula.specs.Table.{spelled}
+use Rattle.lt_formula.specs.View.{table_expressions}
+use Rattle.lt_space.specs.Meaning.{formula_of_all}
+use Rattle.lt_space.specs.SpaceView.{space_decimals, space_formula, space_gates, space_most, space_wanted, IsOver}
+use Rattle.lt_space.specs.declared.space.Space.{Space}
 use Rattle.lt_solver.specs.WorkspaceView.{workspace_gates, workspace_ranges, workspace_values}
+use Rattle.lt_term.specs.Configuration.{scene_kinds}
 use Rattle.lt_term.specs.SceneView.{scene}
 use Rattle.lt_term.specs.declared.scenario.Scenario.{Scenario}
+use Rattle.lt_instant.specs.Steady.{IsSteady, nothing_known}
 use Rattle.lt_instant.specs.Solved.{drawn_ranges}
 use Rattle.lt_instant.specs.declared.solver.Solver.{Solver}
 
@@ -15,6 +21,13 @@ solver_values solver = workspace_values solver.workspace
 abbrev pub solver_most : Solver → ℕ
 solver_most solver = space_most solver.space
 
+-- the formula that a space has is that of its constraints where nothing is known
+abbrev pub HasMeaning : Scenario → Space → Type 0
+HasMeaning s space =
+    Ok (space_formula space) ≡
+    formula_of_all (nothing_known (space_decimals space)) (scene_kinds (scene s))
+    (map (spelled (table_expressions s.table)) (space_wanted space))
+
 -- a solver is one for a scenario
 pub record IsSolverOf (s : Scenario) (solver : Solver) : Type 0 where
   pub table : IsOver s.table solver.space
@@ -22,3 +35,6 @@ pub record IsSolverOf (s : Scenario) (solver : Solver) : Type 0 where
   pub searched : workspace_ranges solver.workspace ≡ drawn_ranges (scene s)
   pub gates : space_gates solver.space ≤ workspace_gates solver.workspace
   pub scope : length s.outputs.items + length s.locals.items ≤ vec_capacity solver.scope
+  -- what it takes for steady is so, and then its space has the formula that its constraints have whatever is known
+  pub steady : solver.is_steady ≡ true → IsSteady s.table
+  pub meaning : solver.is_steady ≡ true → HasMeaning s solver.space

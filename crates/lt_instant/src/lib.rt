@@ -24,6 +24,7 @@ mod room;
 mod scopes;
 mod solver;
 mod standing;
+mod steady;
 mod taking;
 mod targets;
 mod weighing;

@@ -1,6 +1,6 @@
 //! The solver of a scenario.
 
-ghost use Rattle.std.specs.Prelude.{◌≡◌, ◌≤◌, ◌++◌, IfOk, OnOk, IsTrue, length, map, nat_lt};
+ghost use Rattle.std.specs.Prelude.{◌≡◌, ◌≤◌, ◌++◌, true, IfOk, OnOk, IsTrue, length, map, nat_lt};
 ghost use Rattle.std.specs.List.{list_all};
 ghost use Rattle.lt_formula.specs.View.{table_len};
 ghost use Rattle.lt_term.specs.SceneView.{scene, variable};
@@ -10,6 +10,7 @@ ghost use Rattle.lt_instant.specs.inner.Found.{finding_for};
 use crate::finding::Finding;
 use crate::moment::Moment;
 use crate::scopes::find_scope;
+use crate::steady::is_steady;
 use lt_num::{Arith, Range, Value};
 use lt_solver::{Answer, Workspace};
 use lt_space::Space;
@@ -23,6 +24,9 @@ pub struct Solver {
     workspace: Workspace,
     ranges: Vec<Range>,
     scope: Vec<bool>,
+
+    // Whether constraints mean the same in each instant.
+    is_steady: bool,
 }
 
 impl Solver {
@@ -31,7 +35,7 @@ impl Solver {
     ghost use Rattle.lt_space.specs.Meaning.{formula_of_all};
     ghost use Rattle.lt_need.specs.Need.{need};
     ghost use Rattle.lt_space.specs.Scope.{ranges_in};
-    ghost use Rattle.lt_space.specs.SpaceView.{loaded, space_decimals, space_formula};
+    ghost use Rattle.lt_space.specs.SpaceView.{loaded, space_decimals, space_formula, space_wanted};
     ghost use Rattle.lt_term.specs.Configuration.{earlier_locals_from, scene_kinds};
     ghost use Rattle.lt_instant.specs.Solved.{directions_of, holds_of, targets_of};
     ghost use Rattle.lt_instant.specs.inner.Found.{finding, found_by, found_in};
@@ -60,6 +64,7 @@ impl Solver {
             workspace,
             ranges,
             scope,
+            is_steady: is_steady(&scenario.table),
         })
     }
 
@@ -107,7 +112,7 @@ impl Solver {
         }
     }
 
-    // Loads constraints, where locals were this in the instant before.
+    // Loads constraints, where locals were this in the instant before; but not where that would change nothing.
     fn load(
         &mut self,
         moment: &Moment<'_>,
@@ -128,8 +133,20 @@ impl Solver {
         ensures most { solver_most self.new ≡ solver_most self.old }
         ensures scope { self.new.scope ≡ self.old.scope }
     {
+        if self.has_loaded(constraints, moment.scenario.decimals) {
+            return Ok(());
+        }
         let known = moment.known(locals);
         self.space.load(&moment.scenario.table, constraints, &known)
+    }
+
+    // Whether these constraints are those of the last load, and mean what they meant.
+    fn has_loaded(&self, constraints: &[u32], decimals: u32) -> bool
+        ensures steady { result ≡ true → self.now.is_steady ≡ true }
+        ensures decimals { result ≡ true → space_decimals self.now.space ≡ decimals }
+        ensures wanted { result ≡ true → space_wanted self.now.space ≡ constraints.now }
+    {
+        self.is_steady && self.space.decimals() == decimals && self.space.wanted() == constraints
     }
 
     // Searches for the first solution of what is loaded, over the scope at hand.
