@@ -4,7 +4,6 @@
 ghost use Rattle.std.specs.Prelude.{◌≡◌, ◌<◌, ◌≤◌};
 ghost use Rattle.lt_space.specs.CircuitView.{circuit_len};
 
-use crate::linked::Linked;
 use lt_num::Interval;
 use lt_space::{Circuit, Gate};
 use std::alloc::{AllocError, Global};
@@ -28,8 +27,6 @@ struct Link {
 #[derive(Drop)]
 pub struct Agenda {
     variables: usize,
-    // The circuit that the links are of.
-    linked: Linked,
     // For each place, where the first gate beside it is found.
     first: Vec<Option<u32>>,
     links: Vec<Link>,
@@ -58,7 +55,6 @@ impl Agenda {
         let places = variables.saturating_add(gates);
         Ok(Agenda {
             variables,
-            linked: Linked::make(alloc, gates)?,
             first: vec![in alloc; None; places]?,
             links: Vec::with_capacity(alloc, gates.saturating_mul(MOST_LINKS))?,
             wide: Vec::with_capacity(alloc, gates)?,
@@ -71,23 +67,17 @@ impl Agenda {
         })
     }
 
-    /// Finds out which gates up to a root stand beside which places, unless that is known from the time before, and answers
-    /// whether it was. Nothing waits then.
-    pub fn prepare(&mut self, circuit: &Circuit, same: &[u32], root: u32, variables: usize) -> bool
+    /// Finds out which gates up to a root stand beside which places. Nothing waits then.
+    pub fn prepare(&mut self, circuit: &Circuit, same: &[u32], root: u32, variables: usize)
         requires { root < circuit_len circuit.now }
     {
         self.clear();
-        if self.variables == variables && self.linked.is_of(circuit, root) {
-            return true;
-        }
-        let _ = self.linked.keep(circuit, root);
         self.forget(root, variables);
         self.reach(root);
         for passed in 0..root {
             self.enter(circuit, same, root - passed);
         }
         self.enter(circuit, same, 0);
-        false
     }
 
     // Forgets what stood beside the places of variables and of gates up to a root.

@@ -43,12 +43,16 @@ impl Propagator {
     }
 
     /// Finds out which gates up to a root stand beside which places, and whether some variable has steps. Nothing waits then.
-    /// The answer is whether the circuit is that of the time before.
-    pub fn prepare(&mut self, circuit: &Circuit, same: &[u32], root: u32, scales: &[Scale]) -> bool
+    pub fn prepare(&mut self, circuit: &Circuit, same: &[u32], root: u32, scales: &[Scale])
         requires { root < circuit_len circuit.now }
     {
         self.has_steps = have_steps(scales);
-        self.agenda.prepare(circuit, same, root, scales.len())
+        self.agenda.prepare(circuit, same, root, scales.len());
+    }
+
+    /// The same where the circuit, the root and the steps are those of the time before.
+    pub fn prepare_again(&mut self) {
+        self.agenda.clear();
     }
 
     /// Notes what says something of a box of whose gates nothing is known.

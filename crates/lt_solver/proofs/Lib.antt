@@ -32,3 +32,9 @@ mod Tellings
 mod Recalls
 -- Tests that pass nowhere.
 mod Settled
+-- What is known of a formula again.
+mod Knowing
+-- What literals leave of a box.
+mod LiteralLemmas
+-- First solutions of boxes that literals narrow.
+mod Fixed

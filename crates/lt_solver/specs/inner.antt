@@ -9,3 +9,5 @@ pub mod Placed
 pub mod Propagated
 pub mod Begun
 pub mod Roomy
+pub mod Known
+pub mod Fixing

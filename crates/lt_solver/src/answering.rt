@@ -1,31 +1,38 @@
 //! Answers within a budget.
 
-ghost use Rattle.std.specs.Prelude.{◌≡◌, ◌<◌, ◌≤◌, IfErr, IfOk, IsTrue, ℕ, false, length, slice_index_or, vec_capacity};
+ghost use Rattle.std.specs.Prelude.{◌≡◌, ◌<◌, ◌≤◌, IfErr, IfOk, IfSome, IsTrue, List, None, Some, ℕ, false, if◌then◌else◌, length, slice_index_or, true, vec_capacity};
 ghost use Rattle.lt_bounds.specs.Places.{AreScaled};
+ghost use Rattle.lt_bounds.specs.Ranges.{IsNarrower};
+ghost use Rattle.lt_formula.specs.Box.{first_in_box};
 ghost use Rattle.lt_formula.specs.Limits.{most_variables};
 ghost use Rattle.lt_formula.specs.Solution.{IsPointOf, first_solution};
 ghost use Rattle.lt_formula.specs.Translation.{box_of, scales_of, starts_of, values_at};
 ghost use Rattle.lt_need.specs.Need.{need};
 ghost use Rattle.lt_need.specs.RoomView.{room_gates};
+ghost use Rattle.lt_num.specs.declared.range.Range.{Range};
+ghost use Rattle.lt_propagation.specs.Ties.{AreTies};
 ghost use Rattle.lt_space.specs.CircuitView.{circuit_len};
 ghost use Rattle.lt_space.specs.Formula.{holds};
 ghost use Rattle.lt_space.specs.Scope.{ranges_in};
 ghost use Rattle.lt_space.specs.SpaceView.{space_circuit, space_decimals, space_formula};
 ghost use Rattle.lt_solver.specs.Answers.{Tells};
 ghost use Rattle.lt_solver.specs.Domains.{are_domains};
+ghost use Rattle.lt_solver.specs.inner.Begun.{IsCopied};
+ghost use Rattle.lt_solver.specs.inner.Classified.{passes};
+ghost use Rattle.lt_solver.specs.inner.Known.{Knows};
 ghost use Rattle.lt_solver.specs.inner.Placed.{all_places};
 ghost use Rattle.lt_solver.specs.inner.Points.{first_point};
 ghost use Rattle.lt_solver.specs.inner.Roomy.{IsRoomy};
 
-use crate::classifying::BoxRoom;
+use crate::literals::{Fixing, fix_literals};
 use crate::placing::{first_raw, places_of};
+use crate::room::Room;
 use crate::search::search;
 use crate::settling::has_false_conjunct;
 use lt_bounds::value_at;
 use lt_formula::Scale;
 use lt_need::{measure, quick_bound};
 use lt_num::{Interval, Range};
-use lt_propagation::find_ties;
 use lt_space::Space;
 
 /// What a search answers.
@@ -39,34 +46,6 @@ pub enum Answer {
 
     /// The need, which is over the budget: nothing was searched.
     Budget(u128),
-}
-
-/// Room for searches over some variables.
-#[derive(Drop)]
-pub(crate) struct Room {
-    /// How places tell the values of each variable.
-    pub(crate) scales: Vec<Scale>,
-
-    /// The place of each variable to begin at.
-    pub(crate) starts: Vec<i64>,
-
-    /// The box at hand, of places.
-    pub(crate) current: Vec<Interval>,
-
-    /// The boxes that are left.
-    pub(crate) stack: Vec<Interval>,
-
-    /// Room for what is found of a box.
-    pub(crate) boxes: BoxRoom,
-
-    /// Gates by their forms, of any circuit.
-    pub(crate) latest: Vec<u32>,
-
-    /// For each gate an earlier one with the same form, or else itself.
-    pub(crate) same: Vec<u32>,
-
-    /// Room to measure needs in, with the hard variables of the last one.
-    pub(crate) need: lt_need::Room,
 }
 
 /// Finds the first solution of a space within the ranges of a scope, in the order from targets and downward where a mark
@@ -87,6 +66,7 @@ pub(crate) fn answer_within(
     requires points { IsPointOf ranges.now targets.now }
     requires values { length values.old ≡ length ranges.now }
     requires roomy { IsRoomy (length ranges.now) (circuit_len (space_circuit space.now)) room.old }
+    requires knows { Knows ranges.now room.old }
     ensures tells { Tells result values.new
         (first_solution (λ vs. holds (space_decimals space.now) vs (space_formula space.now))
         (ranges_in scope.now ranges.now) targets.now down.now)
@@ -95,8 +75,10 @@ pub(crate) fn answer_within(
         IsRoomy (length ranges.now) gates room.new }
     ensures gates { vec_capacity room.new.boxes.refuter.kleenes ≡
         vec_capacity room.old.boxes.refuter.kleenes }
+    ensures knows { Knows ranges.now room.new }
 {
-    let steps = match steps_within(space, scope, ranges, budget, &mut room.need) {
+    let known = room.known_bound(space, scope);
+    let steps = match steps_within(space, scope, ranges, budget, known, &mut room.need) {
         Ok(steps) => steps,
         Err(need) => return Answer::Budget(need),
     };
@@ -112,23 +94,7 @@ pub(crate) fn answer_within(
         &mut room.current,
         &mut room.starts,
     );
-    find_ties(space.circuit(), &mut room.latest, &mut room.same);
-    room.boxes.recall.is_due = room
-        .boxes
-        .refuter
-        .propagator
-        .prepare(space.circuit(), &room.same, space.root(), &room.scales);
-    if search(
-        space,
-        &room.same,
-        &room.scales,
-        &room.starts,
-        &room.need.hard()[..targets.len()],
-        steps,
-        &mut room.current,
-        &mut room.stack,
-        &mut room.boxes,
-    ) {
+    if find(space, scope, steps, known.is_some(), room) {
         write_first(&room.scales, &room.starts, &room.current, values);
         Answer::Solution
     } else {
@@ -136,33 +102,98 @@ pub(crate) fn answer_within(
     }
 }
 
-// A number of steps that the need is not over, and that is within the budget, or else the need. Afterwards the room has
-// the hard variables.
+// Finds the first solution within the box at hand, which is then its first point; the answer says whether there is one. By the
+// literals of a formula alone, that is found at once.
+fn find(space: &Space, scope: &[bool], steps: u64, is_known: bool, room: &mut Room) -> bool
+    requires scaled { AreScaled room.old.scales.items room.old.current.items }
+    requires few { length room.old.current.items ≤ most_variables }
+    requires starts { length room.old.starts.items ≡ length room.old.current.items }
+    requires roomy { IsRoomy (length room.old.current.items) (circuit_len (space_circuit space.now))
+        room.old }
+    requires ties { is_known ≡ true → AreTies (space_circuit space.now) room.old.same.items }
+    requires copied { is_known ≡ true → IsCopied room.old.boxes.recall space.now }
+    ensures found { first_in_box (passes space.now room.old.scales.items) room.old.current.items
+        room.old.starts.items ≡
+        (if result then Some (first_point room.old.starts.items room.new.current.items) else None) }
+    ensures narrower { result ≡ true → IsNarrower room.old.current.items room.new.current.items }
+    ensures scales { room.new.scales ≡ room.old.scales }
+    ensures starts { room.new.starts ≡ room.old.starts }
+    ensures roomy { (gates : ℕ) → IsRoomy (length room.old.current.items) gates room.old →
+        IsRoomy (length room.old.current.items) gates room.new }
+    ensures gates { vec_capacity room.new.boxes.refuter.kleenes ≡
+        vec_capacity room.old.boxes.refuter.kleenes }
+    ensures knows { (ranges : List Range) → Knows ranges room.old →
+        need (space_formula space.now) scope.now ranges ≤ steps → Knows ranges room.new }
+{
+    match fix_literals(
+        space.circuit(),
+        space.root(),
+        &room.scales,
+        &mut room.current,
+    ) {
+        Fixing::Infeasible => return false,
+        Fixing::Solved => return true,
+        Fixing::Open => {}
+    }
+    room.prepare(space, scope, steps, is_known);
+    let count = room.current.len();
+    search(
+        space,
+        &room.same,
+        &room.scales,
+        &room.starts,
+        &room.need.hard()[..count],
+        steps,
+        &mut room.current,
+        &mut room.stack,
+        &mut room.boxes,
+    )
+}
+
+// A number of steps that the need is not over, and that is within the budget, or else the need: one that is known may be such a
+// number. Afterwards the room has the hard variables, unless they are known.
 fn steps_within(
     space: &Space,
     scope: &[bool],
     ranges: &[Range],
     budget: u64,
+    known: Option<u64>,
     room: &mut lt_need::Room,
 ) -> Result<u64, u128>
     requires domains { IsTrue (are_domains ranges.now) }
+    requires known { IfSome known (λ bound. need (space_formula space.now) scope.now ranges.now ≤ bound) }
     requires room { circuit_len (space_circuit space.now) ≤ room_gates room.old }
     ensures within { IfOk result (λ _.
         need (space_formula space.now) scope.now ranges.now ≤ budget) }
+    ensures steps { IfOk result (λ steps.
+        need (space_formula space.now) scope.now ranges.now ≤ steps) }
     ensures over { IfErr result (λ n. (budget < n) ×
         (n ≡ need (space_formula space.now) scope.now ranges.now)) }
     ensures gates { room_gates room.new ≡ room_gates room.old }
 {
+    if let Some(bound) = known {
+        if bound <= budget {
+            return Ok(bound);
+        }
+    }
     if let Some(bound) = quick_bound(space.circuit(), space.root(), scope, ranges, room) {
         if bound <= u128::from(budget) {
-            return Ok(u64::try_from(bound).unwrap_or(budget));
+            return Ok(steps_of(bound, budget));
         }
     }
     let need = measure(space.circuit(), space.root(), scope, ranges, room);
     if need > u128::from(budget) {
         return Err(need);
     }
-    Ok(u64::try_from(need).unwrap_or(budget))
+    Ok(steps_of(need, budget))
+}
+
+// A number that isn't over a budget, as a number of steps.
+fn steps_of(number: u128, budget: u64) -> u64
+    requires { number ≤ budget }
+    ensures { number ≤ result }
+{
+    u64::try_from(number).unwrap_or(budget)
 }
 
 // Writes the scales, the box and the starts of the places of all variables, in reserved room.

@@ -12,6 +12,7 @@ ghost use Rattle.lt_propagation.specs.Kleene.{kleene_of};
 ghost use Rattle.lt_propagation.specs.Points.{AreScales, wide_at};
 ghost use Rattle.lt_solver.specs.inner.Dive.{Covers, Leads};
 ghost use Rattle.lt_solver.specs.inner.Points.{AreFixed, first_point};
+ghost use Rattle.lt_solver.specs.inner.Begun.{IsCopied};
 ghost use Rattle.lt_solver.specs.inner.Classified.{Classifies, passes};
 
 use crate::diving::dive;
@@ -111,9 +112,12 @@ pub(crate) fn classify(
         vec_capacity room.old.refuter.current }
     requires kleenes { circuit_len (space_circuit space.now) ≤
         vec_capacity room.old.refuter.kleenes }
+    requires due { room.old.recall.is_due ≡ true → IsCopied room.old.recall space.now }
     ensures sees { Classifies (passes space.now scales.now) starts.now current.old current.new
         result }
     ensures narrower { IsNarrower current.old current.new }
+    ensures circuit { room.new.recall.circuit ≡ room.old.recall.circuit }
+    ensures done { room.new.recall.is_due ≡ false }
     ensures widened { vec_capacity room.old.widened ≤ vec_capacity room.new.widened }
     ensures point { vec_capacity room.old.point ≤ vec_capacity room.new.point }
     ensures copy { vec_capacity room.old.refuter.current ≤ vec_capacity room.new.refuter.current }
@@ -160,9 +164,12 @@ fn classify_widened(
     requires copy { length current.old + circuit_len (space_circuit space.now) ≤
         vec_capacity room.old.current }
     requires kleenes { circuit_len (space_circuit space.now) ≤ vec_capacity room.old.kleenes }
+    requires due { recall.old.is_due ≡ true → IsCopied recall.old space.now }
     ensures sees { Classifies (passes space.now scales.now) starts.now current.old current.new
         result }
     ensures narrower { IsNarrower current.old current.new }
+    ensures circuit { recall.new.circuit ≡ recall.old.circuit }
+    ensures done { recall.new.is_due ≡ false }
     ensures point { vec_capacity point.old ≤ vec_capacity point.new }
     ensures copy { vec_capacity room.old.current ≤ vec_capacity room.new.current }
     ensures kleenes { vec_capacity room.new.kleenes ≡ vec_capacity room.old.kleenes }

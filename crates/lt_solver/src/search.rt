@@ -10,6 +10,7 @@ ghost use Rattle.lt_space.specs.SpaceView.{space_circuit};
 ghost use Rattle.lt_propagation.specs.Ties.{AreTies};
 ghost use Rattle.lt_solver.specs.inner.Levels.{levels_of};
 ghost use Rattle.lt_solver.specs.inner.Points.{first_point};
+ghost use Rattle.lt_solver.specs.inner.Begun.{IsCopied};
 ghost use Rattle.lt_solver.specs.inner.Classified.{passes};
 
 use crate::classifying::{BoxRoom, BoxStatus, classify};
@@ -45,9 +46,11 @@ pub(crate) fn search(
         vec_capacity room.old.refuter.current }
     requires kleenes { circuit_len (space_circuit space.now) ≤
         vec_capacity room.old.refuter.kleenes }
+    requires due { room.old.recall.is_due ≡ true → IsCopied room.old.recall space.now }
     ensures found { first_in_box (passes space.now scales.now) current.old starts.now ≡
         (if result then Some (first_point starts.now current.new) else None) }
     ensures narrower { IsNarrower current.old current.new }
+    ensures circuit { room.new.recall.circuit ≡ room.old.recall.circuit }
     ensures stack { vec_capacity stack.old ≤ vec_capacity stack.new }
     ensures widened { vec_capacity room.old.widened ≤ vec_capacity room.new.widened }
     ensures point { vec_capacity room.old.point ≤ vec_capacity room.new.point }

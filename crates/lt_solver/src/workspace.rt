@@ -3,17 +3,15 @@
 ghost use Rattle.std.specs.Prelude.{◌≡◌, ◌≤◌, IfOk, IsTrue, length, vec_capacity};
 ghost use Rattle.lt_formula.specs.Limits.{most_variables};
 ghost use Rattle.lt_solver.specs.Domains.{are_domains};
+ghost use Rattle.lt_solver.specs.inner.Known.{Knows, Knows-prop};
 ghost use Rattle.lt_solver.specs.inner.Roomy.{IsRoomy};
 
-use crate::answering::{Answer, Room, answer_within};
-use crate::classifying::BoxRoom;
+use crate::answering::{Answer, answer_within};
+use crate::room::Room;
 use lt_formula::Memory;
 use lt_num::Range;
 use lt_space::Space;
 use std::alloc::Global;
-
-// How many gates by their forms are remembered.
-const LATEST: usize = 256;
 
 /// The ranges of variables, room for searches within them, and the values of the last solution.
 #[derive(Drop)]
@@ -24,6 +22,7 @@ pub struct Workspace {
     ghost domains: { IsTrue (are_domains ranges.items) },
     ghost few: { length ranges.items ≤ most_variables },
     ghost roomy: { IsRoomy (length ranges.items) (vec_capacity room.boxes.refuter.kleenes) room },
+    ghost knows: { Knows ranges.items room } by { Knows-prop ranges.items room },
     ghost long: { length values.items ≡ length ranges.items },
 }
 
@@ -50,7 +49,7 @@ impl Workspace {
         ensures ranges { IfOk result (λ w. workspace_ranges w ≡ ranges.now) }
         ensures gates { IfOk result (λ w. gates ≤ workspace_gates w) }
     {
-        let room = make_room(alloc, ranges.len(), gates)?;
+        let room = Room::make(alloc, ranges.len(), gates)?;
         Ok(Workspace {
             ranges: copied(alloc, ranges)?,
             room,
@@ -103,25 +102,6 @@ impl Workspace {
     {
         &self.values
     }
-}
-
-// Room for searches over so many variables, for circuits of up to so many gates.
-fn make_room(alloc: Global, count: usize, gates: usize) -> Result<Room, Memory>
-    requires few { count ≤ most_variables }
-    ensures roomy { IfOk result (λ room.
-        IsRoomy count (vec_capacity room.boxes.refuter.kleenes) room) }
-    ensures gates { IfOk result (λ room. gates ≤ vec_capacity room.boxes.refuter.kleenes) }
-{
-    Ok(Room {
-        scales: Vec::with_capacity(alloc, count)?,
-        starts: Vec::with_capacity(alloc, count)?,
-        current: Vec::with_capacity(alloc, count)?,
-        stack: Vec::with_capacity(alloc, count * 42 * count)?,
-        boxes: BoxRoom::make(alloc, count, gates)?,
-        latest: vec![in alloc; 0; LATEST]?,
-        same: Vec::with_capacity(alloc, gates)?,
-        need: lt_need::Room::make(alloc, gates)?,
-    })
 }
 
 // The same ranges.

@@ -8,6 +8,7 @@ use Rattle.lt_solver.specs.inner.Levels.{AreBoxes, boxes_of, levels_of, work_of}
 use Rattle.lt_solver.specs.inner.Points.{first_of_boxes}
 use Rattle.lt_solver.specs.inner.Classified.{passes}
 use Rattle.lt_solver.proofs.Boxes.{boxes_none, boxes_height, boxes_start, boxes_below, top_narrower, domains_narrower, work_popped}
+use Rattle.lt_solver.proofs.Knowing.{not_due}
 use Rattle.lt_solver.proofs.Levels.{levels_most}
 use Rattle.lt_solver.proofs.Order.{or_else-none}
 use Rattle.lt_solver.proofs.Scaled.{scaled_domains, scaled_narrower}
@@ -27,6 +28,8 @@ boxes-init c =
       point = omega arith;
       copy = omega arith;
       kleenes = refl;
+      circuit = refl;
+      due = c.requires.due;
     }
 
 pub classify-requires : goal.classify-requires
@@ -42,6 +45,7 @@ classify-requires c =
       point = omega (arith, narrower_length _ _ n, c.requires.point, c.boxes.invariant.point);
       copy = omega (arith, narrower_length _ _ n, c.requires.copy, c.boxes.invariant.copy);
       kleenes = omega (arith, c.requires.kleenes, c.boxes.invariant.kleenes);
+      due = c.boxes.invariant.due;
     }
 
 pub returns-in-Solved-clause-found : goal.returns-in-Solved-clause-found
@@ -123,6 +127,8 @@ boxes-preserved-in-Undecided c =
       point = omega (arith, c.classify.ensures.point, c.boxes.invariant.point);
       copy = omega (arith, c.classify.ensures.copy, c.boxes.invariant.copy);
       kleenes = c.classify.ensures.kleenes ∙ c.boxes.invariant.kleenes;
+      circuit = c.classify.ensures.circuit ∙ c.boxes.invariant.circuit;
+      due = λ is. absurd (not_due c.classify.new.room.recall.is_due c.classify.ensures.done is);
     }
 
 pub returns-then-height-eq0-clause-found : goal.returns-then-height-eq0-clause-found
@@ -175,4 +181,6 @@ boxes-preserved c =
       point = omega (arith, c.classify.ensures.point, c.boxes.invariant.point);
       copy = omega (arith, c.classify.ensures.copy, c.boxes.invariant.copy);
       kleenes = c.classify.ensures.kleenes ∙ c.boxes.invariant.kleenes;
+      circuit = c.classify.ensures.circuit ∙ c.boxes.invariant.circuit;
+      due = λ is. absurd (not_due c.classify.new.room.recall.is_due c.classify.ensures.done is);
     }
