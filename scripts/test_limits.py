@@ -5,7 +5,8 @@
 The program is the one that `rt ci` leaves in the checkout, where no option names another, and
 without it nothing is tried. The options are those of check_docs.py. What is to come of a row
 follows from the documents. Where tests of crates show a limit in each of its kinds, it has few rows
-here: the document names those tests, and that they are there is tested too.
+here: the document names those tests, and that they are there is tested too. The memory that each
+refused text takes is measured, and it is printed which one comes nearest to what it may take.
 """
 
 import glob
@@ -295,6 +296,11 @@ LIMITS = {
 }
 
 
+def memory_for(text):
+    """How many bytes of memory a call may take that refuses a text."""
+    return 8_000_000 + 64 * len(text)
+
+
 class Limits(unittest.TestCase):
     def setUp(self):
         if not os.access(PROGRAM, os.X_OK):
@@ -315,6 +321,19 @@ class Limits(unittest.TestCase):
             for number, row in enumerate(rows):
                 with self.subTest(name, number=number, text=row.text[:60], words=row.words):
                     self.check(row)
+
+    def test_memory_of_refused_texts(self):
+        shares = []
+        for name, rows in LIMITS.items():
+            for number, row in enumerate(rows):
+                if not row.end.startswith("3 "):
+                    continue
+                with self.subTest(name, number=number, text=row.text[:60], words=row.words):
+                    taken = calls.memory_of(PROGRAM, row.text.encode(), *row.words)
+                    most = memory_for(row.text)
+                    shares.append((taken / most, f"{taken:,} of {most:,} bytes ({name})"))
+                    self.assertLessEqual(taken, most)
+        print(f"memory of {len(shares)} refused texts, the nearest to its limit: {max(shares)[1]}")
 
     def test_the_number_of_a_large_run(self):
         # It stands in the place of a file.

@@ -149,6 +149,15 @@ pub within_least : (least count : ℕ) (ps : List Pending) → AreWithin least c
 within_least least count [] w = w
 within_least least count (p ∷ ps) w = omega (arith, w.1.1.0, within_least least p.at.len ps w.1.1.1)
 
+-- what keeps so many entries keeps fewer
+pub within_lower : (least lower count : ℕ) (ps : List Pending) → lower ≤ least → AreWithin least count ps → AreWithin lower count ps
+within_lower least lower count [] h w = omega (arith, h, w)
+within_lower least lower count (p ∷ ps) h w = (w.0, (w.1.0, (w.1.1.0, within_lower least lower p.at.len ps h w.1.1.1)))
+
+-- as many entries are enough as a part needs, and as those behind it need
+pub part_within : (least own others len : ℕ) (p : Pending) (ps : List Pending) → own ≤ len → others ≤ len → p.at.environment ≤ own → IsLeftWithin own p.left → AreWithin least others ps → AreWithin least len (record p { at = record p.at { len = len } } ∷ ps)
+part_within least own others len p ps o b e l w = (omega (arith, o, e), (left_more own len p.left o l, (omega arith, within_more least others len ps b w)))
+
 -- more entries leave what is left as it is
 pub left_kept : (decimals : ℕ) (old new : List Entry) (f : Figure) (k depth : ℕ) (left : Left) (before behind : Numbers → ℕ) (n : Numbers) → AddsTo old new → k ≤ length old → IsLeftWithin (length old) left → ((m : Numbers) → behind m ≡ before m)
     → left_then decimals new f k depth left behind n ≡ left_then decimals old f k depth left before n

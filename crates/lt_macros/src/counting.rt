@@ -20,7 +20,7 @@ ghost use Rattle.lt_macros.specs.inner.Started.{sum_from};
 ghost use Rattle.lt_macros.specs.inner.Tallies.{counted};
 ghost use Rattle.lt_macros.specs.declared.scope.Entry.{Entry};
 
-use crate::head_normal_form::{HeadNormalForm, reduce};
+use crate::head_normal_form::{Advance, HeadNormalForm, step_in};
 use crate::limit::Limit;
 use crate::numbers::Numbers;
 use crate::position::Position;
@@ -78,7 +78,7 @@ struct Place {
     /// How deep it stands: 1 at the top.
     depth: u32,
 
-    /// How many entries there were when it was met.
+    /// Among how many entries: it needs no more of them, nor do those behind it.
     len: usize,
 }
 
@@ -603,9 +603,25 @@ fn take_trace<'a>(
     ensures right { OnOk result (AreRight (rows scope.new)) }
 {
     let position = Position::Trace(count.numbers);
-    let form = reduce(scope, position, at.environment, phrase)?;
-    put_trace(count, at.depth, scope.len(), form)?;
-    Ok(())
+    match step_in(scope, position, at.environment, phrase)? {
+        Advance::Met(form) => {
+            put_trace(count, at.depth, scope.len(), form)?;
+            Ok(())
+        }
+        Advance::Further(next, environment) => {
+            let len = scope.len();
+            put(
+                count,
+                Left::Trace(next),
+                Place {
+                    environment,
+                    len,
+                    ..at
+                },
+            )?;
+            Ok(())
+        }
+    }
 }
 
 // Takes an expression that is left.
@@ -631,9 +647,25 @@ fn take_expression<'a>(
     ensures adds { OnOk result (AddsTo (rows scope.old) (rows scope.new)) }
     ensures right { OnOk result (AreRight (rows scope.new)) }
 {
-    let form = reduce(scope, Position::Expression, at.environment, phrase)?;
-    put_expression(count, at.depth, scope.len(), form)?;
-    Ok(())
+    match step_in(scope, Position::Expression, at.environment, phrase)? {
+        Advance::Met(form) => {
+            put_expression(count, at.depth, scope.len(), form)?;
+            Ok(())
+        }
+        Advance::Further(next, environment) => {
+            let len = scope.len();
+            put(
+                count,
+                Left::Expression(next),
+                Place {
+                    environment,
+                    len,
+                    ..at
+                },
+            )?;
+            Ok(())
+        }
+    }
 }
 
 // Takes the first local of those that are left, which are some.
@@ -754,15 +786,41 @@ fn take<'a>(
     }
 }
 
-// Counts what is left, until there is nothing more or there are too many nodes.
-fn run<'a>(count: &mut Count<'a>, scope: &mut Scope<'a>) -> Result<(), Memory>
-    requires within { AreWithin 0 (length (rows scope.old)) (waiting count.old) }
+// How many entries a part needs.
+fn own_len(pending: Pending<'_>) -> usize
+    ensures environment { pending.entry.at.environment ≤ result }
+    ensures left { IsLeftWithin result pending.entry.left }
+    ensures least { pending.entry.at.environment ≤ pending.entry.at.len →
+        IsLeftWithin pending.entry.at.len pending.entry.left → result ≤ pending.entry.at.len }
+{
+    match pending.left {
+        Left::Names(locals) => pending.at.environment.max(locals.outer),
+        Left::Trace(_) | Left::Expression(_) | Left::Alternatives(_) | Left::Groups(_, _) => {
+            pending.at.environment
+        }
+    }
+}
+
+// How many entries what is left needs, and at least so many.
+fn len_of_left(count: &Count<'_>, base: usize) -> usize
+    ensures { (most : ℕ) → AreWithin base most (waiting count.now) →
+        (result ≤ most) × AreWithin base result (waiting count.now) }
+{
+    match count.left.last() {
+        None => base,
+        Some(pending) => pending.at.len,
+    }
+}
+
+// Counts what is left, until there is nothing more or there are too many nodes. At least so many entries are kept, and
+// beyond them those that what is left needs.
+fn run<'a>(count: &mut Count<'a>, scope: &mut Scope<'a>, base: usize) -> Result<(), Memory>
+    requires within { AreWithin base (length (rows scope.old)) (waiting count.old) }
     requires right { AreRight (rows scope.old) }
     ensures figures { OnOk result ((decimals : ℕ) →
         IsTallied count.new.tally (λ f. sum_of decimals (rows scope.old) f count.old)) }
-    ensures adds { OnOk result ((base : List Entry) → AddsTo base (rows scope.old) →
-        AreWithin (length base) (length (rows scope.old)) (waiting count.old) →
-        AddsTo base (rows scope.new)) }
+    ensures adds { OnOk result ((first : List Entry) → length first ≡ base →
+        AddsTo first (rows scope.old) → AddsTo first (rows scope.new)) }
     ensures right { OnOk result (AreRight (rows scope.new)) }
 {
     'turns: for _turn in 0..u64::MAX {
@@ -772,8 +830,9 @@ fn run<'a>(count: &mut Count<'a>, scope: &mut Scope<'a>) -> Result<(), Memory>
         let Some(pending) = count.left.pop() else {
             return Ok(());
         };
-        scope.truncate(pending.at.len);
-        take(count, scope, pending.left, pending.at)?;
+        let len = own_len(pending).max(len_of_left(count, base));
+        scope.truncate(len);
+        take(count, scope, pending.left, Place { len, ..pending.at })?;
     }
     // No text that fits in memory has so much.
     Err(Memory)
@@ -917,7 +976,7 @@ pub(crate) fn passed_limit<'a>(
         len: scope.len(),
     };
     put(&mut count, Left::Trace(Phrase::Trace(&node.body)), at)?;
-    run(&mut count, scope)?;
+    run(&mut count, scope, base)?;
     scope.truncate(base);
     Ok(count.tally.limit(inputs.next, outputs.next))
 }

@@ -12,7 +12,7 @@ ghost use Rattle.lt_macros.specs.inner.Phrase.{trace as trace_phrase, value};
 ghost use Rattle.lt_macros.specs.inner.Reading.{environment as environment_of, is_linked, is_name, meant, phrase_view, worked};
 ghost use Rattle.lt_macros.specs.inner.Rows.{rows};
 ghost use Rattle.lt_macros.specs.inner.Seen.{seen};
-ghost use Rattle.lt_macros.specs.inner.Steps.{IsFitting, IsLess, StepIsWithin, StepsTo, before_of, fits, is_expression, is_hidden, phrase_meant, phrase_worked, step_reads, use_meant, use_worked};
+ghost use Rattle.lt_macros.specs.inner.Steps.{AdvancesTo, IsFitting, IsLess, StepIsWithin, StepsTo, before_of, fits, is_expression, is_hidden, phrase_meant, phrase_worked, step_reads, use_meant, use_worked};
 ghost use Rattle.lt_macros.specs.inner.Work.{argument_work, macro_work, used};
 
 use crate::constructors::form_at;
@@ -93,6 +93,16 @@ pub(crate) enum Step<'a> {
 
     /// `pre` of a name in an environment.
     Previous(&'a Name, Span, usize),
+}
+
+/// What one step from a phrase leads to in a position.
+#[derive(Clone, Copy)]
+pub(crate) enum Advance<'a> {
+    /// What is met, which can stand there.
+    Met(HeadNormalForm<'a>),
+
+    /// A phrase in an environment, which stands for what the one before it did.
+    Further(Phrase<'a>, usize),
 }
 
 // Whether what may stand for a trace alone means nothing here.
@@ -400,6 +410,31 @@ fn fitting(position: Position, form: HeadNormalForm<'_>) -> HeadNormalForm<'_>
     }
 }
 
+// One step from a phrase in a position. Entries are added for what it needs.
+pub(crate) fn step_in<'a>(
+    scope: &mut Scope<'a>,
+    position: Position,
+    environment: usize,
+    phrase: Phrase<'a>,
+) -> Result<Advance<'a>, Memory>
+    requires within { environment ≤ length (rows scope.old) }
+    requires right { AreRight (rows scope.old) }
+    ensures advances { IfOk result (AdvancesTo position (rows scope.new)
+        (phrase_meant (rows scope.old) environment (phrase_view phrase.entry))
+        (phrase_worked (rows scope.old) environment (phrase_view phrase.entry))) }
+    ensures adds { OnOk result (AddsTo (rows scope.old) (rows scope.new)) }
+    ensures right { OnOk result (AreRight (rows scope.new)) }
+{
+    match take_step(scope, position, environment, phrase)? {
+        Step::Done(form) => Ok(Advance::Met(fitting(position, form))),
+        Step::Further(next, written) => Ok(Advance::Further(next, written)),
+        Step::Previous(name, at, written) => {
+            let form = previous(scope, written, name, at)?;
+            Ok(Advance::Met(fitting(position, form)))
+        }
+    }
+}
+
 // What is met where a phrase is expanded. Entries are added for what it needs.
 #[inline(never)]
 pub(crate) fn reduce<'a>(
@@ -427,15 +462,11 @@ pub(crate) fn reduce<'a>(
     let mut environment = environment;
     let mut phrase = phrase;
     loop {
-        match take_step(scope, position, environment, phrase)? {
-            Step::Done(form) => return Ok(fitting(position, form)),
-            Step::Further(next, written) => {
+        match step_in(scope, position, environment, phrase)? {
+            Advance::Met(form) => return Ok(form),
+            Advance::Further(next, written) => {
                 phrase = next;
                 environment = written;
-            }
-            Step::Previous(name, at, written) => {
-                let form = previous(scope, written, name, at)?;
-                return Ok(fitting(position, form));
             }
         }
     }

@@ -16,6 +16,8 @@ use Rattle.lt_macros.specs.declared.position.Position.TheVariants as position
 use Rattle.lt_macros.specs.declared.scope.Entry.{Entry}
 use Rattle.lt_macros.specs.declared.head_normal_form.HeadNormalForm.{HeadNormalForm}
 use Rattle.lt_macros.specs.declared.head_normal_form.HeadNormalForm.TheVariants as form
+use Rattle.lt_macros.specs.declared.head_normal_form.Advance.{Advance}
+use Rattle.lt_macros.specs.declared.head_normal_form.Advance.TheVariants as advance
 use Rattle.lt_macros.specs.declared.head_normal_form.Step.{Step}
 use Rattle.lt_macros.specs.declared.head_normal_form.Step.TheVariants.{Done, Further, Previous}
 
@@ -121,3 +123,24 @@ pub record IsFitting (position : Position) (h result : HeadNormalForm) : Type 0 
   pub work : (rows : List Entry) → form_reads worked rows result ≤ form_reads worked rows h
   pub within : (count : ℕ) → IsWithin count h → IsWithin count result
   pub fits : IsTrue (fits position result)
+
+-- what an advance leads to reads as
+abbrev pub advance_reads : {S : Type 0} → Reading S → List Entry → Advance → S
+advance_reads r rows (advance.Met h) = form_reads r rows h
+advance_reads r rows (advance.Further p k) = r.phrase (environment r rows k) (phrase_view p)
+
+-- What is left is less work than so much; what is met is no more.
+abbrev pub IsNoMore : List Entry → Advance → ℕ → Type 0
+IsNoMore rows (advance.Met h) work = form_reads worked rows h ≤ work
+IsNoMore rows (advance.Further p k) work = advance_reads worked rows (advance.Further p k) < work
+
+-- Its environment is among so many, and what is met can stand in the position.
+abbrev pub CanStand : Position → ℕ → Advance → Type 0
+CanStand position count (advance.Met h) = IsWithin count h × IsTrue (fits position h)
+CanStand position count (advance.Further p k) = k ≤ count
+
+-- An advance leads to what stands for the same where it stands, for all decimals, and to less than so much work.
+pub record AdvancesTo (position : Position) (rows : List Entry) (meaning : ℕ → Denotation) (most : ℕ) (a : Advance) : Type 0 where
+  pub denotation : (decimals : ℕ) → seen position (advance_reads (meant decimals) rows a) ≡ seen position (meaning decimals)
+  pub work : IsNoMore rows a most
+  pub within : CanStand position (length rows) a

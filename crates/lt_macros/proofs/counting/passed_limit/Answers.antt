@@ -1,4 +1,4 @@
-use Rattle.std.proofs.Common.{◌≡◌, length, map, slice_get, ap, sym, ◌∙◌, arith}
+use Rattle.std.proofs.Common.{◌≡◌, length, map, slice_get, ap, subst, sym, ◌∙◌, arith}
 use Rattle.lt_ast.specs.View.{groupings, trace as trace_view, word}
 use Rattle.lt_ast.specs.inner.Lists.{groups_of}
 use Rattle.lt_ast.specs.inner.Rows.{group_of}
@@ -7,7 +7,7 @@ use Rattle.lt_formula.specs.declared.role.Role.TheVariants as role
 use Rattle.lt_macros.specs.Expansion.{node_of, with_groups}
 use Rattle.lt_macros.specs.Limits.{passed_limits}
 use Rattle.lt_macros.specs.Denotation.{Numbers, Numbered, as_trace, trace_denotation}
-use Rattle.lt_macros.specs.inner.Counting.{sum_of, waiting}
+use Rattle.lt_macros.specs.inner.Counting.{AreWithin, sum_of, waiting}
 use Rattle.lt_macros.specs.inner.Figures.{Figure, node_figure}
 use Rattle.lt_macros.specs.inner.Numbers.{numbers_view}
 use Rattle.lt_macros.specs.inner.Reading.{environment, meant}
@@ -18,14 +18,19 @@ use Rattle.lt_macros.proofs.Adding.{adds_both, adds_length, all_back}
 use Rattle.lt_macros.proofs.Opened.{first_limit, node_counted, nothing_counted, nothing_left, trace_put, trace_within}
 use Rattle.lt_macros.proofs.counting.passed_limit.Goals as goal
 
-pub truncate-requires : goal.truncate-requires
-truncate-requires c =
+pub run-requires-clause-within : goal.run-requires-clause-within
+run-requires-clause-within c =
     let base = rows c.args.scope.now in
     let all = rows c.put_variables-2.new.scope in
     let first = nothing_left (length base) c.new.result.items c.new.ensures.items in
     let list = c.in_ok-outputs.ensures.within (length base) (c.in_ok-inputs.ensures.within (length base) first) in
     let within = trace_within (length base) (length all) c.in_ok-outputs.outputs.environment c.len.result _ (waiting c.put_variables-2.new.count) (waiting c.put.new.count) c.in_ok-put.ensures.left c.len.ensures c.in_ok-outputs.ensures.inside list in
-    let added = c.in_ok-run.ensures.adds base (adds_both base (rows c.put_variables.new.scope) all c.in_ok-inputs.ensures.adds c.in_ok-outputs.ensures.adds) within in
+    subst (λ least. AreWithin least (length all) (waiting c.put.new.count)) (sym c.len-base.ensures) within
+
+pub truncate-requires : goal.truncate-requires
+truncate-requires c =
+    let base = rows c.args.scope.now in
+    let added = c.in_ok-run.ensures.adds base (sym c.len-base.ensures) (adds_both base (rows c.put_variables.new.scope) (rows c.put_variables-2.new.scope) c.in_ok-inputs.ensures.adds c.in_ok-outputs.ensures.adds) in
     omega (arith, c.len-base.ensures, adds_length base (rows c.run.new.scope) added)
 
 pub returns-clause-limit : goal.returns-clause-limit
@@ -61,9 +66,5 @@ returns-clause-limit c =
 pub returns-clause-kept : goal.returns-clause-kept
 returns-clause-kept c =
     let base = rows c.args.scope.now in
-    let all = rows c.put_variables-2.new.scope in
-    let first = nothing_left (length base) c.new.result.items c.new.ensures.items in
-    let list = c.in_ok-outputs.ensures.within (length base) (c.in_ok-inputs.ensures.within (length base) first) in
-    let within = trace_within (length base) (length all) c.in_ok-outputs.outputs.environment c.len.result _ (waiting c.put_variables-2.new.count) (waiting c.put.new.count) c.in_ok-put.ensures.left c.len.ensures c.in_ok-outputs.ensures.inside list in
-    let added = c.in_ok-run.ensures.adds base (adds_both base (rows c.put_variables.new.scope) all c.in_ok-inputs.ensures.adds c.in_ok-outputs.ensures.adds) within in
+    let added = c.in_ok-run.ensures.adds base (sym c.len-base.ensures) (adds_both base (rows c.put_variables.new.scope) (rows c.put_variables-2.new.scope) c.in_ok-inputs.ensures.adds c.in_ok-outputs.ensures.adds) in
     all_back base (rows c.run.new.scope) (rows c.truncate.new.self) c.len-base.result c.truncate.ensures.rows c.len-base.ensures added

@@ -12,7 +12,7 @@ abbrev pub invariant-turns : goal.invariant-turns
 invariant-turns l =
     record {
       figures : (decimals : ℕ) (f : Figure) → sum_of decimals (rows l.scope) f l.count ≡ sum_of decimals (rows l.fn.scope) f l.fn.count;
-      within : AreWithin 0 (length (rows l.scope)) (waiting l.count);
-      base : (base : List Entry) → AddsTo base (rows l.fn.scope) → AreWithin (length base) (length (rows l.fn.scope)) (waiting l.fn.count) → AddsTo base (rows l.scope) × AreWithin (length base) (length (rows l.scope)) (waiting l.count);
+      within : AreWithin l.base (length (rows l.scope)) (waiting l.count);
+      kept : (first : List Entry) → length first ≡ l.base → AddsTo first (rows l.fn.scope) → AddsTo first (rows l.scope);
       right : AreRight (rows l.scope);
     }
