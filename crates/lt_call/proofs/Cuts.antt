@@ -4,7 +4,6 @@ use Rattle.std.specs.Io.KnownBytes.{Appends}
 use Rattle.std.specs.declared.option.Option.{Option}
 use Rattle.lt_args.specs.Words.{Request}
 use Rattle.lt_drive.specs.Drive.{Continuation}
-use Rattle.lt_drive.specs.Told.{closed}
 use Rattle.lt_drive.specs.declared.drive_end.DriveEnd.{DriveEnd}
 use Rattle.lt_drive.specs.declared.drive_end.DriveEnd.TheVariants as drive_end
 use Rattle.lt_io.specs.Outside.{Outside, Sources, without_files}
@@ -18,7 +17,7 @@ use Rattle.lt_play.specs.Rules.{scenario_rules}
 use Rattle.lt_rif.specs.declared.end.End.TheVariants as end
 use Rattle.lt_rif.specs.declared.end.Who.{Who}
 use Rattle.lt_session.specs.Cut as session_cut
-use Rattle.lt_session.specs.Cut.{CutSessionsAreFronts, IsCutBy, IsCutText, NeverBreaks, PlaysNeverBreak}
+use Rattle.lt_session.specs.Cut.{CutSessionsAreFronts, IsCutBy, NeverBreaks, PlaysNeverBreak}
 use Rattle.lt_session.specs.Session as session
 use Rattle.lt_session.specs.Session.{IsPlayed}
 use Rattle.lt_session.specs.declared.session_end.SessionEnd.{SessionEnd}
@@ -31,7 +30,7 @@ use Rattle.lt_call.specs.Due.{Answer, Contents, Work, plays}
 use Rattle.lt_call.specs.Given as given
 use Rattle.lt_call.specs.Given.{Gives, IsDone, status_of}
 use Rattle.lt_call.specs.Laws.{ContentsHaveOneDueAnswer, SidesTell}
-use Rattle.lt_call.specs.Run.{IsContinuationOf, oracle_of, plan_of, run_of}
+use Rattle.lt_call.specs.Run.{IsContinuationOf, oracle_of, plan_of}
 use Rattle.lt_call.specs.declared.status.Status.{Status}
 use Rattle.lt_call.proofs.Wholes.{gives_this, kept_appends}
 
@@ -56,7 +55,7 @@ same_scene a b e = cc e
 
 module _ (law : CutSessionsAreFronts State) (calm : PlaysNeverBreak State) (r : Request) (trace c o : List ℕ) (scene : Scene) (old new : Outside Sources) (sides : SidesTell r (record { scenario = []; replay = trace }) old.inputs.programs c o) where
   abbrev Fronts : Status → Type 0
-  Fronts s = (text : List ℕ) × Appends old.trace.written new.trace.written text × IsFront r scene (run_of r scene (closed c) (closed o)) text s
+  Fronts s = (text : List ℕ) × Appends old.trace.written new.trace.written text × IsFront r scene c o new.trace.gathers text s
 
   module _ (k : Continuation) (core : CoreState State) (course : IsContinuationOf r scene k) where
     never : NeverBreaks k
@@ -65,12 +64,12 @@ module _ (law : CutSessionsAreFronts State) (calm : PlaysNeverBreak State) (r : 
     begun : (how : DriveEnd) → IsPlayed k (with_contents r.inputs trace) (oracle_of r.oracle) (without_files old) (without_files new) core (session_end.Driven how) → IsCutBy how → Fronts (status_of (session_end.Driven how) core.written)
     begun how is cuts =
         let all = law k (with_contents r.inputs trace) (oracle_of r.oracle) (without_files old) (without_files new) core how c o never is cuts sides.0 sides.1 in
-        (all.0, all.1, cut.begun k how core.written course cuts (subst (λ (p : Play). IsCutText k p all.0 core.written how) (course.plays (closed c) (closed o)) all.2))
+        (all.0, all.1, cut.begun k how core.written course cuts all.2)
 
     played : (how : SessionEnd) → IsPlayed k (with_contents r.inputs trace) (oracle_of r.oracle) (without_files old) (without_files new) core how → IsCutShort (status_of how core.written) → Fronts (status_of how core.written)
-    played (session_end.Driven (drive_end.Ended (end.Device w))) is u = begun (drive_end.Ended (end.Device w)) is (session_cut.side w)
+    played (session_end.Driven (drive_end.Ended (end.Device w))) is u = begun (drive_end.Ended (end.Device w)) is (session_cut.broken w)
     played (session_end.Driven (drive_end.Ended e)) is u = absurd u
-    played (session_end.Driven (drive_end.TraceWriteFailed step)) is u = begun (drive_end.TraceWriteFailed step) is (session_cut.trace step)
+    played (session_end.Driven (drive_end.TraceWriteFailed step)) is u = begun (drive_end.TraceWriteFailed step) is (session_cut.unwritten step)
     played (session_end.StartFailed w) is u =
         let same = unstarted_keeps k (with_contents r.inputs trace) (oracle_of r.oracle) (without_files old) (without_files new) core (session_end.StartFailed w) w is refl in
         ([], same_appends old.trace new.trace same, cut.unstarted w refl)
@@ -86,7 +85,7 @@ module _ (law : CutSessionsAreFronts State) (calm : PlaysNeverBreak State) (r : 
   done _ _ _ (given.untold n other ps e run not unbroken puts) is u = absurd (cc is)
 
 gives : CutSessionsAreFronts State → PlaysNeverBreak State → (r : Request) (contents : Contents) (c o : List ℕ) (scene : Scene) (answer : Answer) (asked names : List (List ℕ)) (old new : Outside Sources) (s : Status) → Gives r contents answer asked old new names s →
-    answer.work ≡ plays scene → IsCutShort s → SidesTell r contents old.inputs.programs c o → (text : List ℕ) × Appends old.trace.written new.trace.written text × IsFront r scene (run_of r scene (closed c) (closed o)) text s
+    answer.work ≡ plays scene → IsCutShort s → SidesTell r contents old.inputs.programs c o → (text : List ℕ) × Appends old.trace.written new.trace.written text × IsFront r scene c o new.trace.gathers text s
 gives law calm r contents c o scene answer asked names old new s (given.done ns t files is) work u sides = done law calm r contents.replay c o scene old new sides answer.work ns t is work u
 gives law calm r contents c o scene answer asked names old new _ (given.by_file k some files puts) work u sides = ([], kept_appends old.trace.written new.trace.written puts.trace, cut.unread refl)
 gives law calm r contents c o scene answer asked names old new _ (given.by_memory k files puts) work u sides = absurd u

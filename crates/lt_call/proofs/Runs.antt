@@ -65,9 +65,9 @@ never_file session_end.Memory n = refl
 
 driven_trace : {State : Type 0} (k : Continuation) (old new : Outside Links) (after : CoreState State) (how : DriveEnd) (n : ℕ) → IsDriven k old new after how →
     IsCounted device.Trace (blames (status_of (session_end.Driven how) n) device.Trace) old.trace.faults new.trace.faults
-driven_trace k old new after how n (ended received ps e whole interaction put over) = interaction.blames destination.Trace
-driven_trace k old new after how n (failed received given w gives interaction put over) = interaction.blames destination.Trace
-driven_trace k old new after how n (untraced received fault given kind prefix rest gives to some interaction put) = interaction.blames destination.Trace
+driven_trace k old new after how n (ended received ps e whole interaction history put over) = interaction.blames destination.Trace
+driven_trace k old new after how n (failed received given w gives interaction history put over) = interaction.blames destination.Trace
+driven_trace k old new after how n (untraced received fault given kind prefix rest gives to some interaction history put) = interaction.blames destination.Trace
 
 -- its count of faults
 pub trace_counted : {State : Type 0} (k : Continuation) (controller oracle : InputSource) (old new : Outside Programs) (after : CoreState State) (how : SessionEnd) (n : ℕ) → IsPlayed k controller oracle old new after how →

@@ -137,13 +137,14 @@ UndisturbedCallsAreUncut =
     ((what : Device) → Rose (faults_of what old) (faults_of what new) → ⊥) → s ≢ status.Memory → IsUncut s
 
 -- Where files and sides tell what they have, a call that neither a device nor want of memory cuts short ends by a reply of a
--- side that is refused, or missing, only where one is, behind whole ones.
+-- side that is refused, or missing, only where that is the next one that its run needs: one whole reply of that side for each
+-- of the run's steps stands before.
 abbrev pub RepliesAreMissedOnlySo : Type 0
 RepliesAreMissedOnlySo =
     (request : Request) (contents : Contents) (told : List ℕ → Option (List ℕ)) (names asked files : List (List ℕ)) (old new : Outside Sources) (s : Status) (c o : List ℕ) (scene : Scene) (e : End) (at : ℕ) →
     Tell request told contents → GivesDue request told asked old new names s → IsUncut s → SidesTell request contents old.inputs.programs c o →
     IsDue request contents (record { work = plays scene; files = files }) → s ≡ status.Ran (record { end = e; at = at }) →
-    IsMissed (plan_of request scene) (stream_of (closed c)) (stream_of (closed o)) e
+    IsMissed (plan_of request scene) (stream_of (closed c)) (stream_of (closed o)) (step_count (run_of request scene (closed c) (closed o)).pieces) e
 
 -- Where memory ran out, nothing was written: it doesn't run out once a run has begun.
 abbrev pub WantOfMemoryWritesNothing : Type 0

@@ -17,12 +17,15 @@ use Rattle.lt_loop.specs.declared.event.PieceKind.{PieceKind}
 use Rattle.lt_loop.specs.declared.event.PieceKind.TheVariants as piece_kind
 use Rattle.lt_loop.specs.declared.phase.Phase.TheVariants as phase
 use Rattle.lt_drive.specs.Drive.{Begins, Continuation, GivesOut, HasPutOut, HasPutOutBehind, IsDriven, IsUnended, calm, continuation_of, failed, fault_line, play_on, failed_step, unheard, unsent, untraced}
+use Rattle.lt_drive.specs.History.{History}
 use Rattle.lt_drive.specs.Interaction.{Interaction, Received, piece, side, silence}
+use Rattle.lt_io.specs.Link.{fails_to_receive, fails_to_send, sends}
 use Rattle.lt_io.specs.Outside.{Links, Outside}
 use Rattle.lt_io.specs.Sink.{Sink}
-use Rattle.lt_drive.specs.inner.Steps.{Fails, GivesPart, Goes, StandsAs, continuation_due, fault_text, is_trace, side_at}
+use Rattle.lt_drive.specs.inner.Steps.{Fails, GivesPart, Goes, IsDoneTo, StandsAs, continuation_due, fault_text, is_trace, side_at}
 use Rattle.lt_drive.specs.declared.drive_end.DriveEnd.{DriveEnd}
 use Rattle.lt_drive.specs.declared.drive_end.DriveEnd.TheVariants as drive_end
+use Rattle.lt_drive.proofs.Histories.{history_given, history_line, history_none, history_part, history_unheard, history_unlined}
 use Rattle.lt_drive.proofs.Interactions.{line_unwritten, line_written, nothing_happens, step_count-append}
 
 -- no step goes to a side
@@ -53,17 +56,18 @@ module _ {State : Type 0} (k : Continuation) (old mid : Outside Links) (trace : 
   counts_line text counts same = (same.0 ∙ counts.0, omega (arith, same.1, counts.1, step_count-append given (piece piece_kind.EndLine text ∷ [])))
 
   -- the run was ended by the fault of a side
-  pub fault_driven : (d : DriveEnd) → GivesOut k r (given ++ piece piece_kind.EndLine (fault_text s w) ∷ []) (Some w) → Interaction old mid r given (Some w) false → HasPutOut k given s →
+  pub fault_driven : (d : DriveEnd) → GivesOut k r (given ++ piece piece_kind.EndLine (fault_text s w) ∷ []) (Some w) → Interaction old mid r given (Some w) false → History k old mid r given (Some w) false → HasPutOut k given s →
       Fails s w mid.trace trace core d → IsDriven k old (record mid { trace = trace }) core d
-  fault_driven (drive_end.Ended e) gives interaction counts fails =
+  fault_driven (drive_end.Ended e) gives interaction history counts fails =
       subst (λ (x : End). IsDriven k old (record mid { trace = trace }) core (drive_end.Ended x)) (sym fails.0)
       (failed r (given ++ piece piece_kind.EndLine (fault_text s w) ∷ []) w gives (line_written old mid trace r given (Some w) (fault_text s w) interaction fails.3 fails.4)
+      (history_line k old mid trace r given (Some w) (fault_text s w) history)
       (counts_line (fault_text s w) counts fails.2) (fails.1 ∙ ap phase.Over fails.0))
-  fault_driven (drive_end.TraceWriteFailed n) gives interaction counts fails =
+  fault_driven (drive_end.TraceWriteFailed n) gives interaction history counts fails =
       let part = fails.2 in
       subst (λ (x : ℕ). IsDriven k old (record mid { trace = trace }) core (drive_end.TraceWriteFailed x)) (sym (fails.0 ∙ ap (λ (x : ℕ). x + 1) counts.1))
       (untraced r (Some w) given piece_kind.EndLine part.0 part.1 (subst (λ (t : List ℕ). GivesOut k r (given ++ piece piece_kind.EndLine t ∷ []) (Some w)) part.2 gives) refl part.3
-      (line_unwritten old mid trace r given (Some w) part.0 interaction part.4 fails.3)
+      (line_unwritten old mid trace r given (Some w) part.0 interaction part.4 fails.3) (history_unlined k old mid trace r given w part.0 part.1 history)
       (nothing_lost k r (Some w) (given ++ piece piece_kind.EndLine (part.0 ++ part.1) ∷ []) (given ++ piece piece_kind.EndLine part.0 ∷ []) core trace
       (subst (λ (t : List ℕ). GivesOut k r (given ++ piece piece_kind.EndLine t ∷ []) (Some w)) part.2 gives) (counts_line part.0 counts fails.1)))
 
@@ -82,6 +86,7 @@ module _ {State : Type 0} where
       received = silence;
       pieces = [];
       interaction = nothing_happens old;
+      history = history_none (continuation_due s e) old;
       counts = (plan, written);
       way = λ c o. ap (λ (m : ℕ). play_due e m s c o) (sym taken) ∙ out c o;
     }
@@ -92,11 +97,12 @@ module _ {State : Type 0} where
       way_with c o = ap (λ (m : ℕ). play_due e m s c o) (sym taken) ∙ out c o
 
       -- the piece that was put out was given to where it goes
-      pub goes_with : (old mid : Outside Links) → Interaction old mid silence (piece kind text ∷ []) None false → Goes (continuation_due s e) old mid new
-      goes_with old mid interaction = record {
+      pub goes_with : (old mid : Outside Links) → Interaction old mid silence (piece kind text ∷ []) None false → IsDoneTo (destination_of kind) (sends text) old mid → Goes (continuation_due s e) old mid new
+      goes_with old mid interaction done = record {
         received = silence;
         pieces = piece kind text ∷ [];
         interaction = interaction;
+        history = history_given (continuation_due s e) old mid kind text done;
         counts = (plan, omega (arith, written));
         way = way_with;
       }
@@ -105,18 +111,25 @@ module _ {State : Type 0} where
       begins_with : (prefix rest : List ℕ) → text ≡ prefix ++ rest → Begins (continuation_due s e) silence ([] ++ piece kind (prefix ++ rest) ∷ [])
       begins_with prefix rest is c o = (resume new c o, way_with c o ∙ ap (λ (t : List ℕ). pieces_then (piece kind t ∷ []) (resume new c o)) is)
 
+      -- it could not be given whole
+      part_done : (old mid : Outside Links) (part : GivesPart kind text old mid) → IsDoneTo (destination_of kind) (fails_to_send text) old mid →
+          History (continuation_due s e) old mid silence (piece kind part.0 ∷ []) (side_at (destination_of kind)) (is_trace (destination_of kind))
+      part_done old mid part done =
+          history_part (continuation_due s e) old mid kind part.0 part.1 (begins_with part.0 part.1 part.2) (subst (λ (t : List ℕ). IsDoneTo (destination_of kind) (fails_to_send t) old mid) part.2 done)
+
       -- it could not be written to the trace
-      pub untraced_with : (old mid : Outside Links) (d : DriveEnd) → destination_of kind ≡ destination.Trace → GivesPart kind text old mid →
+      pub untraced_with : (old mid : Outside Links) (d : DriveEnd) → destination_of kind ≡ destination.Trace → GivesPart kind text old mid → IsDoneTo (destination_of kind) (fails_to_send text) old mid →
           d ≡ drive_end.TraceWriteFailed (failed_step kind (s.written + 0)) → IsDriven (continuation_due s e) old mid new d
-      untraced_with old mid d goes part is =
+      untraced_with old mid d goes part done is =
           subst (IsDriven (continuation_due s e) old mid new) (sym is)
           (untraced silence None [] kind part.0 part.1 (calm (begins_with part.0 part.1 part.2)) goes (part.3 goes) (subst (λ (x : Destination). Interaction old mid silence (piece kind part.0 ∷ []) (side_at x) (is_trace x)) goes part.4)
+          (subst (λ (x : Destination). History (continuation_due s e) old mid silence (piece kind part.0 ∷ []) (side_at x) (is_trace x)) goes (part_done old mid part done))
           (nothing_lost (continuation_due s e) silence None ([] ++ piece kind (part.0 ++ part.1) ∷ []) ([] ++ piece kind part.0 ∷ []) new mid.trace (calm (begins_with part.0 part.1 part.2)) (plan, omega (arith, written))))
 
       -- it could not be sent to its side
-      pub unsent_with : (old mid : Outside Links) (trace : Sink) (core : CoreState State) (w : Who) (d : DriveEnd) → destination_of kind ≡ side w → GivesPart kind text old mid →
+      pub unsent_with : (old mid : Outside Links) (trace : Sink) (core : CoreState State) (w : Who) (d : DriveEnd) → destination_of kind ≡ side w → GivesPart kind text old mid → IsDoneTo (destination_of kind) (fails_to_send text) old mid →
           Fails new w mid.trace trace core d → IsDriven (continuation_due s e) old (record mid { trace = trace }) core d
-      unsent_with old mid trace core w d goes part fails =
+      unsent_with old mid trace core w d goes part done fails =
           let none : steps_of kind ≡ 0 = no_steps kind w goes in
           let line : piece piece_kind.EndLine (fault_text new w) ≡ fault_line (continuation_due s e) [] w =
           ap (λ (p : Plan). piece piece_kind.EndLine (closing_text p (end.Device w) (new.written + 1))) plan
@@ -124,21 +137,22 @@ module _ {State : Type 0} where
           fault_driven (continuation_due s e) old mid trace silence (piece kind part.0 ∷ []) w new core d
           (unsent w [] kind part.0 part.1 goes (begins_with part.0 part.1 part.2) (ap (λ (p : Piece). piece kind part.0 ∷ p ∷ []) line))
           (part_at_side w (destination_of kind) (λ (fault : Option Who) (b : Bool). Interaction old mid silence (piece kind part.0 ∷ []) fault b) goes part.4)
+          (part_at_side w (destination_of kind) (λ (fault : Option Who) (b : Bool). History (continuation_due s e) old mid silence (piece kind part.0 ∷ []) fault b) goes (part_done old mid part done))
           (plan, omega (arith, written)) fails
 
       -- it could not be given to where it goes
-      broken_off_at : (there : Destination) → destination_of kind ≡ there → (old mid : Outside Links) (trace : Sink) (core : CoreState State) (d : DriveEnd) → GivesPart kind text old mid →
+      broken_off_at : (there : Destination) → destination_of kind ≡ there → (old mid : Outside Links) (trace : Sink) (core : CoreState State) (d : DriveEnd) → GivesPart kind text old mid → IsDoneTo (destination_of kind) (fails_to_send text) old mid →
           ((w : Who) → destination_of kind ≡ side w → Fails new w mid.trace trace core d) →
           ((steps : ℕ) → destination_of kind ≡ destination.Trace → new.written ≡ steps + steps_of kind → d ≡ drive_end.TraceWriteFailed (failed_step kind steps)) →
           (destination_of kind ≡ destination.Trace → core ≡ new) → (destination_of kind ≡ destination.Trace → trace ≡ mid.trace) →
           IsDriven (continuation_due s e) old (record mid { trace = trace }) core d
-      broken_off_at destination.Controller goes old mid trace core d part fails traced same_core same_trace = unsent_with old mid trace core who.Controller d goes part (fails who.Controller goes)
-      broken_off_at destination.Oracle goes old mid trace core d part fails traced same_core same_trace = unsent_with old mid trace core who.Oracle d goes part (fails who.Oracle goes)
-      broken_off_at destination.Trace goes old mid trace core d part fails traced same_core same_trace =
+      broken_off_at destination.Controller goes old mid trace core d part done fails traced same_core same_trace = unsent_with old mid trace core who.Controller d goes part done (fails who.Controller goes)
+      broken_off_at destination.Oracle goes old mid trace core d part done fails traced same_core same_trace = unsent_with old mid trace core who.Oracle d goes part done (fails who.Oracle goes)
+      broken_off_at destination.Trace goes old mid trace core d part done fails traced same_core same_trace =
           subst (λ (t : Sink). IsDriven (continuation_due s e) old (record mid { trace = t }) core d) (sym (same_trace goes))
-          (subst (λ (x : CoreState State). IsDriven (continuation_due s e) old mid x d) (sym (same_core goes)) (untraced_with old mid d goes part (traced (s.written + 0) goes (omega (arith, written)))))
+          (subst (λ (x : CoreState State). IsDriven (continuation_due s e) old mid x d) (sym (same_core goes)) (untraced_with old mid d goes part done (traced (s.written + 0) goes (omega (arith, written)))))
 
-      pub broken_off : (old mid : Outside Links) (trace : Sink) (core : CoreState State) (d : DriveEnd) → GivesPart kind text old mid →
+      pub broken_off : (old mid : Outside Links) (trace : Sink) (core : CoreState State) (d : DriveEnd) → GivesPart kind text old mid → IsDoneTo (destination_of kind) (fails_to_send text) old mid →
           ((w : Who) → destination_of kind ≡ side w → Fails new w mid.trace trace core d) →
           ((steps : ℕ) → destination_of kind ≡ destination.Trace → new.written ≡ steps + steps_of kind → d ≡ drive_end.TraceWriteFailed (failed_step kind steps)) →
           (destination_of kind ≡ destination.Trace → core ≡ new) → (destination_of kind ≡ destination.Trace → trace ≡ mid.trace) →
@@ -147,12 +161,12 @@ module _ {State : Type 0} where
 
   -- nothing could be received of a side
   pub unheard_driven : (s core : CoreState State) (old mid : Outside Links) (trace : Sink) (w : Who) (d : DriveEnd) → ((c o : Rest) → IsUnended (resume s c o)) → resume s silent silent ≡ stopped (needs_byte w) → Interaction old mid silence [] (Some w) false →
-      Fails s w mid.trace trace core d → IsDriven (continuation_of s) old (record mid { trace = trace }) core d
-  unheard_driven s core old mid trace w d more stops interaction fails =
+      IsDoneTo (side w) fails_to_receive old mid → Fails s w mid.trace trace core d → IsDriven (continuation_of s) old (record mid { trace = trace }) core d
+  unheard_driven s core old mid trace w d more stops interaction done fails =
       let none : s.written + 1 ≡ s.written + 0 + 1 = omega arith in
       let line : piece piece_kind.EndLine (fault_text s w) ≡ fault_line (continuation_of s) [] w = ap (λ (m : ℕ). piece piece_kind.EndLine (closing_text s.plan (end.Device w) m)) none in
       fault_driven (continuation_of s) old mid trace silence [] w s core d
-      (unheard w [] (λ c o. (play_on (continuation_of s) silence c o, refl, more c o)) stops (ap (λ (p : Piece). p ∷ []) line)) interaction (refl, omega arith) fails
+      (unheard w [] (λ c o. (play_on (continuation_of s) silence c o, refl, more c o)) stops (ap (λ (p : Piece). p ∷ []) line)) interaction (history_unheard (continuation_of s) old mid w stops done) (refl, omega arith) fails
 
   -- a core was told of the fault of a side
   pub fault_told : FaultsAreCuts State → (s new : CoreState State) (w : Who) (a : Answer) → listens s w ≡ true → Answers s (failed_side w) a new →

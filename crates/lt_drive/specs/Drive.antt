@@ -1,15 +1,13 @@
 -- How a run is driven between what is outside and its core, and how that ends.
-use Rattle.std.specs.Prelude.{◌≡◌, ◌≢◌, ℕ, ◌+◌, ◌<◌, Bool, true, false, List, [], ◌∷◌, ◌++◌, length, map, None, Some}
+use Rattle.std.specs.Prelude.{◌≡◌, ℕ, ◌+◌, ◌<◌, Bool, true, false, List, [], ◌∷◌, ◌++◌, length, map, None, Some}
 use Rattle.std.specs.declared.option.Option.{Option}
 use Rattle.lt_rif.specs.Trace.{end_number, step_at_hand}
 use Rattle.lt_rif.specs.declared.end.End.{End}
 use Rattle.lt_rif.specs.declared.end.End.TheVariants as end
 use Rattle.lt_rif.specs.declared.end.Who.{Who}
-use Rattle.lt_loop.specs.Plan.{Plan, closing_text}
-use Rattle.lt_loop.specs.Play.{Piece, Play, destination_of, ends, needs_byte, step_count, stopped}
-use Rattle.lt_loop.specs.Run.{pieces_then}
-use Rattle.lt_loop.specs.Side.{Rest, silent}
-use Rattle.lt_loop.specs.CoreState.{CoreState, resume}
+use Rattle.lt_loop.specs.Plan.{closing_text}
+use Rattle.lt_loop.specs.Play.{Piece, destination_of, step_count}
+use Rattle.lt_loop.specs.CoreState.{CoreState}
 use Rattle.lt_loop.specs.declared.event.Destination.TheVariants as destination
 use Rattle.lt_loop.specs.declared.event.PieceKind.{PieceKind}
 use Rattle.lt_loop.specs.declared.event.PieceKind.TheVariants as piece_kind
@@ -18,7 +16,9 @@ use Rattle.lt_loop.specs.declared.setup.Talk.{Talk}
 use Rattle.lt_loop.specs.declared.setup.Talk.TheVariants as talk
 use Rattle.lt_io.specs.Outside.{Links, Outside}
 use Rattle.lt_io.specs.Sink.{Sink}
-use Rattle.lt_drive.specs.Interaction.{Interaction, Received, piece, received_then, side}
+pub use Rattle.lt_drive.specs.Continuation.{Awaits, Begins, BeginsUnended, Continuation, IsUnended, IsWhole, continuation_of, play_on}
+use Rattle.lt_drive.specs.History.{History}
+use Rattle.lt_drive.specs.Interaction.{Interaction, Received, piece, side}
 use Rattle.lt_drive.specs.declared.drive_end.DriveEnd.{DriveEnd}
 use Rattle.lt_drive.specs.declared.drive_end.DriveEnd.TheVariants as drive_end
 
@@ -27,42 +27,6 @@ abbrev pub is_told : Talk → Bool
 is_told talk.Nobody = false
 is_told talk.Live = true
 is_told talk.Replay = false
-
--- what is left of a run
-pub record Continuation : Type 0 where
-  pub plan : Plan
-  -- how many steps were put out before
-  pub written : ℕ
-  -- what is put out, where this is still to come of the streams of the controller and of the oracle
-  pub play : Rest → Rest → Play
-
--- what is left of the run of a core
-abbrev pub continuation_of : {State : Type 0} → CoreState State → Continuation
-continuation_of s = record { plan = s.plan; written = s.written; play = resume s }
-
--- what is put out, where this was received of the streams and this is still to come
-abbrev pub play_on : Continuation → Received → Rest → Rest → Play
-play_on k received c o = k.play (received_then received.controller c) (received_then received.oracle o)
-
--- Whatever comes after what was received, the play begins with these pieces.
-abbrev pub Begins : Continuation → Received → List Piece → Type 0
-Begins k received ps = (c o : Rest) → (rest : Play) × (play_on k received c o ≡ pieces_then ps rest)
-
--- a play isn't over: a piece is still to be put out, or a byte to come
-abbrev pub IsUnended : Play → Type 0
-IsUnended play = (e : End) → play ≢ stopped (ends e)
-
--- Whatever comes after what was received, the play begins with these pieces, and isn't over after them.
-abbrev pub BeginsUnended : Continuation → Received → List Piece → Type 0
-BeginsUnended k received ps = (c o : Rest) → (rest : Play) × (play_on k received c o ≡ pieces_then ps rest) × IsUnended rest
-
--- On what was received the play has these pieces and no further one, and waits for a byte of this side.
-abbrev pub Awaits : Continuation → Received → List Piece → Who → Type 0
-Awaits k received ps w = play_on k received silent silent ≡ record { pieces = ps; stop = needs_byte w }
-
--- Whatever comes after what was received, the play has these pieces and this end.
-abbrev pub IsWhole : Continuation → Received → List Piece → End → Type 0
-IsWhole k received ps e = (c o : Rest) → play_on k received c o ≡ record { pieces = ps; stop = ends e }
 
 -- the end line of a side's fault after these pieces: its number is one more than the steps that were put out
 abbrev pub fault_line : Continuation → List Piece → Who → Piece
@@ -102,18 +66,19 @@ pub record HasPutOutBehind {State : Type 0} (k : Continuation) (received : Recei
   pub counts : HasPutOut k (given ++ steps lost) core
   pub none : trace.gathers ≡ false → lost ≡ []
 
--- What is left of a run was driven from one moment to another. The core stands there, and this is how it ended. A row a way.
+-- What is left of a run was driven from one moment to another. The core stands there, and this is how it ended. However it
+-- ended, a side was read only where the run waited for it. A row a way.
 pub data IsDriven {State : Type 0} (k : Continuation) (old new : Outside Links) (core : CoreState State) : DriveEnd → Type 0 where
   -- the run ended: all pieces of the play on what was received were given out, and it ended as the play does
   ended : (received : Received) (ps : List Piece) (e : End) → IsWhole k received ps e →
-      Interaction old new received ps None false → HasPutOut k ps core → core.phase ≡ phase.Over e → IsDriven k old new core (drive_end.Ended e)
+      Interaction old new received ps None false → History k old new received ps None false → HasPutOut k ps core → core.phase ≡ phase.Over e → IsDriven k old new core (drive_end.Ended e)
   -- a side failed, and the run ended by its fault
   failed : (received : Received) (given : List Piece) (w : Who) → GivesOut k received given (Some w) →
-      Interaction old new received given (Some w) false → HasPutOut k given core → core.phase ≡ phase.Over (end.Device w) → IsDriven k old new core (drive_end.Ended (end.Device w))
+      Interaction old new received given (Some w) false → History k old new received given (Some w) false → HasPutOut k given core → core.phase ≡ phase.Over (end.Device w) → IsDriven k old new core (drive_end.Ended (end.Device w))
   -- a piece could not be written to the trace, but for a prefix that is not all of it; that may be the end line of a side's
   -- fault, and steps that were to be written together with it are lost
   untraced : (received : Received) (fault : Option Who) (given : List Piece) (kind : PieceKind) (prefix rest : List ℕ) →
       GivesOut k received (given ++ piece kind (prefix ++ rest) ∷ []) fault → destination_of kind ≡ destination.Trace → 0 < length rest →
-      Interaction old new received (given ++ piece kind prefix ∷ []) fault true →
+      Interaction old new received (given ++ piece kind prefix ∷ []) fault true → History k old new received (given ++ piece kind prefix ∷ []) fault true →
       HasPutOutBehind k received fault (given ++ piece kind (prefix ++ rest) ∷ []) (given ++ piece kind prefix ∷ []) core new.trace →
       IsDriven k old new core (drive_end.TraceWriteFailed (failed_step kind (k.written + step_count given)))

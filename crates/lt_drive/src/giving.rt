@@ -9,8 +9,9 @@ ghost use Rattle.lt_loop.specs.Play.{destination_of, steps_of};
 ghost use Rattle.lt_loop.specs.Run.{Answers};
 ghost use Rattle.lt_drive.specs.Drive.{failed_step};
 ghost use Rattle.lt_drive.specs.Interaction.{Interaction, piece, side, silence};
+ghost use Rattle.lt_io.specs.Link.{sending};
 ghost use Rattle.lt_io.specs.Outside.{linked};
-ghost use Rattle.lt_drive.specs.inner.Steps.{Fails, GivesPart, IfGoes, Proceeds, StandsAs, answer_of, continuation_due, fault_text};
+ghost use Rattle.lt_drive.specs.inner.Steps.{Fails, GivesPart, IfGoes, IsDoneTo, Proceeds, StandsAs, answer_of, continuation_due, fault_text};
 
 use crate::drive_end::DriveEnd;
 use crate::progress::Progress;
@@ -64,6 +65,9 @@ fn give<C: Link, O: Link, S: Sink>(
     ensures part { OnErr result (GivesPart kind text.now
         (linked (C.state controller.old) (O.state oracle.old) (S.state trace.old))
         (linked (C.state controller.new) (O.state oracle.new) (S.state trace.new))) }
+    ensures done { IsDoneTo (destination_of kind) (sending result text.now)
+        (linked (C.state controller.old) (O.state oracle.old) (S.state trace.old))
+        (linked (C.state controller.new) (O.state oracle.new) (S.state trace.new)) }
     ensures no_controller { destination_of kind ≢ Destination.Controller →
         controller.new ≡ controller.old }
     ensures no_oracle { destination_of kind ≢ Destination.Oracle → oracle.new ≡ oracle.old }

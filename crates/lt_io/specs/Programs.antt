@@ -1,14 +1,15 @@
 -- What is told of the programs that may be started, and what starting and finishing one does.
-use Rattle.std.specs.Prelude.{◌≡◌, ◌≢◌, ◌≤◌, ℕ, ◌+◌, ◌-◌, ◌^◌, min, List, [], ◌∷◌, ◌++◌, None, Some}
+use Rattle.std.specs.Prelude.{◌≡◌, ◌≢◌, ◌≤◌, ℕ, ◌+◌, ◌-◌, ◌^◌, min, Bool, true, List, [], ◌∷◌, ◌++◌, None, Some}
 use Rattle.std.specs.declared.option.Option.{Option}
 use Rattle.lt_io.specs.Causes.{Rose, WhereTold}
-use Rattle.lt_io.specs.Link.{Link}
+use Rattle.lt_io.specs.Link.{Act, Link}
 
--- what a finished link leaves behind: the bytes that it was sent, where they are told, and how often it failed, a count
--- which stays at the greatest number of 64 bits
+-- what a finished link leaves behind: the bytes that it was sent, where they are told; how often it failed, a count which
+-- stays at the greatest number of 64 bits; and what fits it of all that was done with it
 pub record Closed : Type 0 where
   pub sent : Option (List ℕ)
   pub faults : ℕ
+  pub fits : List Act → Bool
 
 -- what is told at one moment of the programs that may be started
 pub record Programs : Type 0 where
@@ -40,7 +41,8 @@ pub record IsStarted (command : List ℕ) (old new : Programs) (link : Link) : T
   -- it is the first link that was to come by the command, and nothing else changed of what is to come
   pub first : Starts (old.coming command) (new.coming command) link.left
   pub others : (other : List ℕ) → other ≢ command → new.coming other ≡ old.coming other
-  -- it was sent nothing, and has no fault
+  -- nothing was done with it, it was sent nothing, and it has no fault
+  pub fresh : link.fits [] ≡ true
   pub unsent : WhereTold link.sent (λ bytes. bytes ≡ [])
   -- where it is told what finished links leave behind, the link tells what it is sent
   pub tells : WhereTold old.closed (λ _. link.sent ≡ Some [])
@@ -69,8 +71,8 @@ with_more count more = min (count + more) (2 ^ 64 - 1)
 
 -- A link was given back, and its program finished.
 pub record IsFinished (old new : Programs) (link : Link) : Type 0 where
-  -- what it was sent and its faults are the last entry of those that were finished
-  pub closes : Closes old.closed new.closed (record { sent = link.sent; faults = link.faults })
+  -- what it was sent, its faults and what fits it are the last entry of those that were finished
+  pub closes : Closes old.closed new.closed (record { sent = link.sent; faults = link.faults; fits = link.fits })
   -- its faults were added; those of its end may have been too
   pub adds : with_more old.faults link.faults ≤ new.faults
   pub later : old.faults ≤ new.faults

@@ -243,19 +243,19 @@ module _ (traces : ScenarioTracesShowTheirRun) (prefixes : ScenarioPrefixesShowT
       numbered ps e counts = ap (λ (n : ℕ). end_number e n) (let none = course.unwritten in let same : core.written ≡ step_count ps = omega (arith, none, counts) in same)
 
       driven_shows : (c o c' o' : Link) (how : DriveEnd) → IsDriven k (linked c o old.trace) (linked c' o' new.trace) core how → ShowsBy request scene (status_of (session_end.Driven how) core.written) old.trace.written new.trace.written
-      driven_shows c o c' o' _ (drive.ended received ps e whole interaction counts over) = record {
+      driven_shows c o c' o' _ (drive.ended received ps e whole interaction history counts over) = record {
         pieces = ps;
         grows = grown ps (interaction.gives destination.Trace);
         shows = ended_shows _ _ ps e (begins_run received ps (stopped (ends e)) (whole silent silent ∙ sym (behind_none ps (ends e))) ∙ behind_none ps (ends e));
         number = numbered ps e counts.1;
       }
-      driven_shows c o c' o' _ (drive.failed received out w gives interaction counts over) = record {
+      driven_shows c o c' o' _ (drive.failed received out w gives interaction history counts over) = record {
         pieces = out;
         grows = grown out (interaction.gives destination.Trace);
         shows = fault_given received out (Some w) w refl gives;
         number = numbered out (end.Device w) counts.1;
       }
-      driven_shows c o c' o' _ (drive.untraced received fault out kind prefix rest gives goes some interaction counts) = record {
+      driven_shows c o c' o' _ (drive.untraced received fault out kind prefix rest gives goes some interaction history counts) = record {
         pieces = out;
         kind = kind;
         prefix = prefix;

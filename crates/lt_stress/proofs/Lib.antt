@@ -4,6 +4,8 @@ pub mod Sums
 pub mod Lines
 -- where a plant stands with one byte more, and what fits it
 pub mod Stands
+-- where a plant stands with which all this was done
+pub mod Stood
 -- what a run that was driven against a plant is
 pub mod Runs
 -- parts with a text between them

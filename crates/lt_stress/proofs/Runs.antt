@@ -3,7 +3,9 @@ use Rattle.std.proofs.Common.{◌≡◌, ◌≤◌, ℕ, ◌+◌, Bool, true, fa
 use Rattle.std.specs.declared.option.Option.{Option}
 use Rattle.lt_draw.specs.declared.directions.Draw.TheVariants.{Up}
 use Rattle.lt_drive.specs.Drive.{Continuation, IsDriven, ended, failed, untraced}
-use Rattle.lt_drive.specs.Interaction.{IsReceived, received_then, text_to}
+use Rattle.lt_drive.specs.History.{acts_of, received_in}
+use Rattle.lt_drive.specs.Interaction.{IsReceived, Received, received_then, text_to}
+use Rattle.lt_io.specs.Link.{receives}
 use Rattle.lt_io.specs.Outside.{Links, Outside}
 use Rattle.lt_io.specs.Sink.{Sink}
 use Rattle.lt_drive.specs.Told.{closed}
@@ -25,6 +27,7 @@ use Rattle.lt_frontend.specs.declared.refusal.Unprepared.TheVariants as why
 use Rattle.lt_rif.specs.declared.end.End.{End}
 use Rattle.lt_rif.specs.declared.end.End.TheVariants as end
 use Rattle.lt_rif.specs.declared.end.Who.{Who}
+use Rattle.lt_rif.specs.declared.end.Who.TheVariants as who
 use Rattle.lt_step.specs.Machine.{State, started}
 use Rattle.lt_term.specs.Scene.{Scene}
 use Rattle.lt_args.specs.Settings.{default_budget}
@@ -36,7 +39,8 @@ use Rattle.lt_stress.specs.declared.stressing.Ran.{Ran}
 use Rattle.lt_stress.specs.inner.Made.{HasRun, IsContinuationOf}
 use Rattle.lt_stress.specs.Stressed.{IsStressed, ended as ended_run, refused, starved, unprepared}
 use Rattle.lt_stress.specs.inner.PlantState.{PlantState, fresh, may_stand}
-use Rattle.lt_stress.proofs.Stands.{fits_fresh, stands_so}
+use Rattle.lt_stress.proofs.Stands.{fits_fresh}
+use Rattle.lt_stress.proofs.Stood.{StoodSo, calm_at, stood_so}
 
 -- what comes after bytes of a stream that is still open
 open_then : (r : Rest) (more : List ℕ) → r.is_closed ≡ false → received_then r (closed more) ≡ closed (r.bytes ++ more)
@@ -80,7 +84,7 @@ course_made n scene k known state setup unwritten is_known is_state is_setup pla
 
 -- a trace that keeps nothing never fails
 pub never_untraced : (k : Continuation) (old new : Outside Links) (core : CoreState State) (step : ℕ) → IsDriven k old new core (drive_end.TraceWriteFailed step) → old.trace.faults ≡ 0 → new.trace.faults ≡ 0 → ⊥
-never_untraced k old new core _ (untraced r fault given kind prefix rest gives goes some interaction counts) before after =
+never_untraced k old new core _ (untraced r fault given kind prefix rest gives goes some interaction history counts) before after =
     let rose : Rose old.trace.faults new.trace.faults = interaction.blames destination.Trace in omega (arith, rose, before, after)
 
 module _ (n : ℕ) (scene : Scene) (k : Continuation) (old new : Outside Links) (core : CoreState State) (course : IsContinuationOf n scene k) where
@@ -90,10 +94,11 @@ module _ (n : ℕ) (scene : Scene) (k : Continuation) (old new : Outside Links) 
   -- it is the run of the number, or was broken off
   pub ran_by : (e : End) (plant : PlantState) (steps sum : ℕ) → IsDriven k old new core (drive_end.Ended e) → old.inputs.controller.fits ≡ may_stand (fresh n) → new.inputs.controller.fits ≡ may_stand plant →
       old.inputs.oracle.left ≡ Some [] → steps ≡ core.written → steps ≤ most_steps → sum ≡ plant.sum → ((w : Who) → e ≡ end.Device w → ⊥) → HasRun n scene e steps sum
-  ran_by _ plant steps sum (ended r ps e is_whole interaction counts over) before after nothing is_steps few is_sum unbroken =
+  ran_by _ plant steps sum (ended r ps e is_whole interaction history counts over) before after nothing is_steps few is_sum unbroken =
       let text : List ℕ = text_to destination.Controller ps in
-      let fits = interaction.controller_fits refl [] (record { bytes = n ∷ []; is_closed = false }) (subst (λ f. f [] (n ∷ []) false ≡ true) (sym before) (fits_fresh n)) in
-      let stands = stands_so plant n text r.controller.bytes r.controller.is_closed (subst (λ f. f text (n ∷ r.controller.bytes) r.controller.is_closed ≡ true) after fits) in
+      let fits = history.controller (receives (n ∷ []) ∷ []) (subst (λ f. f (receives (n ∷ []) ∷ []) ≡ true) (sym before) (fits_fresh n)) in
+      let stood = stood_so plant n history.moments (λ d. history.is_failed d ∙ calm_at d) (subst (λ f. f (receives (n ∷ []) ∷ acts_of who.Controller history.moments) ≡ true) after fits) in
+      let stands = subst (λ (x : Rest). StoodSo plant n text x) (ap (λ (x : Received). x.controller) history.is_received) (subst (λ (x : List Piece). StoodSo plant n (text_to destination.Controller x) (received_in history.moments).controller) history.is_given stood) in
       let h = stands.1 in
       let at_controller : received_then r.controller (closed plant.reply) ≡ closed (replies_of n text) = open_then r.controller plant.reply stands.0 ∙ ap closed (sym h.replies) in
       let at_oracle : received_then r.oracle (closed []) ≡ closed [] = silent_then old.inputs.oracle.left new.inputs.oracle.left r.oracle nothing interaction.oracle in
@@ -101,7 +106,7 @@ module _ (n : ℕ) (scene : Scene) (k : Continuation) (old new : Outside Links) 
       sym (course.plays (closed (replies_of n text)) (closed [])) ∙ ap (λ (x : Rest). k.play x (closed [])) (sym at_controller)
       ∙ ap (λ (x : Rest). k.play (received_then r.controller (closed plant.reply)) x) (sym at_oracle) ∙ is_whole (closed plant.reply) (closed []) in
       record { pieces = ps; is = run; counted = counted ps steps counts.1 is_steps; summed = is_sum ∙ sym h.sum; unbroken = unbroken; few = few }
-  ran_by _ plant steps sum (failed r given w gives interaction counts over) before after nothing is_steps few is_sum unbroken = absurd (unbroken w refl)
+  ran_by _ plant steps sum (failed r given w gives interaction history counts over) before after nothing is_steps few is_sum unbroken = absurd (unbroken w refl)
 
 -- nothing is written where the text could not be made a scenario
 pub unprepared_by : (n : ℕ) (trace : Sink) (reason : Unprepared) → IfRefused reason (λ r. IsRefusedFor n r) → IsStressed n trace trace (unprepared reason)

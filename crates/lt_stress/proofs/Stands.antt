@@ -1,13 +1,13 @@
 -- Where a plant stands with one byte more, and what fits it.
-use Rattle.std.proofs.Common.{◌≡◌, ℕ, zero, suc, ◌+◌, ◌<◌, ◌≤◌, ◌==◌, Bool, true, false, ◌&&◌, List, [], ◌∷◌, ◌++◌, take, drop, length, get_or, refl, ap, sym, subst, ◌∙◌, append_assoc, append-nil, arith}
+use Rattle.std.proofs.Common.{◌≡◌, ℕ, zero, suc, ◌+◌, ◌<◌, ◌≤◌, ◌==◌, Bool, true, false, ◌&&◌, List, [], ◌∷◌, ◌++◌, take, drop, length, get_or, Ok, refl, ap, sym, subst, ◌∙◌, append_assoc, append-nil, arith}
 use Rattle.std.proofs.lemmas.Bool.{eq-eqb, eqb-true}
 use Rattle.std.proofs.lemmas.Grind.{flat_map-append}
 use Rattle.std.proofs.lemmas.List.{take-append-drop, take_all, take_more}
 use Rattle.std.proofs.lemmas.List.Sums.{sum_by-append}
 use Rattle.std.specs.List.{flat_map, sum_by}
-use Rattle.lt_io.specs.Link.{FitsReceived, FitsSent, is_end}
+use Rattle.lt_io.specs.Link.{Act, FitsAfter, fails_to_receive, fails_to_send, finds_end, receives, receiving, sends}
 use Rattle.lt_stress.specs.Plant.{lines_of, replies_of, reply, sum_in, sum_of}
-use Rattle.lt_stress.specs.inner.PlantState.{Gives, PlantState, StandsAfter, Takes, fresh, may_stand, open_from, same, stands_with}
+use Rattle.lt_stress.specs.inner.PlantState.{Gives, PlantState, StandsAfter, Takes, fresh, may_stand, open_from, same, stands_after, stands_with}
 use Rattle.lt_stress.proofs.Lines.{lines_ended, lines_more, open_ended, open_more}
 
 -- a byte of a line was taken
@@ -95,31 +95,48 @@ test_of p n s r h =
     (true_both (same (open_from [] s) p.line) (same (replies_of n s) (r ++ p.reply) && (sum_of s == p.sum)) (is-same (open_from [] s) p.line h.line)
     (true_both (same (replies_of n s) (r ++ p.reply)) (sum_of s == p.sum) (is-same (replies_of n s) (r ++ p.reply) h.replies) (eq-eqb (sum_of s) p.sum h.sum)))
 
+-- What is done with a plant after other things.
+
+-- that it stands as it should with this more
+abbrev Adds : PlantState → PlantState → Act → Type 0
+Adds p q act = (n : ℕ) (s r : List ℕ) → stands_with p n s r ≡ true → stands_after q n s r (act ∷ []) ≡ true
+
+stands_on : (p q : PlantState) (act : Act) → Adds p q act → (n : ℕ) (s r : List ℕ) (acts : List Act) → stands_after p n s r acts ≡ true → stands_after q n s r (acts ++ act ∷ []) ≡ true
+stands_on p q act adds n s r [] e = adds n s r e
+stands_on p q act adds n s r (sends bytes ∷ acts) e = stands_on p q act adds n (s ++ bytes) r acts e
+stands_on p q act adds n s r (receives bytes ∷ acts) e = stands_on p q act adds n s (r ++ bytes) acts e
+stands_on p q act adds n s r (fails_to_receive ∷ acts) e = e
+stands_on p q act adds n s r (fails_to_send bytes ∷ acts) e = refl
+stands_on p q act adds n s r (finds_end ∷ acts) e = absurd (cc e)
+
+fits_added : (p q : PlantState) (act : Act) → Adds p q act → FitsAfter (may_stand p) (may_stand q) (act ∷ [])
+fits_added p q act adds [] e = absurd (cc e)
+fits_added p q act adds (receives [] ∷ acts) e = absurd (cc e)
+fits_added p q act adds (receives (n ∷ []) ∷ acts) e = stands_on p q act adds n [] [] acts e
+fits_added p q act adds (receives (n ∷ m ∷ bytes) ∷ acts) e = absurd (cc e)
+fits_added p q act adds (sends bytes ∷ acts) e = absurd (cc e)
+fits_added p q act adds (fails_to_receive ∷ acts) e = absurd (cc e)
+fits_added p q act adds (fails_to_send bytes ∷ acts) e = absurd (cc e)
+fits_added p q act adds (finds_end ∷ acts) e = absurd (cc e)
+
 -- what fits a plant that takes bytes
-pub fits_taken : (p q : PlantState) (bytes : List ℕ) → Takes p bytes q → FitsSent (may_stand p) (may_stand q) bytes
-fits_taken p q bytes takes s [] is_over e = absurd (cc e)
-fits_taken p q bytes takes s (n ∷ r) true e = absurd (cc e)
-fits_taken p q bytes takes s (n ∷ r) false e = test_of q n (s ++ bytes) r (takes n s r (of_test p n s r e))
+pub fits_taken : (p q : PlantState) (bytes : List ℕ) → Takes p bytes q → FitsAfter (may_stand p) (may_stand q) (sends bytes ∷ [])
+fits_taken p q bytes takes = fits_added p q (sends bytes) (λ n s r e. test_of q n (s ++ bytes) r (takes n s r (of_test p n s r e)))
 
-never_over : (p q : PlantState) (s r : List ℕ) → may_stand p s r true ≡ true → may_stand q s r true ≡ true
-never_over p q s [] e = absurd (cc e)
-never_over p q s (n ∷ r) e = absurd (cc e)
+-- one that doesn't take them
+pub fits_untaken : (p q : PlantState) (bytes : List ℕ) → FitsAfter (may_stand p) (may_stand q) (fails_to_send bytes ∷ [])
+fits_untaken p q bytes = fits_added p q (fails_to_send bytes) (λ n s r e. refl)
 
-given_on : (p q : PlantState) (bytes : List ℕ) → Gives p bytes q → (s r : List ℕ) → may_stand p s r false ≡ true → may_stand q s (r ++ bytes) false ≡ true
-given_on p q bytes gives s [] e = absurd (cc e)
-given_on p q bytes gives s (n ∷ r) e = test_of q n s (r ++ bytes) (gives n s r (of_test p n s r e))
+-- one that gives bytes
+fits_given : (p q : PlantState) (bytes : List ℕ) → Gives p bytes q → FitsAfter (may_stand p) (may_stand q) (receives bytes ∷ [])
+fits_given p q bytes gives = fits_added p q (receives bytes) (λ n s r e. test_of q n s (r ++ bytes) (gives n s r (of_test p n s r e)))
 
--- what fits a plant that gives bytes
-fits_given : (p q : PlantState) (bytes : List ℕ) → Gives p bytes q → FitsReceived (may_stand p) (may_stand q) bytes false
-fits_given p q bytes gives = (given_on p q bytes gives, never_over p q)
+-- one that gives none, as all replies were received
+pub fits_ungiven : (p q : PlantState) → p.reply ≡ [] → FitsAfter (may_stand p) (may_stand q) (fails_to_receive ∷ [])
+fits_ungiven p q none = fits_added p q fails_to_receive (λ n s r e. is-same (replies_of n s) r ((of_test p n s r e).replies ∙ ap (λ (t : List ℕ). r ++ t) none ∙ append-nil r))
 
--- nothing fits a plant but what it was sent and gave
-pub stands_so : (p : PlantState) (n : ℕ) (s r : List ℕ) (is_over : Bool) → may_stand p s (n ∷ r) is_over ≡ true → (is_over ≡ false) × StandsAfter n p s r
-stands_so p n s r true e = absurd (cc e)
-stands_so p n s r false e = (refl, of_test p n s r e)
-
--- a fresh plant is fitted by nothing sent and nothing received
-pub fits_fresh : (n : ℕ) → may_stand (fresh n) [] (n ∷ []) false ≡ true
+-- a fresh plant is fitted by nothing but its number
+pub fits_fresh : (n : ℕ) → may_stand (fresh n) (receives (n ∷ []) ∷ []) ≡ true
 fits_fresh n = test_of (fresh n) n [] [] (record { number = refl; line = refl; replies = refl; sum = refl })
 
 -- a byte that isn't a line feed
@@ -130,13 +147,9 @@ not_true false h = refl
 pub no_feed : (b : ℕ) → (b ≡ 10 → ⊥) → (b == 10) ≡ false
 no_feed b h = not_true (b == 10) (λ e. h (eqb-true b 10 e))
 
--- where bytes came, the end did not
-no_end : (n : ℕ) → 0 < n → is_end n ≡ false
-no_end zero some = absurd (omega arith)
-no_end (suc n) some = refl
-
-pub fits_count : (p q : PlantState) (bytes : List ℕ) (n : ℕ) → 0 < n → Gives p bytes q → FitsReceived (may_stand p) (may_stand q) bytes (is_end n)
-fits_count p q bytes n some gives = subst (FitsReceived (may_stand p) (may_stand q) bytes) (sym (no_end n some)) (fits_given p q bytes gives)
+pub fits_count : (E : Type 0) (p q : PlantState) (into : List ℕ) (n : ℕ) → 0 < n → Gives p (take n into) q → FitsAfter (may_stand p) (may_stand q) (receiving {E = E} (Ok n) into ∷ [])
+fits_count E p q into zero some gives = absurd (omega arith)
+fits_count E p q into (suc n) some gives = fits_given p q (take (suc n) into) gives
 
 -- bytes were taken, and then one more
 pub takes_next : (p q t : PlantState) (bytes : List ℕ) (i : ℕ) → i < length bytes → Takes p (take i bytes) q → Takes q (get_or bytes i 0 ∷ []) t → Takes p (take (i + 1) bytes) t

@@ -1,5 +1,6 @@
 -- Where the plant stands, and what it was sent and replied so that it stands there.
 use Rattle.std.specs.Prelude.{◌≡◌, ℕ, ◌==◌, Bool, true, false, ◌&&◌, List, [], ◌∷◌, ◌++◌, if◌then◌else◌}
+use Rattle.lt_io.specs.Link.{Act, fails_to_receive, fails_to_send, finds_end, receives, sends}
 use Rattle.lt_stress.specs.Plant.{replies_of, sum_of}
 
 -- where a plant stands: its number, the line at hand, the bytes of its last reply that aren't received yet, and the sum of
@@ -30,11 +31,21 @@ abbrev pub stands_with : PlantState → ℕ → List ℕ → List ℕ → Bool
 stands_with p n sent received =
     (p.number == n) && (same (open_from [] sent) p.line && (same (replies_of n sent) (received ++ p.reply) && (sum_of sent == p.sum)))
 
--- Whether a plant may stand so where these bytes were sent to it in all, and these were received: first its number, which
--- stands for what it was before, and then its replies. It never ends.
-abbrev pub may_stand : PlantState → List ℕ → List ℕ → Bool → Bool
-may_stand p sent (n ∷ received) false = stands_with p n sent received
-may_stand p sent received is_over = false
+-- whether it may stand so where this was done with it after these bytes were sent to it, and these replies received: it gives
+-- nothing only where all replies were received, and never ends; where it takes something not at all, nothing is said
+abbrev pub stands_after : PlantState → ℕ → List ℕ → List ℕ → List Act → Bool
+stands_after p n sent received [] = stands_with p n sent received
+stands_after p n sent received (sends bytes ∷ acts) = stands_after p n (sent ++ bytes) received acts
+stands_after p n sent received (receives bytes ∷ acts) = stands_after p n sent (received ++ bytes) acts
+stands_after p n sent received (fails_to_receive ∷ acts) = same (replies_of n sent) received
+stands_after p n sent received (fails_to_send bytes ∷ acts) = true
+stands_after p n sent received (finds_end ∷ acts) = false
+
+-- Whether a plant may stand so where all this was done with it: first its number was received, which stands for what it was
+-- before.
+abbrev pub may_stand : PlantState → List Act → Bool
+may_stand p (receives (n ∷ []) ∷ acts) = stands_after p n [] [] acts
+may_stand p acts = false
 
 -- the same as a fact
 pub record StandsAfter (n : ℕ) (p : PlantState) (sent received : List ℕ) : Type 0 where
