@@ -9,7 +9,7 @@ ghost use Rattle.lt_rif.specs.inner.Spaced.{after_space};
 
 use crate::end::End;
 use crate::end_words::EndWords;
-use crate::writing::{append, append_number};
+use crate::writing::{append, append_byte, append_number};
 use itoa::Buffer;
 
 /// Appends the end line of a trace, with its number: that of the instant at which the run ended, or of the steps
@@ -21,9 +21,9 @@ pub fn write_end(into: &mut Vec<u8>, end: End, names: &[String], number: u64)
     let mut digits = Buffer::new();
     append(into, b"#end");
     append_words(into, end.words(names, &mut digits));
-    append(into, b" ");
+    append_byte(into, b' ');
     append_number(into, number);
-    append(into, b"\n");
+    append_byte(into, b'\n');
 }
 
 // Appends the words of an end, with a space before each.
@@ -50,6 +50,6 @@ fn append_word(into: &mut Vec<u8>, word: &[u8])
     requires { HasRoom into.old (codes " " ++ word.now) }
     ensures { AddsText into.old into.new (codes " " ++ word.now) }
 {
-    append(into, b" ");
+    append_byte(into, b' ');
     append(into, word);
 }

@@ -10,7 +10,7 @@ ghost use Rattle.lt_rif.specs.inner.Spaced.{after_space, step_layout};
 
 use crate::declared::Declared;
 use crate::values::{append_after_space, append_before_space, append_locals, append_spaced};
-use crate::writing::{append, append_number};
+use crate::writing::{append, append_byte, append_number};
 use lt_draw::Draw;
 use lt_num::{Kind, Value};
 
@@ -43,7 +43,7 @@ pub fn write_header(
 {
     append(into, b"#seed ");
     append_number(into, seed);
-    append(into, b"\n");
+    append_byte(into, b'\n');
     append_draw_header(into, draw);
     append_variables(into, b"#inputs", outputs);
     append_variables(into, b"#outputs", inputs);
@@ -81,7 +81,7 @@ fn append_variables(into: &mut Vec<u8>, mark: &[u8], variables: &[Declared])
 {
     append(into, mark);
     append_declared(into, variables);
-    append(into, b"\n");
+    append_byte(into, b'\n');
 }
 
 // Appends a space, a quoted name and a kind for each variable.
@@ -131,7 +131,7 @@ pub fn write_step(
 {
     append(into, b"#step ");
     append_number(into, step);
-    append(into, b"\n");
+    append_byte(into, b'\n');
     append_step_values(into, x, y, locals, kinds, decimals);
 }
 
@@ -159,7 +159,7 @@ fn append_step_values(
         kinds_after(kinds_after(kinds, x.len()), y.len()),
         decimals,
     );
-    append(into, b"\n");
+    append_byte(into, b'\n');
 }
 
 // The kinds after the first so many.
@@ -202,5 +202,5 @@ pub fn write_line(into: &mut Vec<u8>, values: &[Value], kinds: &[Kind], decimals
     ensures { AddsText into.old into.new (line_text decimals kinds.now values.now) }
 {
     append_spaced(into, values, kinds, decimals);
-    append(into, b"\n");
+    append_byte(into, b'\n');
 }

@@ -7,7 +7,7 @@ ghost use Rattle.lt_rif.specs.Room.{AddsText, HasRoom};
 ghost use Rattle.lt_rif.specs.Trace.{decimals_of, local_text, local_words, spaced, value_text, value_words};
 ghost use Rattle.lt_rif.specs.inner.Spaced.{before_space, after_space};
 
-use crate::writing::append;
+use crate::writing::{append, append_byte};
 use lt_num::{Fixed, Kind, Value, print};
 
 /// Appends the words of values of these kinds, with a space after each.
@@ -23,7 +23,7 @@ pub fn append_before_space(into: &mut Vec<u8>, values: &[Value], kinds: &[Kind],
             return;
         };
         append_value(into, *value, *kind, decimals);
-        append(into, b" ");
+        append_byte(into, b' ');
         kinds = more_kinds;
         values = more_values;
     }
@@ -41,7 +41,7 @@ pub fn append_after_space(into: &mut Vec<u8>, values: &[Value], kinds: &[Kind], 
         let [value, more_values @ ..] = values else {
             return;
         };
-        append(into, b" ");
+        append_byte(into, b' ');
         append_value(into, *value, *kind, decimals);
         kinds = more_kinds;
         values = more_values;
@@ -76,7 +76,7 @@ pub fn append_locals(into: &mut Vec<u8>, locals: &[Option<Value>], kinds: &[Kind
         let [local, more_locals @ ..] = locals else {
             return;
         };
-        append(into, b" ");
+        append_byte(into, b' ');
         append_local(into, *local, *kind, decimals);
         kinds = more_kinds;
         locals = more_locals;
@@ -91,7 +91,7 @@ fn append_local(into: &mut Vec<u8>, local: Option<Value>, kind: Kind, decimals: 
 {
     match local {
         Some(value) => append_value(into, value, kind, decimals),
-        None => append(into, b"?"),
+        None => append_byte(into, b'?'),
     }
 }
 
@@ -102,8 +102,8 @@ fn append_value(into: &mut Vec<u8>, value: Value, kind: Kind, decimals: u32)
     ensures { AddsText into.old into.new (value_text decimals kind value) }
 {
     match value {
-        Value::Bool(true) => append(into, b"t"),
-        Value::Bool(false) => append(into, b"f"),
+        Value::Bool(true) => append_byte(into, b't'),
+        Value::Bool(false) => append_byte(into, b'f'),
         Value::Num(raw) => {
             let mut text = [0; 24];
             let length = print(Fixed { raw }, decimals_of(decimals, kind), &mut text);

@@ -1,6 +1,6 @@
 //! Appending into room that is reserved.
 
-ghost use Rattle.std.specs.Prelude.{decimal};
+ghost use Rattle.std.specs.Prelude.{◌∷◌, [], decimal};
 ghost use Rattle.lt_rif.specs.Room.{AddsText, HasRoom};
 
 use itoa::{Buffer, Integer};
@@ -11,6 +11,14 @@ pub fn append(into: &mut Vec<u8>, bytes: &[u8])
     ensures { AddsText into.old into.new bytes.now }
 {
     into.extend_from_slice(bytes).unwrap();
+}
+
+/// Appends one byte.
+pub fn append_byte(into: &mut Vec<u8>, byte: u8)
+    requires { HasRoom into.old (byte ∷ []) }
+    ensures { AddsText into.old into.new (byte ∷ []) }
+{
+    into.push_reserved(byte);
 }
 
 /// Appends a number in decimal digits.
