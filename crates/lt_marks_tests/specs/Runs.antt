@@ -8,12 +8,12 @@ use Rattle.lt_track.specs.Tallied.{IsTallied}
 use Rattle.lt_track.specs.View.{body, nodes, standing}
 use Rattle.lt_track.specs.Walk.{IsRoomy}
 
--- The marks keep how large what they offer is; there is room for walks and searches in the body; and neither the term nor the
+-- The marks keep how large what they offer is; there is room for walks in the body; and neither the term nor the
 -- marks have more turns done than the run has steps, of which there are at most 40.
 pub record IsRun (r : Run) : Type 0 where
   pub tallied : IsTallied r.track
   pub roomy : IsRoomy (nodes (body r.track)) r.walk
-  pub room : IsRoomFor (body r.track) r.room
+  pub room : IsRoomFor (body r.track) r.walk.raised.items
   pub few : r.steps ≤ 40
   pub term : IsDoneTo r.steps (process r.term)
   pub marks : IsDoneTo r.steps (standing r.track)

@@ -8,6 +8,7 @@
 mod bodies;
 #[cfg(test)]
 mod first_offers;
+mod guide;
 #[cfg(test)]
 mod numbers;
 #[cfg(test)]
@@ -17,5 +18,6 @@ mod run;
 mod runs;
 mod shown;
 
+pub use guide::Guide;
 pub use run::{MOST_STEPS, Run};
 pub use shown::{shown_node, shown_place};

@@ -2,20 +2,22 @@
 
 ghost use Rattle.std.specs.Prelude.{◌≡◌, ℕ, IfOk, OnOk, suc};
 ghost use Rattle.lt_marks_tests.specs.Runs.{IsRun};
+ghost use Rattle.lt_place.specs.Room.{IsRoomFor};
 ghost use Rattle.lt_term.specs.Counted.{IsCounted, IsDoneTo};
 ghost use Rattle.lt_term.specs.View.{process};
 ghost use Rattle.lt_track.specs.Tallied.{IsTallied};
 ghost use Rattle.lt_track.specs.View.{body, nodes, standing};
 ghost use Rattle.lt_track.specs.Walk.{IsRoomy};
 
+use crate::guide::Guide;
 use crate::shown::shown_place;
 use lt_num::Value;
-use lt_place::{Room, nodes_before, room_for};
+use lt_place::{reach, weights_for};
 use lt_term::{
     Scenario, Term, Tree, TreeNode, Var, advance, body_is_valid, offers, turns_grow_by_one,
 };
 use lt_track::{
-    Reached, Track, Walk, body_is_at_start, go_on, node_count, reach, steps_grow_by_one, track_of,
+    Reached, Track, Walk, body_is_at_start, go_on, node_count, steps_grow_by_one, track_of,
 };
 use std::alloc::Global;
 use std::test::Fail;
@@ -33,7 +35,6 @@ pub struct Run {
     pub track: Track,
 
     walk: Walk,
-    room: Room,
     steps: u64,
 }
 
@@ -48,8 +49,7 @@ impl Run {
         let nodes = node_count(&track).ok_or("too many nodes")?;
         Ok(Run {
             term: scenario.body.clone()?,
-            walk: Walk::make(alloc, nodes)?,
-            room: room_for(alloc, &track)?,
+            walk: Walk::make(alloc, nodes, weights_for(alloc, &track)?)?,
             track,
             steps: 0,
         })
@@ -74,20 +74,26 @@ impl Run {
         ensures { IsRun self.new }
     {
         turns_grow_by_one();
-        let reached = reach(&mut self.track, &scenario.locals, path, &mut self.walk);
+        let locals = &scenario.locals;
+        let mut guide = Guide::along(path, 0);
+        let reached = reach(&mut self.track, locals, &mut self.walk, &(), &mut guide);
         let mut shown = shown_place(alloc, reached, &self.walk)?;
-        if self.walk.taken < path.len() {
+        if !guide.is_at_end() {
             shown.push_str(" too soon")?;
         }
         Ok(shown)
     }
 
-    /// How many nodes stand in so many parts of a choice by the marks.
-    pub fn nodes_before(&mut self, choice: &[u32], parts: u32) -> usize
+    /// How many nodes stand before a part of the choice at a path by the marks.
+    pub fn nodes_before(&mut self, scenario: &Scenario, choice: &[u32], part: u32) -> u64
         requires { IsRun self.old }
         ensures { IsRun self.new }
     {
-        nodes_before(&self.track, choice, parts, &mut self.room)
+        turns_grow_by_one();
+        let locals = &scenario.locals;
+        let mut guide = Guide::along(choice, part);
+        reach(&mut self.track, locals, &mut self.walk, &(), &mut guide);
+        guide.nodes()
     }
 
     /// Goes on behind an instant of the tree, by its number among the nodes and by its path.
@@ -144,15 +150,17 @@ fn mark_behind(
 ) -> Result<(), Fail>
     requires tallied { IsTallied track.old }
     requires room { IsRoomy (nodes (body track.old)) walk.old }
+    requires weights { IsRoomFor (body track.old) walk.old.raised.items }
     requires counted { IsCounted (standing track.old) }
     ensures same_body { body track.new ≡ body track.old }
     ensures tallied { IsTallied track.new }
     ensures room { IsRoomy (nodes (body track.old)) walk.new }
+    ensures weights { IsRoomFor (body track.old) walk.new.raised.items }
     ensures done { OnOk result ((k : ℕ) → IsDoneTo k (standing track.old) →
         IsDoneTo (suc k) (standing track.new)) }
 {
     steps_grow_by_one();
-    match reach(track, locals, path, walk) {
+    match reach(track, locals, walk, &(), &mut Guide::along(path, 0)) {
         Reached::Go => {
             go_on(track, values);
             Ok(())

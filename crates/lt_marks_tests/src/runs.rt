@@ -47,6 +47,7 @@ fn check_place(
 // That as many nodes stand before each part of a choice as the tree has there.
 fn check_parts(
     rt: &impl Abort,
+    scenario: &Scenario,
     run: &mut Run,
     charted: &Charted,
     choice: &[u32],
@@ -56,7 +57,7 @@ fn check_parts(
     ensures { IsRun run.new }
 {
     for part in 0..parts {
-        let found = run.nodes_before(choice, part);
+        let found = run.nodes_before(scenario, choice, part);
         assert_eq!(rt; found, nodes_in(&charted.paths, choice, part));
     }
     Ok(())
@@ -78,7 +79,7 @@ pub(crate) fn check_nodes(
         check_place(rt, alloc, scenario, run, path, &due)?;
         let parts = part_count(node);
         if parts > 0 {
-            check_parts(rt, run, charted, path, parts)?;
+            check_parts(rt, scenario, run, charted, path, parts)?;
         }
         if let TreeNode::Any { .. } = node {
             let behind = path_into(alloc, path, parts)?;
