@@ -56,7 +56,7 @@ abbrev pub steps : List (List ℕ) → List Piece
 steps texts = map (λ text. piece piece_kind.Step text) texts
 
 -- Pieces were put out of which the last one could not be written whole, but only as in these others. Behind it the core has
--- put out further steps, which were to be written together with it and are lost: none at a trace that gathers nothing.
+-- put out further steps, which waited with it or came of the same turn, and are lost: none at a trace that gathers nothing.
 pub record HasPutOutBehind {State : Type 0} (k : Continuation) (received : Received) (fault : Option Who) (whole given : List Piece) (core : CoreState State) (trace : Sink) : Type 0 where
   -- their texts
   pub lost : List (List ℕ)
@@ -75,8 +75,8 @@ pub data IsDriven {State : Type 0} (k : Continuation) (old new : Outside Links) 
   -- a side failed, and the run ended by its fault
   failed : (received : Received) (given : List Piece) (w : Who) → GivesOut k received given (Some w) →
       Interaction old new received given (Some w) false → History k old new received given (Some w) false → HasPutOut k given core → core.phase ≡ phase.Over (end.Device w) → IsDriven k old new core (drive_end.Ended (end.Device w))
-  -- a piece could not be written to the trace, but for a prefix that is not all of it; that may be the end line of a side's
-  -- fault, and steps that were to be written together with it are lost
+  -- a piece could not be written to the trace, but for a prefix that is not all of it; steps behind it are lost, but for the
+  -- end line of a side's fault, which it may be too: that is the last piece
   untraced : (received : Received) (fault : Option Who) (given : List Piece) (kind : PieceKind) (prefix rest : List ℕ) →
       GivesOut k received (given ++ piece kind (prefix ++ rest) ∷ []) fault → destination_of kind ≡ destination.Trace → 0 < length rest →
       Interaction old new received (given ++ piece kind prefix ∷ []) fault true → History k old new received (given ++ piece kind prefix ∷ []) fault true →

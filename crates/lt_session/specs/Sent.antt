@@ -25,8 +25,8 @@ use Rattle.lt_drive.specs.declared.drive_end.DriveEnd.TheVariants as drive_end
 use Rattle.lt_session.specs.Told.{Gives, GivesBeside, IsFirstOf}
 use Rattle.lt_session.specs.declared.session_end.SessionEnd.TheVariants as session_end
 
--- Pieces that a run gave out that ended so, where this was received, and this side failed, if one did: all of its play, or
--- those up to what cut it. A row a way.
+-- The pieces that were given out in a run, where this was received, this side failed, if one did, and the run ended so: all of
+-- its play, or those up to what cut it. A row a way.
 pub data AreGiven (k : Continuation) (received : Received) : List Piece → Option Who → DriveEnd → Type 0 where
   -- it ended by itself: they are all of its play
   whole : (ps : List Piece) (e : End) → IsWhole k received ps e → AreGiven k received ps None (drive_end.Ended e)
@@ -43,8 +43,8 @@ abbrev pub left_behind : InputSource → List ℕ → ℕ → (List Act → Bool
 left_behind (from_program command) text faults fits = record { sent = Some text; faults = faults; fits = fits } ∷ []
 left_behind _ text faults fits = []
 
--- what is left behind at last, where this was before: what the two sides leave besides, the controller first, of which each was
--- sent what is for it of these pieces
+-- What is left behind at last, where this was left before: the two sides leave theirs besides, the controller first. Each was
+-- sent what is for it of these pieces.
 abbrev pub left_by_both : InputSource → InputSource → List Piece → ℕ → ℕ → (List Act → Bool) → (List Act → Bool) → List Closed → List Closed
 left_by_both controller oracle ps m n f g before =
     (before ++ left_behind controller (text_to destination.Controller ps) m f) ++ left_behind oracle (text_to destination.Oracle ps) n g
@@ -55,7 +55,7 @@ abbrev pub AreSent : InputSource → InputSource → List Piece → ℕ → ℕ 
 AreSent controller oracle ps m n old new =
     WhereTold old.closed (λ before. (f : List Act → Bool) × (g : List Act → Bool) × (new.closed ≡ Some (left_by_both controller oracle ps m n f g before)))
 
--- So it did, and what fits their links at last is what was done with them among these moments.
+-- The same, and what was done with each of both links among these moments fits what it leaves behind.
 abbrev pub AreSentInTurn : InputSource → InputSource → List Piece → List Moment → ℕ → ℕ → Programs → Programs → Type 0
 AreSentInTurn controller oracle ps moments m n old new =
     WhereTold old.closed (λ before. (f : List Act → Bool) × (g : List Act → Bool) × (f (acts_of who.Controller moments) ≡ true) × (g (acts_of who.Oracle moments) ≡ true)
