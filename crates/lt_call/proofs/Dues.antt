@@ -7,7 +7,7 @@ use Rattle.lt_frontend.specs.Laws.{TextsHaveOnePrintedAnswer, TextsHaveOneScenar
 use Rattle.lt_frontend.specs.Prepared.{IsPrintedAnswer, IsScenarioAnswer}
 use Rattle.lt_frontend.specs.declared.refusal.Refusal.{Refusal as Reason}
 use Rattle.lt_parts.specs.Scenario.{has_too_many_atoms}
-use Rattle.lt_stress.specs.Scenario.{scenario_text, variables_of}
+use Rattle.lt_large.specs.Scenario.{scenario_text, variables_of}
 use Rattle.lt_term.specs.Scene.{Scene}
 use Rattle.lt_args.specs.Settings.{default_decimals, longest_text, longest_replay}
 use Rattle.lt_args.specs.Words.{Request}

@@ -29,7 +29,7 @@ use Rattle.lt_stress.specs.Ends.{IsOwnEnd}
 use Rattle.lt_stress.specs.Laws.{IsReplied, LargeRunsAreOne, LargeRunsEnd, LargeRunsNeverWait, LargeScenesHaveOneInput}
 use Rattle.lt_stress.specs.Plant.{replies_of}
 use Rattle.lt_stress.specs.Run.{IsSceneOf, plan_of}
-use Rattle.lt_stress.specs.Scenario.{limit_of, scenario_text, variables_of}
+use Rattle.lt_large.specs.Scenario.{limit_of, scenario_text, variables_of}
 use Rattle.lt_stress.proofs.FirstNode.{BeginsWithOne, begins_with_one, written}
 use Rattle.lt_stress.proofs.OneRun.{IsOne, one_run}
 use Rattle.lt_stress.proofs.Replies.{number_slot}

@@ -33,7 +33,7 @@ use Rattle.lt_term.specs.Scene.{Scene}
 use Rattle.lt_args.specs.Settings.{default_budget}
 use Rattle.lt_stress.specs.Plant.{replies_of}
 use Rattle.lt_stress.specs.Run.{IsRefusedFor, IsRunOf, IsSceneOf}
-use Rattle.lt_stress.specs.Scenario.{limit_of}
+use Rattle.lt_large.specs.Scenario.{limit_of}
 use Rattle.lt_stress.specs.declared.stressed.Stressed.TheVariants as stressed
 use Rattle.lt_stress.specs.declared.stressing.Ran.{Ran}
 use Rattle.lt_stress.specs.inner.Made.{HasRun, IsContinuationOf}

@@ -1,6 +1,4 @@
--- A reader of what a large run is goes from here to Scenario, Plant, Run, Report and Stressed.
--- the scenario of a number
-pub mod Scenario
+-- A reader of what a large run is goes from Scenario of lt_large to Plant, Run, Report and Stressed.
 -- what the plant replies, and the sum that is reported
 pub mod Plant
 -- the run of a number

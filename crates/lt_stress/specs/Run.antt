@@ -17,7 +17,7 @@ use Rattle.lt_step.specs.Machine.{started}
 use Rattle.lt_term.specs.Scene.{Scene}
 use Rattle.lt_args.specs.Settings.{default_budget, default_decimals}
 use Rattle.lt_stress.specs.Plant.{replies_of, sum_of}
-use Rattle.lt_stress.specs.Scenario.{limit_of, scenario_text, variables_of}
+use Rattle.lt_large.specs.Scenario.{limit_of, scenario_text, variables_of}
 
 -- the scenario of a number has this answer
 abbrev pub IsSceneOf : ℕ → Scene → Type 0

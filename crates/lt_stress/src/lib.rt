@@ -1,7 +1,7 @@
 //! A large run from a number: a scenario whose size the number says is run against a plant, and one line says what came of
 //! it.
 //!
-//! [`stress`] does all of it. `specs/Scenario.antt` has the scenario of a number, `specs/Plant.antt` what the plant replies,
+//! [`stress`] does all of it. `specs/Scenario.antt` of `lt_large` has the scenario of a number, `specs/Plant.antt` what the plant replies,
 //! and `specs/Run.antt` what the run and its line are. `laws.rt` has what follows.
 #![tactic(auto)]
 

@@ -10,7 +10,7 @@ ghost use Rattle.lt_rif.specs.declared.end.Who.{Who};
 ghost use Rattle.lt_term.specs.Scene.{Scene};
 ghost use Rattle.lt_term.specs.SceneView.{scene};
 ghost use Rattle.lt_stress.specs.Run.{IsRunOf, IsSceneOf, sum_told};
-ghost use Rattle.lt_stress.specs.Scenario.{limit_of};
+ghost use Rattle.lt_large.specs.Scenario.{limit_of};
 ghost use Rattle.lt_stress.specs.Stressed.{IsStressed, unprepared};
 ghost use Rattle.lt_stress.specs.inner.Made.{HasRun, IsContinuationOf};
 ghost use Rattle.lt_stress.specs.inner.PlantView.{plant_state};

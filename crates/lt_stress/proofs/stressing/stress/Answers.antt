@@ -2,7 +2,7 @@ use Rattle.std.proofs.Common.{◌≡◌, None, Err, ℕ, List, refl, ap, subst, 
 use Rattle.lt_frontend.specs.Prepared.{IfRefused, IsScenarioAnswer}
 use Rattle.lt_args.specs.Settings.{default_decimals}
 use Rattle.lt_stress.specs.Run.{IsRefusedFor}
-use Rattle.lt_stress.specs.Scenario.{scenario_text, variables_of}
+use Rattle.lt_large.specs.Scenario.{scenario_text, variables_of}
 use Rattle.lt_stress.specs.Stressed.{IsStressed, starved}
 use Rattle.lt_stress.specs.declared.stressed.Stressed.{Stressed}
 use Rattle.lt_stress.proofs.Runs.{unprepared_by}
