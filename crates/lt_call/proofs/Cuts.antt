@@ -82,7 +82,6 @@ module _ (law : CutSessionsAreFronts State) (calm : PlaysNeverBreak State) (r : 
   done _ _ _ (given.ran other k core how course plays_so) is u = played k core (subst (λ (x : Scene). IsContinuationOf r x k) (same_scene other scene is) course) how plays_so u
   done _ _ _ (given.told n other ps run same all) is u = absurd u
   done _ _ _ (given.told_in_part n other ps run same part) is u = absurd (cc is)
-  done _ _ _ (given.untold n other ps e run not unbroken puts) is u = absurd (cc is)
 
 gives : CutSessionsAreFronts State → PlaysNeverBreak State → (r : Request) (contents : Contents) (c o : List ℕ) (scene : Scene) (answer : Answer) (asked names : List (List ℕ)) (old new : Outside Sources) (s : Status) → Gives r contents answer asked old new names s →
     answer.work ≡ plays scene → IsCutShort s → SidesTell r contents old.inputs.programs c o → (text : List ℕ) × Appends old.trace.written new.trace.written text × IsFront r scene c o new.trace.gathers text s

@@ -31,7 +31,7 @@ use Rattle.lt_call.proofs.Dues.{is_short, traced, traced_due, traced_files}
 use Rattle.lt_call.specs.Call.{GivesDue, IsCounted, IsText, IsTrace, Says, blames}
 use Rattle.lt_loop.specs.InputSource.{trace_of, InputSource, from_nobody, from_program, from_trace}
 use Rattle.lt_call.specs.Run.{files_of}
-use Rattle.lt_call.specs.Due.{Answer, Contents, HasFewAtoms, HasScene, IsDue, IsServed, has_file, refuses, writes, too_long, no_scenario, too_many_atoms, unserved, long_trace, runs, unprinted, prints, stressed, unstressed}
+use Rattle.lt_call.specs.Due.{Answer, Contents, HasFewAtoms, HasScene, IsDue, IsServed, has_file, refuses, writes, too_long, no_scenario, too_many_atoms, unserved, long_trace, runs, unprinted, prints, stressed}
 use Rattle.lt_call.specs.Given.{Gives, IsDone, PutsNothing, refused, written, cut, done, by_file as file_cut, by_memory}
 use Rattle.lt_call.specs.Laws.{ContentsHaveOneDueAnswer}
 use Rattle.lt_call.specs.inner.Parts as parts
@@ -144,7 +144,6 @@ first_file r c answer file (long_trace s name m fits has few given e l) = refl
 first_file r c answer file (runs s m fits has few given short) = refl
 first_file r c answer file (unprinted reason m fits is) = refl
 first_file r c answer file (prints text m fits is) = refl
-first_file r c answer file (unstressed n reason m is) = absurd (no_file r n file m)
 first_file r c answer file (stressed n s m is) = absurd (no_file r n file m)
 
 -- A text.

@@ -1,13 +1,9 @@
 -- What a call gives for a large run.
-use Rattle.std.proofs.Common.{◌≡◌, ◌≢◌, ℕ, false, List, [], Option, refl, ap, sym, subst, ◌∙◌, append-nil}
-use Rattle.lt_rif.specs.Trace.{end_number}
+use Rattle.std.proofs.Common.{◌≡◌, ℕ, false, List, [], Option, refl, ap, sym, subst, ◌∙◌, append-nil}
 use Rattle.std.specs.Io.KnownBytes.{Keeps}
 use Rattle.lt_io.specs.Sink.{Sink}
 use Rattle.lt_io.specs.Programs.{Same}
 use Rattle.lt_io.specs.Outside.{Outside, Sources, without_files}
-use Rattle.lt_loop.specs.Play.{step_count}
-use Rattle.lt_rif.specs.declared.end.End.{End}
-use Rattle.lt_rif.specs.declared.end.End.TheVariants as end
 use Rattle.lt_rif.specs.declared.end.Who.{Who}
 use Rattle.lt_stress.specs.Stressed as ways
 use Rattle.lt_stress.specs.Stressed.{IsStressed}
@@ -19,55 +15,35 @@ use Rattle.lt_args.specs.declared.words.Mode.TheVariants as mode
 use Rattle.lt_call.proofs.Gives.{cut_early, kept_same, some_text, some_trace}
 use Rattle.lt_call.specs.Call.{GivesDue, IsCounted, blames}
 use Rattle.lt_call.specs.Due as due
-use Rattle.lt_call.specs.Due.{Answer, Contents, IsDue, Work, by_number, has_file, refuses, stresses}
+use Rattle.lt_call.specs.Due.{Contents, IsDue, Work, by_number, has_file, stresses}
 use Rattle.lt_call.specs.Given as given
-use Rattle.lt_call.specs.Given.{Gives, IsDone, PutsNothing}
+use Rattle.lt_call.specs.Given.{IsDone, PutsNothing}
 use Rattle.lt_call.specs.Laws.{ContentsHaveOneDueAnswer}
-use Rattle.lt_call.specs.inner.Parts.{HasFewSteps, status_so}
+use Rattle.lt_call.specs.inner.Parts.{status_so}
 use Rattle.lt_call.specs.declared.status.Status.{Status}
 use Rattle.lt_call.specs.declared.status.Status.TheVariants as status
-use Rattle.lt_call.specs.declared.status.Refusal.TheVariants as refusal
 use Rattle.lt_call.specs.declared.status.Device.TheVariants as device
 
 -- Its status.
 
-pub few_steps : (n : ℕ) (old new : Sink) (how : Stressed) → IsStressed n old new how → HasFewSteps how
-few_steps n old new _ (ways.done scene ps is run all calm) = tt
-few_steps n old new _ (ways.cut scene ps is run part rose) = tt
-few_steps n old new _ (ways.ended scene ps e is run other unbroken few same) = few
-few_steps n old new _ (ways.refused reason is same) = tt
-few_steps n old new _ (ways.starved same) = tt
-
 pub never_usage : (how : Stressed) (kind : UsageKind) → status_so how ≡ status.Usage kind → ⊥
 never_usage stressed.Done kind e = cc e
-never_usage (stressed.Ended x steps) kind e = cc e
-never_usage (stressed.Refused reason) kind e = cc e
 never_usage stressed.Memory kind e = cc e
 never_usage stressed.TraceWriteFailed kind e = cc e
 
 pub no_file : (how : Stressed) → blames (status_so how) device.File ≡ false
 no_file stressed.Done = refl
-no_file (stressed.Ended x steps) = refl
-no_file (stressed.Refused reason) = refl
 no_file stressed.Memory = refl
 no_file stressed.TraceWriteFailed = refl
-
-no_side : (e : End) (at : ℕ) (w : Who) → ((v : Who) → e ≢ end.Device v) → blames (status.Ran (record { end = e; at = at })) (device.Program w) ≡ false
-no_side (end.Device v) at w unbroken = absurd (unbroken v refl)
-no_side e at w unbroken = refl
 
 pub no_program : (n : ℕ) (old new : Sink) (how : Stressed) (w : Who) → IsStressed n old new how → blames (status_so how) (device.Program w) ≡ false
 no_program n old new _ w (ways.done scene ps is run all calm) = refl
 no_program n old new _ w (ways.cut scene ps is run part rose) = refl
-no_program n old new _ w (ways.ended scene ps e is run other unbroken few same) = no_side e (end_number e (step_count ps)) w unbroken
-no_program n old new _ w (ways.refused reason is same) = refl
 no_program n old new _ w (ways.starved same) = refl
 
 pub trace_counted : (n : ℕ) (old new : Sink) (how : Stressed) → IsStressed n old new how → IsCounted device.Trace (blames (status_so how) device.Trace) old.faults new.faults
 trace_counted n old new _ (ways.done scene ps is run all calm) = calm
 trace_counted n old new _ (ways.cut scene ps is run part rose) = rose
-trace_counted n old new _ (ways.ended scene ps e is run other unbroken few same) = ap (λ (s : Sink). s.faults) same
-trace_counted n old new _ (ways.refused reason is same) = ap (λ (s : Sink). s.faults) same
 trace_counted n old new _ (ways.starved same) = ap (λ (s : Sink). s.faults) same
 
 -- What is given.
@@ -91,9 +67,5 @@ stressed_due law r n told asked old new _ m f programs (ways.done scene ps is ru
     given_so r told asked old new _ (stresses n scene) f (λ c. due.stressed n scene m is) (λ trace. given.told n scene ps run programs all)
 stressed_due law r n told asked old new _ m f programs (ways.cut scene ps is run part rose) =
     given_so r told asked old new _ (stresses n scene) f (λ c. due.stressed n scene m is) (λ trace. given.told_in_part n scene ps run programs part)
-stressed_due law r n told asked old new _ m f programs (ways.ended scene ps e is run other unbroken few same) =
-    given_so r told asked old new _ (stresses n scene) f (λ c. due.stressed n scene m is) (λ trace. given.untold n scene ps e run other unbroken (none_put old new programs same))
-stressed_due law r n told asked old new _ m f programs (ways.refused reason is same) =
-    given_so r told asked old new _ (refuses (refusal.Scenario reason)) f (λ c. due.unstressed n reason m is) (λ trace. given.refused (refusal.Scenario reason) (none_put old new programs same))
 stressed_due law r n told asked old new _ m f programs (ways.starved same) =
     cut_early law r told asked old new status.Memory (λ c answer is_due. given.by_memory 0 (f ∙ sym (append-nil asked)) (none_put old new programs same))

@@ -45,7 +45,6 @@ done request trace old new _ _ _ (given.cut text same part) is = absurd (cc is)
 done request trace old new _ _ _ (given.ran scene k core how course was) is = played k _ _ old new core how core.written was is
 done request trace old new _ _ _ (given.told n scene ps run same all) is = absurd (cc is)
 done request trace old new _ _ _ (given.told_in_part n scene ps run same part) is = absurd (cc is)
-done request trace old new _ _ _ (given.untold n scene ps e run limit unbroken puts) is = puts.trace
 
 gives : (request : Request) (contents : Contents) (answer : Answer) (asked names : List (List ℕ)) (old new : Outside Sources) (s : Status) → Gives request contents answer asked old new names s → s ≡ status.Memory →
     Keeps old.trace.written new.trace.written

@@ -27,7 +27,8 @@ use Rattle.lt_step.specs.Machine.{State}
 use Rattle.lt_term.specs.Scene.{Scene}
 use Rattle.lt_args.specs.Words.{Request}
 use Rattle.lt_stress.specs.Laws.{LargeRunsAreOne}
-use Rattle.lt_stress.specs.Run.{IsRunOf}
+use Rattle.lt_stress.specs.Report.{stress_line}
+use Rattle.lt_stress.specs.Run.{IsRunOf, sum_told}
 use Rattle.lt_call.specs.Call.{AreContents, GivesDue, IsCounted, IsText, IsTrace, blames}
 use Rattle.lt_loop.specs.InputSource.{InputSource, from_nobody, from_program, from_trace, with_contents}
 use Rattle.lt_call.specs.Run.{IsContinuationOf, oracle_of, run_of}
@@ -35,7 +36,7 @@ use Rattle.lt_call.specs.Due as cause
 use Rattle.lt_call.specs.Due.{Answer, Contents, IsDue, Work, has_file, refuses, writes, plays, stresses}
 use Rattle.lt_call.specs.Given as given
 use Rattle.lt_call.specs.Given.{Gives, IsDone, PutsNothing, status_of}
-use Rattle.lt_call.specs.Laws.{ContentsHaveOneDueAnswer, IsCutEarly, IsUnbroken, IsUncut, IsWhole, RefusalsAreExact, SameCallSameBytes, SidesTell, Tell, TellsText, TellsTrace, UncutCallsAreWhole, UndisturbedCallsAreUncut, told_status, told_text}
+use Rattle.lt_call.specs.Laws.{ContentsHaveOneDueAnswer, IsCutEarly, IsUnbroken, IsUncut, IsWhole, RefusalsAreExact, SameCallSameBytes, SidesTell, Tell, TellsText, TellsTrace, UncutCallsAreWhole, UndisturbedCallsAreUncut}
 use Rattle.lt_call.specs.Lines.{status_lines}
 use Rattle.lt_call.specs.declared.status.Status.{Status}
 use Rattle.lt_call.specs.declared.status.Status.TheVariants as status
@@ -100,21 +101,12 @@ played_whole law r trace c o scene k core (session_end.Driven (drive_end.TraceWr
 played_whole law r trace c o scene k core (session_end.StartFailed w) old new course is u tell = absurd u
 played_whole law r trace c o scene k core session_end.Memory old new course is u tell = absurd u
 
--- a large run that ended in another way than by its limit is told by its status
-told_otherwise : (ps : List Piece) (e : End) → e ≢ end.Limit → told_status ps e ≡ status.Ran (record { end = e; at = end_number e (step_count ps) })
-told_otherwise ps end.Limit other = absurd (other refl)
-told_otherwise ps e other = refl
-
--- and by no text
+-- a text that is kept grows by nothing
 pub kept_appends : (old new : Option (List ℕ)) → Keeps old new → Appends old new []
 kept_appends None None h = h
 kept_appends None (Some ys) h = h
 kept_appends (Some xs) None h = h
 kept_appends (Some xs) (Some ys) h = h ∙ sym (append-nil xs)
-
-told_nothing : (n : ℕ) (ps : List Piece) (e : End) (old new : Option (List ℕ)) → e ≢ end.Limit → Keeps old new → Appends old new (told_text n ps e)
-told_nothing n ps end.Limit old new other h = absurd (other refl)
-told_nothing n ps e old new other h = kept_appends old new h
 
 done_whole : UndisturbedSessionsAreWhole State → (r : Request) (trace : List ℕ) (c o : List ℕ) (work : Work) (names : List (List ℕ)) (old new : Outside Sources) (s : Status) → IsDone r trace (without_files old) (without_files new) work names s → IsUncut s →
     SidesTell r (record { scenario = []; replay = trace }) old.inputs.programs c o → IsWhole r trace c o work names old new s
@@ -122,10 +114,8 @@ done_whole law r trace c o work names old new s (given.refused reason puts) u te
 done_whole law r trace c o work names old new s (given.written text same all) u tell = (refl, refl, all)
 done_whole law r trace c o work names old new s (given.cut text same part) u tell = absurd u
 done_whole law r trace c o work names old new s (given.ran scene k core how course is) u tell = played_whole law r trace c o scene k core how old new course is u tell
-done_whole law r trace c o work names old new s (given.told n scene ps run same all) u tell = (ps, end.Limit, run, refl, refl, all, same)
+done_whole law r trace c o work names old new s (given.told n scene ps run same all) u tell = (ps, run, refl, refl, all, same)
 done_whole law r trace c o work names old new s (given.told_in_part n scene ps run same part) u tell = absurd u
-done_whole law r trace c o work names old new s (given.untold n scene ps e run other unbroken puts) u tell =
-    (ps, e, run, sym (told_otherwise ps e other), refl, told_nothing n ps e old.trace.written new.trace.written other puts.trace, puts.programs)
 
 gives_whole : UndisturbedSessionsAreWhole State → (r : Request) (contents : Contents) (c o : List ℕ) (answer : Answer) (asked names : List (List ℕ)) (old new : Outside Sources) (s : Status) → Gives r contents answer asked old new names s → IsUncut s →
     SidesTell r contents old.inputs.programs c o → IsWhole r contents.replay c o answer.work names old new s
@@ -154,17 +144,17 @@ abbrev bytes_of : (r : Request) (trace c o : List ℕ) (work : Work) (names : Li
 bytes_of r trace c o (refuses reason) names old new s h = []
 bytes_of r trace c o (writes text) names old new s h = text
 bytes_of r trace c o (plays scene) names old new s h = text_to destination.Trace (run_of r scene (told_streams.closed c) (told_streams.closed o)).pieces
-bytes_of r trace c o (stresses n scene) names old new s h = told_text n h.0 h.1
+bytes_of r trace c o (stresses n scene) names old new s h = stress_line n (sum_told h.0)
 
 whole_bytes : (r : Request) (trace c o : List ℕ) (work : Work) (names : List (List ℕ)) (old new : Outside Sources) (s : Status) (before now : List ℕ) → old.trace.written ≡ Some before → new.trace.written ≡ Some now → (h : IsWhole r trace c o work names old new s) → now ≡ before ++ bytes_of r trace c o work names old new s h
 whole_bytes r trace c o (refuses reason) names old new s before now e f h = keeps_all old.trace.written new.trace.written before now e f h.2.trace
 whole_bytes r trace c o (writes text) names old new s before now e f h = appends_all old.trace.written new.trace.written before now text e f h.2
 whole_bytes r trace c o (plays scene) names old new s before now e f h = appends_all old.trace.written new.trace.written before now _ e f h.4
-whole_bytes r trace c o (stresses n scene) names old new s before now e f h = appends_all old.trace.written new.trace.written before now _ e f h.5
+whole_bytes r trace c o (stresses n scene) names old new s before now e f h = appends_all old.trace.written new.trace.written before now _ e f h.4
 
 -- The work leaves no choice: where it is a large run, there is one such run at most. All other work is such.
 abbrev IsDetermined : Work → Type 0
-IsDetermined (stresses n scene) = (ps qs : List Piece) (e f : End) → IsRunOf n scene ps e → IsRunOf n scene qs f → (ps ≡ qs) × (e ≡ f)
+IsDetermined (stresses n scene) = (ps qs : List Piece) → IsRunOf n scene ps end.Limit → IsRunOf n scene qs end.Limit → ps ≡ qs
 IsDetermined _ = Unit {0}
 
 -- work that is due leaves none
@@ -177,8 +167,7 @@ determined law r contents _ (cause.long_trace scene name mode short is few serve
 determined law r contents _ (cause.runs scene mode short is few served trace) = tt
 determined law r contents _ (cause.unprinted reason mode short is) = tt
 determined law r contents _ (cause.prints text mode short is) = tt
-determined law r contents _ (cause.unstressed n reason mode is) = tt
-determined law r contents _ (cause.stressed n scene mode is) = λ ps qs e f h k. law n scene ps qs e f is h k
+determined law r contents _ (cause.stressed n scene mode is) = λ ps qs h k. (law n scene ps qs end.Limit end.Limit is h k).0
 
 -- work that leaves no choice has the same bytes each time
 same_bytes : (r : Request) (trace c o : List ℕ) (work : Work) (names names' : List (List ℕ)) (old new old' new' : Outside Sources) (s s' : Status) → IsDetermined work → (h : IsWhole r trace c o work names old new s) (k : IsWhole r trace c o work names' old' new' s') →
@@ -187,7 +176,7 @@ same_bytes r trace c o (refuses reason) names names' old new old' new' s s' one 
 same_bytes r trace c o (writes text) names names' old new old' new' s s' one h k = refl
 same_bytes r trace c o (plays scene) names names' old new old' new' s s' one h k = refl
 same_bytes r trace c o (stresses n scene) names names' old new old' new' s s' one h k =
-    let same = one k.0 h.0 k.1 h.1 k.2 h.2 in ap (λ ps. told_text n ps k.1) same.0 ∙ ap (told_text n h.0) same.1
+    ap (λ (ps : List Piece). stress_line n (sum_told ps)) (one k.0 h.0 k.1 h.1)
 
 same_end : (s : Stop) (e f : End) → s ≡ ends e → s ≡ ends f → e ≡ f
 same_end s e f h k = let both : ends e ≡ ends f = sym h ∙ k in cc
@@ -200,7 +189,7 @@ same_status r trace c o (plays scene) names names' old new old' new' s s' one h 
     let e : h.0 ≡ k.0 = same_end (run_of r scene (told_streams.closed c) (told_streams.closed o)).stop h.0 k.0 h.1 k.1 in
     (h.2 ∙ ap (λ x. status.Ran (record { end = x; at = end_number x steps })) e ∙ sym k.2, h.3 ∙ sym k.3)
 same_status r trace c o (stresses n scene) names names' old new old' new' s s' one h k =
-    let same = one h.0 k.0 h.1 k.1 h.2 k.2 in (h.3 ∙ ap (λ ps. told_status ps h.1) same.0 ∙ ap (told_status k.0) same.1 ∙ sym k.3, h.4 ∙ sym k.4)
+    (h.2 ∙ sym k.2, h.3 ∙ sym k.3)
 
 pub same_call_same_bytes : ContentsHaveOneDueAnswer → UncutCallsAreWhole → LargeRunsAreOne → SameCallSameBytes
 same_call_same_bytes due law large r contents told told' names names' asked asked' old new old' new' before now before' now' s s' c o tell gives u sides tell' gives' u' sides' e f e' f' =
@@ -228,7 +217,6 @@ refusal_done r trace work reason names old new s e (given.cut text same part) = 
 refusal_done r trace work reason names old new s e (given.ran scene k core how course is) = absurd (cc)
 refusal_done r trace work reason names old new s e (given.told n scene ps run same all) = absurd (cc)
 refusal_done r trace work reason names old new s e (given.told_in_part n scene ps run same part) = absurd (cc)
-refusal_done r trace work reason names old new s e (given.untold n scene ps x run other unbroken puts) = absurd (cc)
 
 refused_so : (r : Request) (c : Contents) (reason : Refusal) (files asked names : List (List ℕ)) (old new : Outside Sources) (s : Status) → Gives r c (record { work = refuses reason; files = files }) asked old new names s →
     PutsNothing (without_files old) (without_files new) × ((s ≡ status.Refused reason) ⊎ IsCutEarly s)

@@ -1,15 +1,13 @@
 -- How an answer is given: whole, or cut short.
-use Rattle.std.specs.Prelude.{◌≡◌, ◌≢◌, ℕ, ◌<◌, List, [], ◌++◌, take}
+use Rattle.std.specs.Prelude.{◌≡◌, ℕ, ◌<◌, List, [], ◌++◌, take}
 use Rattle.lt_rif.specs.Trace.{end_number}
 use Rattle.std.specs.Io.KnownBytes.{Appends, Keeps}
 use Rattle.lt_drive.specs.Drive.{Continuation}
 use Rattle.lt_drive.specs.declared.drive_end.DriveEnd.TheVariants as drive_end
 use Rattle.lt_io.specs.Sending.{AppendsProperPrefix}
-use Rattle.lt_loop.specs.Play.{Piece, step_count}
+use Rattle.lt_loop.specs.Play.{Piece}
 use Rattle.lt_loop.specs.CoreState.{CoreState}
-use Rattle.lt_rif.specs.declared.end.End.{End}
 use Rattle.lt_rif.specs.declared.end.End.TheVariants as end
-use Rattle.lt_rif.specs.declared.end.Who.{Who}
 use Rattle.lt_io.specs.Programs.{Programs, Same}
 use Rattle.lt_session.specs.Session.{IsPlayed}
 use Rattle.lt_io.specs.Outside.{Outside, Sources, without_files}
@@ -59,9 +57,6 @@ pub data IsDone (request : Request) (trace : List ℕ) (old new : Outside Progra
   -- .. or but for its end, where a write failed
   told_in_part : (n : ℕ) (scene : Scene) (ps : List Piece) → IsRunOf n scene ps end.Limit → Same old.inputs new.inputs → AppendsProperPrefix old.trace.written new.trace.written (stress_line n (sum_told ps)) →
       IsDone request trace old new (stresses n scene) [] (status.Device device.Trace 0)
-  -- it ended in another way, and nothing was put out
-  untold : (n : ℕ) (scene : Scene) (ps : List Piece) (e : End) → IsRunOf n scene ps e → e ≢ end.Limit → ((w : Who) → e ≢ end.Device w) → PutsNothing old new →
-      IsDone request trace old new (stresses n scene) [] (status.Ran (record { end = e; at = end_number e (step_count ps) }))
 
 -- An answer was given, where files were asked for these names before the call. A row a way.
 pub data Gives (request : Request) (contents : Contents) (answer : Answer) (asked : List (List ℕ)) (old new : Outside Sources) : List (List ℕ) → Status → Type 0 where

@@ -72,16 +72,6 @@ IsUncut status.Memory = ⊥
 IsUncut (status.Ran ending) = IsUnbroken ending.end
 IsUncut _ = Unit {0}
 
--- the text that tells a large run of these pieces: its line, where it ended by its limit
-abbrev pub told_text : ℕ → List Piece → End → List ℕ
-told_text n ps end.Limit = stress_line n (sum_told ps)
-told_text n ps e = []
-
--- its status
-abbrev pub told_status : List Piece → End → Status
-told_status ps end.Limit = status.Done
-told_status ps e = status.Ran (record { end = e; at = end_number e (step_count ps) })
-
 -- Work is done whole, where this is the earlier trace, and these bytes come of the two sides: its status, the names of its
 -- exceptions, the text by which the trace grows, and what both sides were sent.
 abbrev pub IsWhole : Request → List ℕ → List ℕ → List ℕ → Work → List (List ℕ) → Outside Sources → Outside Sources → Status → Type 0
@@ -94,8 +84,8 @@ IsWhole request trace c o (plays scene) names old new s =
     × Appends old.trace.written new.trace.written (text_to destination.Trace (run_of request scene (closed c) (closed o)).pieces)
     × AreSent (with_contents request.inputs trace) (oracle_of request.oracle) (run_of request scene (closed c) (closed o)).pieces 0 0 old.inputs.programs new.inputs.programs
 IsWhole request trace c o (stresses n scene) names old new s =
-    (ps : List Piece) × (e : End) × IsRunOf n scene ps e × (s ≡ told_status ps e) × (names ≡ [])
-    × Appends old.trace.written new.trace.written (told_text n ps e) × Same old.inputs.programs new.inputs.programs
+    (ps : List Piece) × IsRunOf n scene ps end.Limit × (s ≡ status.Done) × (names ≡ [])
+    × Appends old.trace.written new.trace.written (stress_line n (sum_told ps)) × Same old.inputs.programs new.inputs.programs
 
 -- What isn't cut is whole: where files and sides tell what they have, a call that neither a device nor want of memory cuts
 -- short does its work whole.

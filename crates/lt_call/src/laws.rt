@@ -6,7 +6,7 @@ ghost use Rattle.lt_call.specs.Laws.{ContentsHaveOneDueAnswer, RefusalsAreExact,
 use lt_frontend::{texts_have_one_printed_answer, texts_have_one_scenario_answer};
 use lt_play::Player;
 use lt_session::{cut_sessions_are_fronts, plays_never_break, undisturbed_sessions_are_whole};
-use lt_stress::large_runs_are_one;
+use lt_stress::{large_runs_are_one, numbers_have_scenes};
 
 /// One answer is due to a request and the contents of its files.
 pub fn contents_have_one_due_answer()
@@ -14,6 +14,7 @@ pub fn contents_have_one_due_answer()
 {
     texts_have_one_scenario_answer();
     texts_have_one_printed_answer();
+    numbers_have_scenes();
 }
 
 /// Where files and programs tell what they have, what no device and no want of memory cuts short is done whole.

@@ -4,9 +4,9 @@ ghost use Rattle.std.specs.Prelude.{◌≡◌, ◌≤◌};
 ghost use Rattle.lt_args.specs.Settings.{most_number};
 ghost use Rattle.lt_stress.specs.Stressed.{IsStressed};
 ghost use Rattle.lt_stress.specs.declared.stressed.Stressed.{Stressed};
-ghost use Rattle.lt_call.specs.inner.Parts.{BlamesTrace, HasFewSteps, status_so};
+ghost use Rattle.lt_call.specs.inner.Parts.{BlamesTrace, status_so};
 
-use crate::status::{Device, Ending, Refusal, Status};
+use crate::status::{Device, Status};
 use lt_io::Sink;
 use lt_stress::{Stressed, stress};
 use std::alloc::Global;
@@ -24,16 +24,10 @@ pub fn make_large_run<S: Sink>(alloc: Global, number: u64, trace: &mut S) -> Sta
 
 // The status of a large run that ended so.
 fn status_of(how: Stressed) -> Status
-    requires { HasFewSteps how }
     ensures { result ≡ status_so how }
 {
     match how {
         Stressed::Done => Status::Done,
-        Stressed::Ended { end, steps } => Status::Ran(Ending {
-            end,
-            at: end.number(steps),
-        }),
-        Stressed::Refused(reason) => Status::Refused(Refusal::Scenario(reason)),
         Stressed::Memory => Status::Memory,
         Stressed::TraceWriteFailed => Status::Device {
             device: Device::Trace,

@@ -57,7 +57,6 @@ module _ (one : TextsHaveOneScenarioAnswer) (request : Request) (contents : Cont
       record { run = run; short = short; few = subst HasFewAtoms same few; served = subst (IsServed request) same served; work = ap plays same }
   ran_due c o names old new ending _ (due.unprinted reason print short why) whole = absurd (cc whole.0)
   ran_due c o names old new ending _ (due.prints text print short why) whole = absurd (cc whole.0)
-  ran_due c o names old new ending _ (due.unstressed n reason way why) whole = absurd (cc whole.0)
   ran_due c o names old new ending _ (due.stressed n other way is) whole = absurd (let modes : mode.Stress n ≡ mode.Run = sym way ∙ running in cc modes)
 
 -- an end that can be played again is no fault of a side

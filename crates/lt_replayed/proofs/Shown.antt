@@ -298,7 +298,6 @@ module _ (traces : ScenarioTracesShowTheirRun) (prefixes : ScenarioPrefixesShowT
   done_shows trace old new _ _ _ it (given.cut printed same part) = absurd (it.writes_not printed refl)
   done_shows trace old new _ _ _ it (given.told n other ps run same all) = tt
   done_shows trace old new _ _ _ it (given.told_in_part n other ps run same part) = absurd (it.stresses_not n other refl)
-  done_shows trace old new _ _ _ it (given.untold n other ps e run limit unbroken puts) = absurd (it.stresses_not n other refl)
   done_shows trace old new _ _ _ it (given.ran other k core how course is) =
       let it_is = it.runs other refl in
       played_shows traces prefixes request text scene (is_run it_is.1) k (subst (λ (x : Scene). IsContinuationOf request x k) it_is.0 course) old new core _ _ how is
@@ -323,7 +322,6 @@ due_runs one request text scene contents _ run read has (due.runs other way shor
     record { runs = λ x e. let again : other ≡ x = cc in (sym again ∙ same, subst (IsServed request) same served); writes_not = λ printed e. absurd (cc e); stresses_not = λ n x e. absurd (cc e) }
 due_runs one request text scene contents _ run read has (due.unprinted reason way short why) = record { runs = λ other e. absurd (cc e); writes_not = λ printed e. absurd (cc e); stresses_not = λ n x e. absurd (cc e) }
 due_runs one request text scene contents _ run read has (due.prints printed way short why) = absurd (let modes : mode.Print ≡ mode.Run = sym way ∙ run in cc modes)
-due_runs one request text scene contents _ run read has (due.unstressed n reason way why) = record { runs = λ x e. absurd (cc e); writes_not = λ printed e. absurd (cc e); stresses_not = λ k x e. absurd (cc e) }
 due_runs one request text scene contents _ run read has (due.stressed n other way is) = absurd (let modes : mode.Stress n ≡ mode.Run = sym way ∙ run in cc modes)
 
 -- the text of a file, where a mode has one

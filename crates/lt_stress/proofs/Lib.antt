@@ -6,17 +6,13 @@ pub mod Lines
 pub mod Stands
 -- where a plant stands with which all this was done
 pub mod Stood
--- what a run that was driven against a plant is
-pub mod Runs
 -- parts with a text between them
 pub mod Joins
 -- what a reply of the plant is read as
 pub mod Replies
--- a run against the plant is the only one, where there is one input
+-- a run against the plant is the only one and ends by its limit, where there is one input and each instant has values
 pub mod OneRun
--- the first tokens of the text
-pub mod Tokens
--- the first node of a program that begins with these tokens
-pub mod FirstNode
--- the scenario of a number has one input, and what follows
-pub mod OneInput
+-- so is the run of a number
+pub mod LargeRuns
+-- what a run that was driven against a plant is
+pub mod Runs

@@ -16,6 +16,7 @@ mod stressing;
 
 pub use laws::{
     large_runs_are_one, large_runs_end, large_runs_never_wait, large_scenes_have_one_input,
+    numbers_have_scenes,
 };
 pub use stressed::Stressed;
 pub use stressing::stress;

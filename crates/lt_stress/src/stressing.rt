@@ -4,14 +4,13 @@ ghost use Rattle.std.specs.Prelude.{◌≡◌, ◌≤◌, ℕ, false, List, IfSo
 ghost use Rattle.lt_drive.specs.Drive.{continuation_of};
 ghost use Rattle.lt_loop.specs.CoreView.{core_state};
 ghost use Rattle.lt_loop.specs.Event.{WantsTell};
-ghost use Rattle.lt_loop.specs.Machine.{most_steps};
 ghost use Rattle.lt_loop.specs.Play.{Piece};
 ghost use Rattle.lt_rif.specs.declared.end.Who.{Who};
 ghost use Rattle.lt_term.specs.Scene.{Scene};
 ghost use Rattle.lt_term.specs.SceneView.{scene};
 ghost use Rattle.lt_stress.specs.Run.{IsRunOf, IsSceneOf, sum_told};
 ghost use Rattle.lt_large.specs.Scenario.{limit_of};
-ghost use Rattle.lt_stress.specs.Stressed.{IsStressed, unprepared};
+ghost use Rattle.lt_stress.specs.Stressed.{IsStressed};
 ghost use Rattle.lt_stress.specs.inner.Made.{HasRun, IsContinuationOf};
 ghost use Rattle.lt_stress.specs.inner.PlantView.{plant_state};
 ghost use Rattle.lt_stress.specs.inner.PlantState.{fresh};
@@ -33,14 +32,6 @@ use lt_session::Recorded;
 use lt_term::Scenario;
 use std::alloc::Global;
 
-// How a run ended, how many steps it had, and the sum of all values that it told the plant.
-#[derive(Clone, Copy)]
-struct Ran {
-    end: End,
-    steps: u64,
-    sum: u64,
-}
-
 /// Runs the scenario of a number against the plant of that number, and writes the line of the run to the trace: its number,
 /// its variables, its steps and the sum of all their values. Nothing else is written.
 pub fn stress<S: Sink>(alloc: Global, number: u64, trace: &mut S) -> Stressed
@@ -52,17 +43,8 @@ pub fn stress<S: Sink>(alloc: Global, number: u64, trace: &mut S) -> Stressed
     };
     match scenario_of(alloc, &text, DEFAULT_DECIMALS, None) {
         Ok(scenario) => run(alloc, number, scenario, trace),
-        Err(why) => unprepared(why),
-    }
-}
-
-// How it ends where the text could not be made a scenario.
-fn unprepared(why: Unprepared) -> Stressed
-    ensures { result ≡ unprepared why }
-{
-    match why {
-        Unprepared::Refused(reason) => Stressed::Refused(reason),
-        Unprepared::Memory => Stressed::Memory,
+        Err(Unprepared::Memory) => Stressed::Memory,
+        Err(Unprepared::Refused(_)) => unreachable!(),
     }
 }
 
@@ -71,16 +53,10 @@ fn run<S: Sink>(alloc: Global, number: u64, scenario: Scenario, trace: &mut S) -
     requires { IsSceneOf number (scene scenario) }
     ensures { IsStressed number (S.state trace.old) (S.state trace.new) result }
 {
-    let Some(ran) = play(alloc, number, scenario) else {
+    let Some(sum) = play(alloc, number, scenario) else {
         return Stressed::Memory;
     };
-    match ran.end {
-        End::Limit => tell(alloc, number, ran.sum, trace),
-        end => Stressed::Ended {
-            end,
-            steps: ran.steps,
-        },
-    }
+    tell(alloc, number, sum, trace)
 }
 
 // Writes the line of the run of a number, which ended by its limit and has this sum.
@@ -98,9 +74,11 @@ fn tell<S: Sink>(alloc: Global, number: u64, sum: u64, trace: &mut S) -> Stresse
     }
 }
 
-// Plays the run of a scenario against the plant. None where memory ran out, or a side failed.
-fn play(alloc: Global, number: u64, scenario: Scenario) -> Option<Ran>
-    ensures { IfSome result (λ ran. HasRun number (scene scenario) ran.end ran.steps ran.sum) }
+// Plays the run of a scenario against the plant, and gives the sum of all values that it told the plant. None where memory ran
+// out, or a side failed.
+fn play(alloc: Global, number: u64, scenario: Scenario) -> Option<u64>
+    requires { IsSceneOf number (scene scenario) }
+    ensures { IfSome result (λ sum. HasRun number (scene scenario) sum) }
 {
     let Ok(mut plant) = Plant::make(alloc, number) else {
         return None;
@@ -136,28 +114,24 @@ fn setup(number: u64) -> Setup
 }
 
 // Plays the run of a core against a plant. None where a side failed.
-fn play_core(alloc: Global, core: &mut Core<Player>, plant: &mut Plant) -> Option<Ran>
+fn play_core(alloc: Global, core: &mut Core<Player>, plant: &mut Plant) -> Option<u64>
     requires { WantsTell (core_state core.old) Wants.Turn }
-    ensures { (n : ℕ) (s : Scene) → IsContinuationOf n s (continuation_of (core_state core.old)) →
-        plant_state plant.old ≡ fresh n →
-        IfSome result (λ ran. HasRun n s ran.end ran.steps ran.sum) }
+    ensures { (n : ℕ) (s : Scene) → IsSceneOf n s → IsContinuationOf n s (continuation_of (core_state core.old)) →
+        plant_state plant.old ≡ fresh n → IfSome result (λ sum. HasRun n s sum) }
 {
     let mut nobody = Recorded::new(&[]);
     match drive(alloc, core, plant, &mut nobody, &mut Nowhere) {
-        DriveEnd::Ended(end) => unbroken(end, core.steps(), plant.sum()),
+        DriveEnd::Ended(end) => unbroken(end, plant.sum()),
         DriveEnd::TraceWriteFailed { .. } => unreachable!(),
     }
 }
 
-// A run that ended so. None where a side failed, which the plant doesn't do in a run.
-fn unbroken(end: End, steps: u64, sum: u64) -> Option<Ran>
-    requires { steps ≤ most_steps }
-    ensures ran { IfSome result (λ r. (r ≡ record { end = end; steps = steps; sum = sum }) ×
-        ((w : Who) → end ≡ End.Device w → ⊥)) }
-    ensures few { steps ≤ most_steps }
+// The sum of a run that ended so. None where a side failed, which the plant doesn't do in a run.
+fn unbroken(end: End, sum: u64) -> Option<u64>
+    ensures { IfSome result (λ s. (s ≡ sum) × ((w : Who) → end ≡ End.Device w → ⊥)) }
 {
     match end {
         End::Device(_) => None,
-        _ => Some(Ran { end, steps, sum }),
+        _ => Some(sum),
     }
 }

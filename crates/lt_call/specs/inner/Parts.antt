@@ -1,12 +1,10 @@
 -- What is given, part by part.
-use Rattle.std.specs.Prelude.{◌≡◌, ◌⊎◌, ◌≤◌, ℕ, ◌∷◌, ◌++◌, [], Ok, Err, List, false}
-use Rattle.lt_rif.specs.Trace.{end_number}
+use Rattle.std.specs.Prelude.{◌≡◌, ◌⊎◌, ℕ, ◌∷◌, ◌++◌, [], Ok, Err, List, false}
 use Rattle.std.specs.Io.KnownBytes.{Appends, Keeps}
 use Rattle.std.specs.declared.option.Option.{Option}
 use Rattle.lt_io.specs.Sending.{AppendsProperPrefix}
 use Rattle.lt_io.specs.declared.files.FileRefusal.{FileRefusal}
 use Rattle.lt_io.specs.declared.files.FileRefusal.TheVariants as file
-use Rattle.lt_loop.specs.Machine.{most_steps}
 use Rattle.lt_frontend.specs.Prepared.{IsPrintedAnswer}
 use Rattle.lt_frontend.specs.declared.refusal.Refusal.{Refusal as Reason}
 use Rattle.lt_frontend.specs.declared.refusal.Unprepared.{Unprepared}
@@ -93,12 +91,5 @@ status_unread file.Memory = status.Memory
 -- the status of a large run that ended so
 abbrev pub status_so : Stressed → Status
 status_so stressed.Done = status.Done
-status_so (stressed.Ended e steps) = status.Ran (record { end = e; at = end_number e steps })
-status_so (stressed.Refused reason) = status.Refused (refusal.Scenario reason)
 status_so stressed.Memory = status.Memory
 status_so stressed.TraceWriteFailed = status.Device device.Trace 0
-
--- it had no more steps than a machine makes
-abbrev pub HasFewSteps : Stressed → Type 0
-HasFewSteps (stressed.Ended e steps) = steps ≤ most_steps
-HasFewSteps _ = Unit {0}

@@ -8,10 +8,10 @@ use Rattle.lt_stress.proofs.Runs.{never_untraced, ran_by, ran_so}
 use Rattle.lt_stress.proofs.stressing.play_core.Goals as goal
 
 pub returns : goal.returns
-returns c = λ n s course at_first.
-    ran_so n s c.in-Ended.end c.steps.result c.sum.result c.unbroken.result c.unbroken.ensures.ran (λ unbroken.
-    ran_by n s (continuation_of (core_state {b = player.ghosts} c.args.core.now)) _ _ (core_state {b = player.ghosts} c.drive.new.core) course c.in-Ended.end (plant_state c.drive.new.controller) c.steps.result c.sum.result
-    c.in-Ended.ensures.driven (ap may_stand at_first) refl (ap Some c.new-nobody.ensures) c.steps.ensures c.unbroken.ensures.few c.sum.ensures unbroken)
+returns c = λ n s is_scene course at_first.
+    ran_so n s c.in-Ended.end c.sum.result c.unbroken.result c.unbroken.ensures (λ unbroken.
+    ran_by n s (continuation_of (core_state {b = player.ghosts} c.args.core.now)) _ _ (core_state {b = player.ghosts} c.drive.new.core) is_scene course c.in-Ended.end (plant_state c.drive.new.controller) c.sum.result
+    c.in-Ended.ensures.driven (ap may_stand at_first) refl (ap Some c.new-nobody.ensures) c.sum.ensures unbroken)
 
 pub unreachable-requires : goal.unreachable-requires
 unreachable-requires c = never_untraced _ _ _ _ c.in-TraceWriteFailed.step c.in-TraceWriteFailed.ensures.driven refl refl

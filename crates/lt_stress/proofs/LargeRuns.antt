@@ -1,0 +1,117 @@
+-- The text of a number has one scenario, each instant of which has values: so the number has one run at most, which waits for
+-- no more than the plant has, and ends by its limit.
+use Rattle.std.proofs.Common.{◌≡◌, ℕ, ◌≤◌, Bool, true, false, List, [], ◌∷◌, Ok, Err, pos, refl, ap, sym, ◌∙◌, subst, arith}
+use Rattle.std.proofs.lemmas.Nat.{mod_below}
+use Rattle.std.specs.declared.option.Option.{Option}
+use Rattle.lt_args.specs.Settings.{default_budget}
+use Rattle.lt_draw.specs.declared.directions.Draw.TheVariants.{Up}
+use Rattle.lt_drive.specs.Interaction.{text_to}
+use Rattle.lt_drive.specs.Told.{closed}
+use Rattle.lt_frontend.specs.declared.refusal.Refusal.{Refusal}
+use Rattle.lt_instant.specs.Instant as i
+use Rattle.lt_instant.specs.Instant.{instant_of}
+use Rattle.lt_large.specs.Scenario.{limit_of, variables_of}
+use Rattle.lt_large.specs.Scene.{body, large_scene}
+use Rattle.lt_large.proofs.Instants.{large_instants_have_values}
+use Rattle.lt_large.proofs.Scenes.{large_texts_have_scenes}
+use Rattle.lt_loop.specs.CoreView.{stream_of}
+use Rattle.lt_loop.specs.Machine.{values}
+use Rattle.lt_loop.specs.Play.{Play, ends, play_of}
+use Rattle.lt_loop.specs.Side.{silent}
+use Rattle.lt_loop.specs.declared.event.Destination.TheVariants as destination
+use Rattle.lt_num.specs.declared.value.Value.{Value}
+use Rattle.lt_num.specs.declared.value.Value.TheVariants as value
+use Rattle.lt_play.specs.Rules.{instant_by, known_scene, scenario_rules}
+use Rattle.lt_rif.specs.Reply.{Stream}
+use Rattle.lt_rif.specs.declared.end.End.TheVariants as end
+use Rattle.lt_step.specs.Machine.{Phase, State, answered, running, started, step_in}
+use Rattle.lt_term.specs.Configuration.{Configuration}
+use Rattle.lt_term.specs.Scene.{Scene}
+use Rattle.lt_stress.specs.Laws.{LargeRunsAreOne, LargeRunsEnd, LargeRunsNeverWait, LargeScenesHaveOneInput, NumbersHaveScenes}
+use Rattle.lt_stress.specs.Plant.{replies_of}
+use Rattle.lt_stress.specs.Run.{IsRefusedFor, IsRunOf, IsSceneOf, plan_of, run_of}
+use Rattle.lt_stress.proofs.OneRun.{IsOne, one_run}
+
+-- ---- the scenario
+
+-- each number has from 2 to 7 outputs
+some_outputs : (n : ℕ) → 2 ≤ variables_of n
+some_outputs n = omega arith
+
+few_outputs : (n : ℕ) → variables_of n ≤ 7
+few_outputs n = omega (arith, mod_below n 6 (omega arith))
+
+scene_of_number : (n : ℕ) → IsSceneOf n (large_scene (variables_of n))
+scene_of_number n = (large_texts_have_scenes (variables_of n) (some_outputs n) (few_outputs n)).0
+
+-- it has no other scenario, and no refusal
+one_scene : (n : ℕ) (scene : Scene) → IsSceneOf n scene → scene ≡ large_scene (variables_of n)
+one_scene n scene is = let same : Ok scene ≡ Ok (large_scene (variables_of n)) = (large_texts_have_scenes (variables_of n) (some_outputs n) (few_outputs n)).1 (Ok scene) is in cc same
+
+no_refusal : (n : ℕ) (reason : Refusal) → IsRefusedFor n reason → ⊥
+no_refusal n reason is = let same : Err reason ≡ Ok (large_scene (variables_of n)) = (large_texts_have_scenes (variables_of n) (some_outputs n) (few_outputs n)).1 (Err reason) is in cc same
+
+pub numbers_have_scenes : NumbersHaveScenes
+numbers_have_scenes n = (scene_of_number n, no_refusal n)
+
+pub large_scenes_have_one_input : LargeScenesHaveOneInput
+large_scenes_have_one_input n scene is = (_, ap (λ (s : Scene). s.inputs) (one_scene n scene is), (refl, refl))
+
+-- ---- its instants
+
+-- a machine of the scenario runs on, and what is to be done is what was to be done first
+record IsGoing (variables : ℕ) (m : State) : Type 0 where
+  scene : m.scene ≡ large_scene variables
+  budget : m.budget ≡ default_budget
+  here : Configuration
+  locals : List (Option Value)
+  runs : m.phase ≡ running here locals
+  again : here.process ≡ body variables
+
+goes_on : (n : ℕ) (m : State) (number : ℕ) → IsGoing (variables_of n) m → (next : State) × (scenario_rules.instant m (value.Num (pos number) ∷ []) ≡ values next) × IsGoing (variables_of n) next
+goes_on n m number going =
+    let y : List Value = value.Num (pos number) ∷ [] in
+    let found =
+    large_instants_have_values (variables_of n) m.seed m.draw default_budget going.here number (some_outputs n) (few_outputs n) (omega arith) going.again in
+    let next : State = record m { phase = running found.2 found.1 } in (
+      next,
+      ap (λ (p : Phase). instant_by (step_in m p y)) going.runs
+          ∙ (λ j. instant_by (answered m (instant_of (going.scene j) m.seed m.draw (going.budget j) going.here y)))
+          ∙ ap (λ (x : i.Instant). instant_by (answered m x)) found.3,
+      record { scene = going.scene; budget = going.budget; here = found.2; locals = found.1; runs = refl; again = found.4 },
+    )
+
+-- ---- its runs
+
+module _ (n : ℕ) where
+  abbrev scene : Scene
+  scene = large_scene (variables_of n)
+
+  abbrev run : Bool → Stream → List ℕ → Play
+  run is_closed o t =
+      play_of scenario_rules (plan_of n scene) (limit_of n) (started scene n default_budget Up) (record { place = 0; bytes = replies_of n t; is_closed = is_closed }) o
+
+  is_one : (is_closed : Bool) (o : Stream) → IsOne (run is_closed o)
+  is_one is_closed o =
+      one_run n scenario_rules (known_scene scene) n Up refl (omega arith) is_closed (IsGoing (variables_of n)) (goes_on n) (limit_of n) (started scene n default_budget Up) o
+      (record { scene = refl; budget = refl; here = _; locals = []; runs = refl; again = refl }) refl
+
+pub large_runs_are_one : LargeRunsAreOne
+large_runs_are_one n s ps qs e f is h k =
+    let same = one_scene n s is in
+    let one =
+    is_one n true (stream_of (closed [])) ps qs (ends e) (ends f) (subst (λ (x : Scene). IsRunOf n x ps e) same h) (subst (λ (x : Scene). IsRunOf n x qs f) same k) in
+    let stops : ends e ≡ ends f = one.1 ∙ sym one.2 in
+    (one.0, cc stops)
+
+pub large_runs_end : LargeRunsEnd
+large_runs_end n s ps e is h =
+    let same = subst (λ (x : Scene). IsRunOf n x ps e) (one_scene n s is) h in
+    let stops : ends e ≡ ends end.Limit = (is_one n true (stream_of (closed [])) ps ps (ends e) (ends e) same same).1 in
+    cc stops
+
+pub large_runs_never_wait : LargeRunsNeverWait
+large_runs_never_wait n s ps stop is h =
+    let same =
+    subst (λ (x : Scene). run_of n x (record { bytes = replies_of n (text_to destination.Controller ps); is_closed = false }) silent ≡ record { pieces = ps; stop = stop }) (one_scene n s is) h in
+    (is_one n false (stream_of silent) ps ps stop stop same same).1
