@@ -10,9 +10,9 @@ drops lines, swaps tokens, repeats pieces and enlarges numbers. Each text goes t
 through `run -l 3`, and what `print` wrote goes through `print` once more.
 
 A finding is an end that docs/COMMAND.md doesn't have: a signal, another status, another line on
-standard error, a trace that ends otherwise, a call that hadn't ended after ten seconds, or took
-more than one of the processor or more memory than a text of its length may, or a printed text that
-is printed in another way. It is told with the number of its text. The same seed and number make the
+standard error, a trace that ends otherwise, a call that hadn't ended after ten seconds, took more
+than one of the processor each time of three, or more memory than a text of its length may, or a
+printed text that is printed in another way. It is told with the number of its text. The same seed and number make the
 same text, in every version of Python, as long as the examples stay as they are: --show writes it to
 standard output, and tries nothing. The program is the one that `rt ci` leaves in the checkout,
 where no option names another.
@@ -30,6 +30,9 @@ import explain
 from chance import Chance
 
 STEPS = 3
+
+# How often a call is made that took too long.
+CALLS = 3
 
 # -- Texts -----------------------------------------------------------------------------------------
 
@@ -337,11 +340,21 @@ def memory_for(length):
     return (64 << 20) + 256 * length
 
 
+def cheapest(call):
+    """What comes of a call, or of the cheapest of CALLS where the first one took too long: a busy
+    machine may charge a call for time in which others ran."""
+    found = call()
+    for _ in range(CALLS - 1):
+        if found.seconds > 1:
+            found = min(found, call(), key=lambda it: it.seconds)
+    return found
+
+
 def tried(program, text):
     """The ends of a text's calls, and what is wrong with them."""
     memory = memory_for(len(text))
-    printed = calls.outcome(program, text, "print", memory=memory)
-    run = calls.outcome(program, text, "run", "-l", str(STEPS), memory=memory)
+    made = lambda *words: cheapest(lambda: calls.outcome(program, text, *words, memory=memory))
+    printed, run = made("print"), made("run", "-l", str(STEPS))
     again = calls.outcome(program, printed.output, "print") if printed.status == 0 else printed
     ends, faults = [], []
     for mode, found in (("print", printed), ("run", run)):

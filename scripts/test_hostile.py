@@ -110,5 +110,16 @@ class Ends(unittest.TestCase):
         self.assertIsNotNone(hostile.fault_between(printed, printed, refused))
         self.assertIsNotNone(hostile.fault_between(refused, refused, untyped))
 
+    def test_a_call_that_took_too_long_is_made_again(self):
+        for seconds, cheapest, count in (
+            ([0.5, 9.0, 9.0], 0.5, 1),
+            ([1.5, 0.5, 9.0], 0.5, 2),
+            ([3.0, 2.0, 4.0], 2.0, 3),
+        ):
+            left = iter(seconds)
+            found = hostile.cheapest(lambda: Outcome(0, b"", b"", next(left)))
+            self.assertEqual((found.seconds, list(left)), (cheapest, seconds[count:]))
+
+
 if __name__ == "__main__":
     unittest.main()
