@@ -11,3 +11,4 @@ pub mod SlotLemmas
 pub mod KeepingLemmas
 pub mod HoldingLemmas
 pub mod WorkLemmas
+pub mod InstantLemmas

@@ -25,6 +25,8 @@ pub mod Stands
 pub mod Run
 pub mod Growing
 pub mod Ending
+-- the pieces of each instant
+pub mod Instants
 -- replies that fit their slots
 pub mod Fits
 -- codes by which readings are told apart

@@ -4,6 +4,7 @@
 ghost use Rattle.lt_loop.specs.Ending.{PlaysEnd};
 ghost use Rattle.lt_loop.specs.Fits.{RepliesFit};
 ghost use Rattle.lt_loop.specs.Growing.{PlaysGrow};
+ghost use Rattle.lt_loop.specs.Instants.{InstantsHaveFewPieces, RunsHaveFewPieces};
 ghost use Rattle.lt_loop.specs.Run.{EndsAreFinal, EventsAreThePlay, FaultsAreCuts, RunsEnd, StepsAreCounted, TurnsGoOn, WantsAreTheStop};
 
 use crate::machine::Machine;
@@ -57,6 +58,16 @@ pub fn plays_grow<M: Machine>()
     // A law that the proof needs: replies of open streams stay so.
     replies_grow();
 }
+
+/// In each play an instant has four pieces at most: the outputs, the question, the step and the end line.
+pub fn instants_have_few_pieces<M: Machine>()
+    ensures { InstantsHaveFewPieces M.State }
+{}
+
+/// So it has in each run from the play's beginning on, whatever comes of the sides, faults too.
+pub fn runs_have_few_pieces<M: Machine>()
+    ensures { RunsHaveFewPieces M.State }
+{}
 
 /// A whole reply has a value for each slot that is kept, of the slot's kind and within its range.
 pub fn replies_fit()

@@ -24,8 +24,9 @@ mod writer;
 pub use event::{Destination, Emits, Event, PieceKind, Wants};
 pub use input_source::InputSource;
 pub use laws::{
-    ends_are_final, events_are_the_play, faults_are_cuts, plays_end, plays_grow, replies_fit,
-    runs_end, steps_are_counted, turns_go_on, wants_are_the_stop,
+    ends_are_final, events_are_the_play, faults_are_cuts, instants_have_few_pieces, plays_end,
+    plays_grow, replies_fit, runs_end, runs_have_few_pieces, steps_are_counted, turns_go_on,
+    wants_are_the_stop,
 };
 pub use loop_core::Core;
 pub use machine::{Machine, Outcome, ScenarioEnd};
