@@ -11,4 +11,5 @@ pub mod SlotLemmas
 pub mod KeepingLemmas
 pub mod HoldingLemmas
 pub mod WorkLemmas
+pub mod ProgressLemmas
 pub mod InstantLemmas

@@ -79,14 +79,14 @@ module _ {State : Type 0} where
       one_more s r.0 new e a es answers c o calm.0 r.1 (events_are_the_play r.0 new es answers r.2 calm.1 c o)
 
   -- a core that needs a byte of the controller puts out nothing until one comes
-  controller_stops : (s : CoreState State) (o : Rest) → s.phase ≡ phase.Controller → IsEmpty s.controller → resume s silent o ≡ stopped (needs_byte who.Controller)
+  pub controller_stops : (s : CoreState State) (o : Rest) → s.phase ≡ phase.Controller → IsEmpty s.controller → resume s silent o ≡ stopped (needs_byte who.Controller)
   controller_stops s o at empty =
       let none : side_answer s.controller silent ≡ needs =
       (λ i. answer s.controller.reading (empty.0 i ++ (unless_closed (empty.1 i) silent).bytes) (unless_closed (empty.1 i) silent).is_closed) ∙ empty.2 in
       rw (at, none) refl
 
   -- the same of the oracle
-  oracle_stops : (s : CoreState State) (c : Rest) → s.phase ≡ phase.Oracle → IsEmpty s.oracle → resume s c silent ≡ stopped (needs_byte who.Oracle)
+  pub oracle_stops : (s : CoreState State) (c : Rest) → s.phase ≡ phase.Oracle → IsEmpty s.oracle → resume s c silent ≡ stopped (needs_byte who.Oracle)
   oracle_stops s c at empty =
       let none : side_answer s.oracle silent ≡ needs =
       (λ i. answer s.oracle.reading (empty.0 i ++ (unless_closed (empty.1 i) silent).bytes) (unless_closed (empty.1 i) silent).is_closed) ∙ empty.2 in

@@ -16,6 +16,8 @@ pub mod CoreState
 pub mod CoreView
 -- what a core is told, and what it answers
 pub mod Event
+-- what each event does that it waits for
+pub mod Progress
 -- what it reads and keeps of both sides, and how much it may still do
 pub mod Kept
 pub mod Work

@@ -73,6 +73,7 @@ impl<M: Machine> Drop for Core<M> {
 impl<M: Machine> Core<M> {
     ghost use Rattle.lt_loop.specs.CoreView.{last_text, plan_of, core_state, stream_of};
     ghost use Rattle.lt_loop.specs.Event.{bytes, cuts, failed, fed, goes_on, told, listens, play_due, steps_in, taken_of, IsWanted, Waits, WantsTell};
+    ghost use Rattle.lt_loop.specs.Progress.{MovesOn};
     ghost use Rattle.lt_loop.specs.Kept.{adding_none, controller_reads, nothing, one, oracle_reads, reads_reply, Holds, HoldsController, HoldsOracle};
     ghost use Rattle.lt_loop.specs.Side.{IsEmpty};
     ghost use Rattle.lt_loop.specs.Work.{most_work, work_in, work_left};
@@ -159,6 +160,9 @@ impl<M: Machine> Core<M> {
         ensures falls { IsWanted (core_state self.old) (told event.entry) →
             work_left (core_state self.new) < work_left (core_state self.old) }
         ensures rises_not { work_left (core_state self.new) ≤ work_left (core_state self.old) }
+        ensures progress { IsWanted (core_state self.old) (told event.entry) →
+            MovesOn (core_state self.old) (core_state self.new) (told event.entry) result.taken
+            result.piece }
     {
         let (taken, piece) = self.go(event);
         Emits {
