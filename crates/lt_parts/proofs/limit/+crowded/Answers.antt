@@ -17,7 +17,7 @@ pub is_anything_crowded-is_any_crowded-requires : goal.is_anything_crowded-is_an
 is_anything_crowded-is_any_crowded-requires t c =
     let n = table_len c.args.table.now in
     let P : Process ℕ → Type 0 = AreConstraintsBelow n in
-    (search (rules, TheFolds.the_lemmas), any_below n c.in-Any.parts (subst P (ap process c.in-Any.is) c.requires))
+    (search (rules, TheFolds.the_lemmas), (any_below n c.in-Any.parts (subst P (ap process c.in-Any.is) c.requires.below), c.requires.passed))
 
 pub is_anything_crowded-returns-in-Any : goal.is_anything_crowded-returns-in-Any
 is_anything_crowded-returns-in-Any t c =
@@ -25,4 +25,4 @@ is_anything_crowded-returns-in-Any t c =
     let crowded = is_crowded (table_kinds table) in
     let same : has_constraint_anywhere crowded (choices_over table c.in-Any.parts.items) ≡ has_constraint crowded (process_over table c.args.term.now) =
     sym (ap (λ p. has_constraint crowded (with_constraints (spelled (table_expressions table)) p)) (ap process c.in-Any.is ∙ process_any c.in-Any.parts)) in
-    if_ok c.is_any_crowded.result _ _ (λ many h. h ∙ same) c.is_any_crowded.ensures
+    record { passed = c.is_any_crowded.ensures.passed; crowded = if_ok c.is_any_crowded.result _ _ (λ many h. h ∙ same) c.is_any_crowded.ensures.crowded }
