@@ -1,0 +1,8 @@
+-- When an expression is well typed.
+pub mod WellTyped
+-- When all expressions of a node are.
+pub mod TypedNode
+-- Macros that stand for what their types say.
+pub mod Macros
+-- What holds of every program.
+pub mod Laws
