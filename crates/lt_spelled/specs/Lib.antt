@@ -1,0 +1,2 @@
+-- What holds of every text.
+pub mod Laws
