@@ -86,7 +86,7 @@ module _ (law : CutSessionsAreFronts State) (calm : PlaysNeverBreak State) (r : 
 gives : CutSessionsAreFronts State → PlaysNeverBreak State → (r : Request) (contents : Contents) (c o : List ℕ) (scene : Scene) (answer : Answer) (asked names : List (List ℕ)) (old new : Outside Sources) (s : Status) → Gives r contents answer asked old new names s →
     answer.work ≡ plays scene → IsCutShort s → SidesTell r contents old.inputs.programs c o → (text : List ℕ) × Appends old.trace.written new.trace.written text × IsFront r scene c o new.trace.gathers text s
 gives law calm r contents c o scene answer asked names old new s (given.done ns t files is) work u sides = done law calm r contents.replay c o scene old new sides answer.work ns t is work u
-gives law calm r contents c o scene answer asked names old new _ (given.by_file k some files puts) work u sides = ([], kept_appends old.trace.written new.trace.written puts.trace, cut.unread refl)
+gives law calm r contents c o scene answer asked names old new _ (given.by_file k some within files puts) work u sides = ([], kept_appends old.trace.written new.trace.written puts.trace, cut.unread refl)
 gives law calm r contents c o scene answer asked names old new _ (given.by_memory k files puts) work u sides = absurd u
 
 -- however a device cut it

@@ -49,7 +49,7 @@ done request trace old new _ _ _ (given.told_in_part n scene ps run same part) i
 gives : (request : Request) (contents : Contents) (answer : Answer) (asked names : List (List ℕ)) (old new : Outside Sources) (s : Status) → Gives request contents answer asked old new names s → s ≡ status.Memory →
     Keeps old.trace.written new.trace.written
 gives request contents answer asked _ old new _ (given.done names s files was) is = done request contents.replay (without_files old) (without_files new) answer.work names s was is
-gives request contents answer asked _ old new _ (given.by_file k some files puts) is = puts.trace
+gives request contents answer asked _ old new _ (given.by_file k some within files puts) is = puts.trace
 gives request contents answer asked _ old new _ (given.by_memory k files puts) is = puts.trace
 
 pub want_of_memory_writes_nothing : WantOfMemoryWritesNothing

@@ -120,7 +120,7 @@ done_whole law r trace c o work names old new s (given.told_in_part n scene ps r
 gives_whole : UndisturbedSessionsAreWhole State → (r : Request) (contents : Contents) (c o : List ℕ) (answer : Answer) (asked names : List (List ℕ)) (old new : Outside Sources) (s : Status) → Gives r contents answer asked old new names s → IsUncut s →
     SidesTell r contents old.inputs.programs c o → IsWhole r contents.replay c o answer.work names old new s
 gives_whole law r contents c o answer asked names old new s (given.done ns t f is) u tell = done_whole law r contents.replay c o answer.work ns old new t is u tell
-gives_whole law r contents c o answer asked names old new s (given.by_file k some f puts) u tell = absurd u
+gives_whole law r contents c o answer asked names old new s (given.by_file k some within f puts) u tell = absurd u
 gives_whole law r contents c o answer asked names old new s (given.by_memory k f puts) u tell = absurd u
 
 pub uncut_calls_are_whole : ContentsHaveOneDueAnswer → UndisturbedSessionsAreWhole State → UncutCallsAreWhole
@@ -221,7 +221,7 @@ refusal_done r trace work reason names old new s e (given.told_in_part n scene p
 refused_so : (r : Request) (c : Contents) (reason : Refusal) (files asked names : List (List ℕ)) (old new : Outside Sources) (s : Status) → Gives r c (record { work = refuses reason; files = files }) asked old new names s →
     PutsNothing (without_files old) (without_files new) × ((s ≡ status.Refused reason) ⊎ IsCutEarly s)
 refused_so r c reason files asked names old new s (given.done ns t f is) = let h = refusal_done r c.replay (refuses reason) reason ns (without_files old) (without_files new) t refl is in (h.0, inl h.1)
-refused_so r c reason files asked names old new s (given.by_file k some f puts) = (puts, inr tt)
+refused_so r c reason files asked names old new s (given.by_file k some within f puts) = (puts, inr tt)
 refused_so r c reason files asked names old new s (given.by_memory k f puts) = (puts, inr tt)
 
 pub refusals_are_exact : ContentsHaveOneDueAnswer → RefusalsAreExact

@@ -37,7 +37,7 @@ IsCutShort _ = ⊥
 pub data IsFront (request : Request) (scene : Scene) (c o : List ℕ) (gathers : Bool) (text : List ℕ) : Status → Type 0 where
   -- a file could not be read: nothing
   unread : text ≡ [] → IsFront request scene c o gathers text (status.Device device.File 0)
-  -- a program could not be started: nothing
+  -- a program could not be started: nothing (which side's it was is said by how the run was played)
   unstarted : (w : Who) → text ≡ [] → IsFront request scene c o gathers text (status.Device (device.Program w) 0)
   -- the run had begun: what a side's fault or a failing write left of its texts, when so many steps were put out
   begun : (k : Continuation) (how : DriveEnd) (steps : ℕ) → IsContinuationOf request scene k → IsCutBy how → IsCutText k c o gathers text steps how →

@@ -1,5 +1,5 @@
 -- How an answer is given: whole, or cut short.
-use Rattle.std.specs.Prelude.{◌≡◌, ℕ, ◌<◌, List, [], ◌++◌, take}
+use Rattle.std.specs.Prelude.{◌≡◌, ℕ, ◌<◌, ◌≤◌, List, [], ◌++◌, length, take}
 use Rattle.lt_rif.specs.Trace.{end_number}
 use Rattle.std.specs.Io.KnownBytes.{Appends, Keeps}
 use Rattle.lt_drive.specs.Drive.{Continuation}
@@ -63,6 +63,6 @@ pub data Gives (request : Request) (contents : Contents) (answer : Answer) (aske
   -- its files were read, and what is to be done was done
   done : (names : List (List ℕ)) (s : Status) → new.inputs.files.asked ≡ asked ++ answer.files → IsDone request contents.replay (without_files old) (without_files new) answer.work names s → Gives request contents answer asked old new names s
   -- the k-th of its files could not be read, and nothing was put out
-  by_file : (k : ℕ) → 0 < k → new.inputs.files.asked ≡ asked ++ take k answer.files → PutsNothing (without_files old) (without_files new) → Gives request contents answer asked old new [] (status.Device device.File 0)
+  by_file : (k : ℕ) → 0 < k → k ≤ length answer.files → new.inputs.files.asked ≡ asked ++ take k answer.files → PutsNothing (without_files old) (without_files new) → Gives request contents answer asked old new [] (status.Device device.File 0)
   -- memory ran out before anything was put out, when so many files were read
   by_memory : (k : ℕ) → new.inputs.files.asked ≡ asked ++ take k answer.files → PutsNothing (without_files old) (without_files new) → Gives request contents answer asked old new [] status.Memory

@@ -136,7 +136,7 @@ RepliesAreMissedOnlySo =
     IsDue request contents (record { work = plays scene; files = files }) → s ≡ status.Ran (record { end = e; at = at }) →
     IsMissed (plan_of request scene) (stream_of (closed c)) (stream_of (closed o)) (step_count (run_of request scene (closed c) (closed o)).pieces) e
 
--- Where memory ran out, nothing was written: it doesn't run out once a run has begun.
+-- Where memory ran out, nothing was written. A run has not begun then; only a large one may have ended, whose line comes after it.
 abbrev pub WantOfMemoryWritesNothing : Type 0
 WantOfMemoryWritesNothing =
     (request : Request) (told : List ℕ → Option (List ℕ)) (names asked : List (List ℕ)) (old new : Outside Sources) →

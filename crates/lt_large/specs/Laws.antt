@@ -22,7 +22,8 @@ LargeTextsHaveScenes =
 abbrev pub enough : ℕ
 enough = 1440
 
--- An instant has values where a budget is that large, whatever number the input is, and then what is to be done is as before it.
+-- An instant has values where a budget is that large, whatever number from 0 on the input is, and then what is to be done is as
+-- before it.
 abbrev pub LargeInstantsHaveValues : Type 0
 LargeInstantsHaveValues =
     (variables seed : ℕ) (draw : Draw) (most : ℕ) (c : Configuration) (n : ℕ) → 2 ≤ variables → variables ≤ 7 → enough ≤ most → c.process ≡ body variables →

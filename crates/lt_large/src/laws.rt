@@ -7,7 +7,7 @@ pub fn large_texts_have_scenes()
     ensures { LargeTextsHaveScenes }
 {}
 
-/// Each instant has values, whatever number its input is, where the budget is no less than 1,440.
+/// Each instant has values, whatever number from 0 on its input is, where the budget is no less than 1,440.
 pub fn large_instants_have_values()
     ensures { LargeInstantsHaveValues }
 {}

@@ -304,7 +304,7 @@ module _ (traces : ScenarioTracesShowTheirRun) (prefixes : ScenarioPrefixesShowT
 
   gives_shows : (contents : Contents) (answer : Answer) (asked names : List (List ℕ)) (old new : Outside Sources) (s : Status) → RunsIt request scene answer.work → Gives request contents answer asked old new names s → ShowsBy request scene s old.trace.written new.trace.written
   gives_shows contents answer asked _ old new _ it (given.done names s files is) = done_shows contents.replay (without_files old) (without_files new) answer.work names s it is
-  gives_shows contents answer asked _ old new _ it (given.by_file n some files puts) = tt
+  gives_shows contents answer asked _ old new _ it (given.by_file n some within files puts) = tt
   gives_shows contents answer asked _ old new _ it (given.by_memory n files puts) = none_appended old.trace.written new.trace.written puts.trace
 
 -- what is due to a request whose scenario is this one

@@ -5,6 +5,7 @@ use Rattle.std.proofs.lemmas.Nat.{mod_below}
 use Rattle.std.specs.declared.option.Option.{Option}
 use Rattle.lt_args.specs.Settings.{default_budget}
 use Rattle.lt_draw.specs.declared.directions.Draw.TheVariants.{Up}
+use Rattle.lt_drive.specs.History.{so_far}
 use Rattle.lt_drive.specs.Interaction.{text_to}
 use Rattle.lt_drive.specs.Told.{closed}
 use Rattle.lt_frontend.specs.declared.refusal.Refusal.{Refusal}
@@ -17,7 +18,6 @@ use Rattle.lt_large.proofs.Scenes.{large_texts_have_scenes}
 use Rattle.lt_loop.specs.CoreView.{stream_of}
 use Rattle.lt_loop.specs.Machine.{values}
 use Rattle.lt_loop.specs.Play.{Play, ends, play_of}
-use Rattle.lt_loop.specs.Side.{silent}
 use Rattle.lt_loop.specs.declared.event.Destination.TheVariants as destination
 use Rattle.lt_num.specs.declared.value.Value.{Value}
 use Rattle.lt_num.specs.declared.value.Value.TheVariants as value
@@ -27,10 +27,11 @@ use Rattle.lt_rif.specs.declared.end.End.TheVariants as end
 use Rattle.lt_step.specs.Machine.{Phase, State, answered, running, started, step_in}
 use Rattle.lt_term.specs.Configuration.{Configuration}
 use Rattle.lt_term.specs.Scene.{Scene}
-use Rattle.lt_stress.specs.Laws.{LargeRunsAreOne, LargeRunsEnd, LargeRunsNeverWait, LargeScenesHaveOneInput, NumbersHaveScenes}
-use Rattle.lt_stress.specs.Plant.{replies_of}
+use Rattle.lt_stress.specs.Laws.{LargeRunsAreOne, LargeRunsAreTaken, LargeRunsEnd, LargeRunsNeverWait, LargeScenesHaveOneInput, NumbersHaveScenes}
+use Rattle.lt_stress.specs.Plant.{is_too_much, replies_of}
 use Rattle.lt_stress.specs.Run.{IsRefusedFor, IsRunOf, IsSceneOf, plan_of, run_of}
 use Rattle.lt_stress.proofs.OneRun.{IsOne, one_run}
+use Rattle.lt_stress.proofs.SmallOutputs.{runs_are_taken}
 
 -- ---- the scenario
 
@@ -111,7 +112,10 @@ large_runs_end n s ps e is h =
     cc stops
 
 pub large_runs_never_wait : LargeRunsNeverWait
-large_runs_never_wait n s ps stop is h =
-    let same =
-    subst (λ (x : Scene). run_of n x (record { bytes = replies_of n (text_to destination.Controller ps); is_closed = false }) silent ≡ record { pieces = ps; stop = stop }) (one_scene n s is) h in
-    (is_one n false (stream_of silent) ps ps stop stop same same).1
+large_runs_never_wait n s ps stop oracle is h =
+    let same = subst (λ (x : Scene). run_of n x (so_far (replies_of n (text_to destination.Controller ps))) oracle ≡ record { pieces = ps; stop = stop }) (one_scene n s is) h in
+    (is_one n false (stream_of oracle) ps ps stop stop same same).1
+
+pub large_runs_are_taken : LargeRunsAreTaken
+large_runs_are_taken n s controller oracle is =
+    subst (λ (x : Scene). is_too_much n (text_to destination.Controller (run_of n x controller oracle).pieces) ≡ false) (sym (one_scene n s is)) (runs_are_taken n controller oracle)

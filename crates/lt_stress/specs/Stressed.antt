@@ -20,5 +20,7 @@ pub data IsStressed (n : ℕ) (old new : Sink) : Stressed → Type 0 where
   -- .. or a prefix of it that isn't all, where a write failed
   cut : (scene : Scene) (ps : List Piece) → IsSceneOf n scene → IsRunOf n scene ps end.Limit →
       AppendsProperPrefix old.written new.written (stress_line n (sum_told ps)) → Rose old.faults new.faults → IsStressed n old new stressed.TraceWriteFailed
-  -- memory ran out
-  starved : new ≡ old → IsStressed n old new stressed.Memory
+  -- .. or nothing of it, where memory ran out for it
+  untold : (scene : Scene) (ps : List Piece) → IsSceneOf n scene → IsRunOf n scene ps end.Limit → new ≡ old → IsStressed n old new stressed.Untold
+  -- memory ran out before the run began
+  unstarted : new ≡ old → IsStressed n old new stressed.Unstarted

@@ -1,19 +1,15 @@
 //! Large runs.
 
-ghost use Rattle.std.specs.Prelude.{◌≡◌, ◌≤◌, ℕ, false, List, IfSome};
+ghost use Rattle.std.specs.Prelude.{◌≡◌, ◌≤◌, false, IfSome};
 ghost use Rattle.lt_drive.specs.Drive.{continuation_of};
 ghost use Rattle.lt_loop.specs.CoreView.{core_state};
 ghost use Rattle.lt_loop.specs.Event.{WantsTell};
-ghost use Rattle.lt_loop.specs.Play.{Piece};
-ghost use Rattle.lt_rif.specs.declared.end.Who.{Who};
-ghost use Rattle.lt_term.specs.Scene.{Scene};
 ghost use Rattle.lt_term.specs.SceneView.{scene};
-ghost use Rattle.lt_stress.specs.Run.{IsRunOf, IsSceneOf, sum_told};
+ghost use Rattle.lt_stress.specs.Run.{IsSceneOf};
 ghost use Rattle.lt_large.specs.Scenario.{limit_of};
 ghost use Rattle.lt_stress.specs.Stressed.{IsStressed};
-ghost use Rattle.lt_stress.specs.inner.Made.{HasRun, IsContinuationOf};
+ghost use Rattle.lt_stress.specs.inner.Made.{HasRun, IsAtFirst};
 ghost use Rattle.lt_stress.specs.inner.PlantView.{plant_state};
-ghost use Rattle.lt_stress.specs.inner.PlantState.{fresh};
 
 use crate::nowhere::Nowhere;
 use crate::plant::Plant;
@@ -22,12 +18,11 @@ use crate::scenario::{limit_of, scenario_text, variables_of};
 use crate::stressed::Stressed;
 use lt_args::{DEFAULT_BUDGET, DEFAULT_DECIMALS};
 use lt_draw::Draw;
-use lt_drive::{DriveEnd, drive};
+use lt_drive::drive;
 use lt_frontend::{Unprepared, scenario_of};
 use lt_io::{Failed, Sink, put};
 use lt_loop::{Core, Setup, Talk, Wants};
 use lt_play::Player;
-use lt_rif::End;
 use lt_session::Recorded;
 use lt_term::Scenario;
 use std::alloc::Global;
@@ -39,11 +34,11 @@ pub fn stress<S: Sink>(alloc: Global, number: u64, trace: &mut S) -> Stressed
     ensures { IsStressed number (S.state trace.old) (S.state trace.new) result }
 {
     let Ok(text) = scenario_text(alloc, variables_of(number)) else {
-        return Stressed::Memory;
+        return Stressed::Unstarted;
     };
     match scenario_of(alloc, &text, DEFAULT_DECIMALS, None) {
         Ok(scenario) => run(alloc, number, scenario, trace),
-        Err(Unprepared::Memory) => Stressed::Memory,
+        Err(Unprepared::Memory) => Stressed::Unstarted,
         Err(Unprepared::Refused(_)) => unreachable!(),
     }
 }
@@ -54,19 +49,18 @@ fn run<S: Sink>(alloc: Global, number: u64, scenario: Scenario, trace: &mut S) -
     ensures { IsStressed number (S.state trace.old) (S.state trace.new) result }
 {
     let Some(sum) = play(alloc, number, scenario) else {
-        return Stressed::Memory;
+        return Stressed::Unstarted;
     };
     tell(alloc, number, sum, trace)
 }
 
 // Writes the line of the run of a number, which ended by its limit and has this sum.
 fn tell<S: Sink>(alloc: Global, number: u64, sum: u64, trace: &mut S) -> Stressed
-    ensures { (s : Scene) (ps : List Piece) → IsSceneOf number s → IsRunOf number s ps End.Limit →
-        sum ≡ sum_told ps →
-        IsStressed number (S.state trace.old) (S.state trace.new) result }
+    requires { HasRun number sum }
+    ensures { IsStressed number (S.state trace.old) (S.state trace.new) result }
 {
     let Ok(line) = report(alloc, number, sum) else {
-        return Stressed::Memory;
+        return Stressed::Untold;
     };
     match put(trace, &line) {
         Ok(()) => Stressed::Done,
@@ -75,10 +69,10 @@ fn tell<S: Sink>(alloc: Global, number: u64, sum: u64, trace: &mut S) -> Stresse
 }
 
 // Plays the run of a scenario against the plant, and gives the sum of all values that it told the plant. None where memory ran
-// out, or a side failed.
+// out before the run began.
 fn play(alloc: Global, number: u64, scenario: Scenario) -> Option<u64>
     requires { IsSceneOf number (scene scenario) }
-    ensures { IfSome result (λ sum. HasRun number (scene scenario) sum) }
+    ensures { IfSome result (λ sum. HasRun number sum) }
 {
     let Ok(mut plant) = Plant::make(alloc, number) else {
         return None;
@@ -89,7 +83,7 @@ fn play(alloc: Global, number: u64, scenario: Scenario) -> Option<u64>
     let Ok(mut core) = Core::make(alloc, player, setup(number)) else {
         return None;
     };
-    play_core(alloc, &mut core, &mut plant)
+    Some(play_core(alloc, &mut core, &mut plant))
 }
 
 // What the core of the run is told.
@@ -113,25 +107,14 @@ fn setup(number: u64) -> Setup
     }
 }
 
-// Plays the run of a core against a plant. None where a side failed.
-fn play_core(alloc: Global, core: &mut Core<Player>, plant: &mut Plant) -> Option<u64>
-    requires { WantsTell (core_state core.old) Wants.Turn }
-    ensures { (n : ℕ) (s : Scene) → IsSceneOf n s → IsContinuationOf n s (continuation_of (core_state core.old)) →
-        plant_state plant.old ≡ fresh n → IfSome result (λ sum. HasRun n s sum) }
+// Plays the run of a core against a plant, and gives its sum. The plant never fails in it, and it ends by its limit.
+fn play_core(alloc: Global, core: &mut Core<Player>, plant: &mut Plant) -> u64
+    requires wants { WantsTell (core_state core.old) Wants.Turn }
+    requires at_first { IsAtFirst plant.old.number (plant_state plant.old)
+        (continuation_of (core_state core.old)) }
+    ensures { HasRun plant.old.number result }
 {
     let mut nobody = Recorded::new(&[]);
-    match drive(alloc, core, plant, &mut nobody, &mut Nowhere) {
-        DriveEnd::Ended(end) => unbroken(end, plant.sum()),
-        DriveEnd::TraceWriteFailed { .. } => unreachable!(),
-    }
-}
-
-// The sum of a run that ended so. None where a side failed, which the plant doesn't do in a run.
-fn unbroken(end: End, sum: u64) -> Option<u64>
-    ensures { IfSome result (λ s. (s ≡ sum) × ((w : Who) → end ≡ End.Device w → ⊥)) }
-{
-    match end {
-        End::Device(_) => None,
-        _ => Some(sum),
-    }
+    let _ended = drive(alloc, core, plant, &mut nobody, &mut Nowhere);
+    plant.sum()
 }
