@@ -35,6 +35,9 @@ keeps_both a b c g h = let k = g.more in let l = h.more in record { more = omega
 pub grown_both : (a b c : Table) → IsGrown a b → IsGrown b c → IsGrown a c
 grown_both a b c g h = record { keeps = keeps_both _ _ _ g.keeps h.keeps; kinds = h.kinds ∙ g.kinds }
 
+pub grown_alone : (a : Table) → IsGrown a a
+grown_alone a = record { keeps = record { more = omega arith; same = λ n w. refl }; kinds = refl }
+
 -- What is put stays.
 
 pub term_kept : (es new : List Expression) (zs : List Exception) (t : Expanded) (p : Process ℕ) → Keeps es new → IsTerm es zs t p → IsTerm new zs t p
@@ -90,7 +93,7 @@ row_listed end_of-Part = refl
 row_listed (more_of-Part w a rest) = ap (λ ps. x.part (placed w) (expanded a) ps) (row_listed rest)
 
 -- alternatives are a list of the code
-parts_listed : (p : Parts) → parts p ≡ parts_from (out-Parts p).items.items
+pub parts_listed : (p : Parts) → parts p ≡ parts_from (out-Parts p).items.items
 unfolding out-Parts out shown-the_row-Part-0
 parts_listed (Parts' shape row) = row_listed row ∙ ap parts_from (sym (items_shown-the_row-Part-0 shape row))
 
@@ -144,8 +147,12 @@ last_put es zs ps cs d w t h n p = record {
   within = within_last (among (length es) (length zs)) cs w t (lt-ltb w (length es) n.within) p.within h.within;
 }
 
-number_kept : (es new : List Expression) (n : ℕ) (e : Expression) → Keeps es new → IsNumber es n e → IsNumber new n e
+pub number_kept : (es new : List Expression) (n : ℕ) (e : Expression) → Keeps es new → IsNumber es n e → IsNumber new n e
 number_kept es new n e k h = let l = k.more in let w = h.within in record { within = omega arith; spells = k.same n h.within ∙ h.spells }
+
+-- where none is put yet
+pub none_put : (es : List Expression) (zs : List Exception) (cs : List (ℕ × Term)) → cs ≡ [] → AreChoices es zs x.no_part (choices cs)
+none_put es zs cs e = subst (λ ds. AreChoices es zs x.no_part (choices ds)) (sym e) (record { spells = refl; within = refl })
 
 -- one more alternative is put
 pub alternative_put : (old mid new : List Expression) (zs : List Exception) (ps : List Part) (i : ℕ) (d : Part) (cs ds : List (ℕ × Term)) (w : ℕ) (t : Term) → i < length ps → d ≡ get_or ps i d

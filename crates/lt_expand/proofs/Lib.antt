@@ -8,6 +8,10 @@ pub mod Terms
 pub mod Spelled
 pub mod Shapes
 pub mod Grown
+pub mod Filled
+pub mod Measures
+pub mod Throughout
+pub mod Unrefused
 pub mod Declares
 pub mod There
 pub mod Prepared

@@ -1,11 +1,11 @@
 -- What a scenario keeps, where it is made of a node's tree.
-use Rattle.std.proofs.Common.{◌≡◌, ℕ, zero, suc, ◌+◌, ◌≤◌, IsTrue, List, [], ◌∷◌, map, length, refl, sym, ap, ◌∙◌, subst, arith}
-use Rattle.std.specs.List.{flat_map}
+use Rattle.std.proofs.Common.{◌≡◌, ℕ, zero, suc, ◌+◌, ◌≤◌, IsTrue, true, List, [], ◌∷◌, map, length, refl, sym, ap, ◌∙◌, subst, arith}
+use Rattle.std.specs.List.{flat_map, list_all}
 use Rattle.std.proofs.lemmas.List.{length-map}
 use Rattle.lt_num.specs.declared.kind.Kind.{Kind}
 use Rattle.lt_expand.proofs.Sizes.{length-entries}
 use Rattle.lt_formula.specs.Kinds.{Kinds}
-use Rattle.lt_formula.specs.View.{table_expressions, table_len}
+use Rattle.lt_formula.specs.View.{table_expressions, table_kinds, table_len}
 use Rattle.lt_formula.specs.declared.table.Table.{Table}
 use Rattle.lt_macros.specs.Expanded.{Declared, Exception, Node}
 use Rattle.lt_formula.specs.Limits.{most_variables}
@@ -14,11 +14,16 @@ use Rattle.lt_macros.specs.Preorder.{Item, counter_at, counters_in, items, local
 use Rattle.lt_macros.specs.Scoping.{AreInside}
 use Rattle.lt_term.specs.Process.{Process}
 use Rattle.lt_formula.specs.Expression.{Expression}
+use Rattle.lt_term.specs.Classes.{has_known_condition, is_linear_node}
+use Rattle.lt_term.specs.Depth.{term_depth}
+use Rattle.lt_term.specs.Limits.{most_expression_depth, most_nodes, most_term_depth}
+use Rattle.lt_term.specs.Named.{parts_in}
 use Rattle.lt_term.specs.Scene.{Variable}
 use Rattle.lt_term.specs.SceneView.{turns, variable}
 use Rattle.lt_term.specs.Scope.{are_named_inside}
 use Rattle.lt_term.specs.Subterms as subterms
 use Rattle.lt_term.specs.Subterms.{is_at_start, is_narrow, numbers_from}
+use Rattle.lt_term.specs.Valid.{AreNamed, has_known_conditions, has_known_weights, is_linear_throughout, is_shallow, node_count}
 use Rattle.lt_term.specs.View.{all_kinds, process, process_over}
 use Rattle.lt_term.specs.Within.{is_within}
 use Rattle.lt_term.specs.declared.counter.Counter.{Counter}
@@ -28,11 +33,15 @@ use Rattle.lt_expand.specs.Classes.{kinds_of}
 use Rattle.lt_expand.specs.Exceptions.{exception_names, numbered}
 use Rattle.lt_expand.specs.Scenes.{locals_of, process_of, variable_of}
 use Rattle.lt_expand.specs.Static.{least_and_most}
-use Rattle.lt_expand.specs.inner.Put.{IsTerm}
+use Rattle.lt_expand.specs.inner.Places.{judged_refusals}
+use Rattle.lt_expand.specs.inner.Put.{IsFilled, IsTerm}
 use Rattle.lt_expand.specs.inner.Ready.{AreReady}
 use Rattle.lt_expand.proofs.Declares.{locals_many}
+use Rattle.lt_expand.proofs.Filled.{filled_few, filled_named}
 use Rattle.lt_expand.proofs.Prepared.{IsLimited, follow_up}
 use Rattle.lt_expand.proofs.Terms.{term_counters, term_inside, term_locals, term_narrow, term_unbegun}
+use Rattle.lt_expand.proofs.Throughout.{depth_down, named_pass, throughout_down}
+use Rattle.lt_expand.proofs.Unrefused.{body_conditions, body_few, body_flat, body_linear, body_shallow, body_weights}
 
 -- what is ready of a node is ready where its kinds and exceptions are these
 pub put_ready : (ks : Kinds) (zs : List Exception) (node : Node) → ks ≡ kinds_of node → zs ≡ numbered node.body → AreReady (kinds_of node) (numbered node.body) node.body → AreReady ks zs node.body
@@ -154,3 +163,55 @@ start_made node p e = ap is_at_start e ∙ term_unbegun (numbered node.body) nod
 
 pub narrow_made : (node : Node) (p : Process Expression) → p ≡ process_of (numbered node.body) node.body → IsLimited node → IsTrue (is_narrow p)
 narrow_made node p e few = ap is_narrow e ∙ term_narrow (numbered node.body) node.body few.narrow
+
+-- TABLES
+
+-- what a table has that was filled with what a node does: each expression is named in its body, and they are few
+pub record IsTable (node : Node) (table : Table) (p : Process Expression) : Type 0 where
+  pub body : p ≡ process_of (numbered node.body) node.body
+  pub kinds : table_kinds table ≡ kinds_of node
+  pub named : AreNamed (table_expressions table) p
+  pub few : table_len table ≤ length (parts_in p)
+
+pub table_made : (node : Node) (empty : List Expression) (table : Table) (zs : List Exception) (p : Process Expression) → empty ≡ [] → zs ≡ numbered node.body
+    → p ≡ process_of (numbered node.body) node.body → table_kinds table ≡ kinds_of node → IsFilled empty (table_expressions table) (parts_in (process_of zs node.body)) → IsTable node table p
+table_made node empty table zs p none e is same h =
+    let filled : IsFilled empty (table_expressions table) (parts_in p) = subst (λ q. IsFilled empty (table_expressions table) (parts_in q)) (ap (λ ys. process_of ys node.body) e ∙ sym is) h in
+    record {
+      body = is;
+      kinds = same;
+      named = filled_named empty (table_expressions table) (parts_in p) none filled;
+      few = subst (λ k. k ≤ length (parts_in p)) (length-entries table.nodes.entries) (filled_few empty (table_expressions table) (parts_in p) none filled);
+    }
+
+pub linear_made : (n : ℕ) (node : Node) (table : Table) (p : Process Expression) → judged_refusals n node ≡ [] → IsTable node table p → list_all (is_linear_throughout (table_kinds table)) (table_expressions table) ≡ true
+linear_made n node table p h made =
+    let zs = numbered node.body in
+    let ks = kinds_of node in
+    ap (λ k. list_all (is_linear_throughout k) (table_expressions table)) made.kinds
+    ∙ named_pass (is_linear_throughout ks) (throughout_down (is_linear_node ks)) (table_expressions table) (process_of zs node.body) (body_linear n node zs h) (subst (AreNamed (table_expressions table)) made.body made.named)
+
+pub conditions_made : (n : ℕ) (node : Node) (table : Table) (p : Process Expression) → judged_refusals n node ≡ [] → IsTable node table p
+    → list_all (has_known_conditions (table_kinds table)) (table_expressions table) ≡ true
+conditions_made n node table p h made =
+    let zs = numbered node.body in
+    let ks = kinds_of node in
+    ap (λ k. list_all (has_known_conditions k) (table_expressions table)) made.kinds
+    ∙ named_pass (has_known_conditions ks) (throughout_down (has_known_condition ks)) (table_expressions table) (process_of zs node.body) (body_conditions n node zs h) (subst (AreNamed (table_expressions table)) made.body made.named)
+
+pub weights_made : (n : ℕ) (node : Node) (table : Table) (p : Process Expression) → judged_refusals n node ≡ [] → IsTable node table p → has_known_weights (table_kinds table) p ≡ true
+weights_made n node table p h made = (λ i. has_known_weights (made.kinds i) (made.body i)) ∙ body_weights n node (numbered node.body) h
+
+pub shallow_made : (node : Node) (table : Table) (p : Process Expression) → IsLimited node → IsTable node table p → list_all is_shallow (table_expressions table) ≡ true
+shallow_made node table p few made =
+    let zs = numbered node.body in
+    named_pass is_shallow (depth_down most_expression_depth) (table_expressions table) (process_of zs node.body) (body_shallow node zs few) (subst (AreNamed (table_expressions table)) made.body made.named)
+
+pub flat_made : (node : Node) (table : Table) (p : Process Expression) → IsLimited node → IsTable node table p → term_depth p ≤ most_term_depth
+flat_made node table p few made = subst (λ q. term_depth q ≤ most_term_depth) (sym made.body) (body_flat node (numbered node.body) few)
+
+pub nodes_made : (node : Node) (table : Table) (p : Process Expression) → IsLimited node → IsTable node table p → node_count p ≤ most_nodes
+nodes_made node table p few made = subst (λ q. node_count q ≤ most_nodes) (sym made.body) (body_few node (numbered node.body) few)
+
+pub expressions_made : (node : Node) (table : Table) (p : Process Expression) → IsLimited node → IsTable node table p → table_len table ≤ most_nodes
+expressions_made node table p few made = let l = nodes_made node table p few made in let m = made.few in omega (arith, l, m)

@@ -40,6 +40,8 @@ at_most a b h = grind (arith, nat_tests)
 -- what the limits say
 pub record IsLimited (node : Node) : Type 0 where
   pub nodes : node_count node ≤ most_nodes
+  pub flat : term_depth node.body ≤ most_term_depth
+  pub shallow : list_all (λ e. nat_le (expression_depth e) most_expression_depth) (expressions_in node) ≡ true
   pub narrow : list_all has_few (items node.body) ≡ true
   pub inputs : length node.inputs ≤ most_variables
   pub drawn : drawn_count node ≤ most_variables
@@ -48,14 +50,19 @@ pub record IsLimited (node : Node) : Type 0 where
 pub limited : (node : Node) → passed_limits node ≡ [] → IsLimited node
 limited node h =
     let first = unless (nat_le (node_count node) most_nodes) Nodes in
-    let second = unless (nat_le (term_depth node.body) most_term_depth && list_all (λ e. nat_le (expression_depth e) most_expression_depth) (expressions_in node)) Depth in
+    let shallow = list_all (λ e. nat_le (expression_depth e) most_expression_depth) (expressions_in node) in
+    let deep = nat_le (term_depth node.body) most_term_depth && shallow in
+    let second = unless deep Depth in
     let third = unless (list_all has_few (items node.body)) Children in
     let both = nat_le (length node.inputs) most_variables && nat_le (drawn_count node) most_variables in
     let fourth = unless both Variables in
     let rest : third ++ fourth ≡ [] = right_none second (third ++ fourth) (right_none first (second ++ (third ++ fourth)) h) in
+    let depths : deep ≡ true = unless_none deep Depth (left_none second (third ++ fourth) (right_none first (second ++ (third ++ fourth)) h)) in
     let variables : both ≡ true = unless_none both Variables (right_none third fourth rest) in
     record {
       nodes = at_most (node_count node) most_nodes (unless_none (nat_le (node_count node) most_nodes) Nodes (left_none first (second ++ (third ++ fourth)) h));
+      flat = at_most (term_depth node.body) most_term_depth (left_of (nat_le (term_depth node.body) most_term_depth) shallow depths);
+      shallow = right_of (nat_le (term_depth node.body) most_term_depth) shallow depths;
       narrow = unless_none (list_all has_few (items node.body)) Children (left_none third fourth rest);
       inputs = at_most (length node.inputs) most_variables (left_of (nat_le (length node.inputs) most_variables) (nat_le (drawn_count node) most_variables) variables);
       drawn = at_most (drawn_count node) most_variables (right_of (nat_le (length node.inputs) most_variables) (nat_le (drawn_count node) most_variables) variables);
@@ -207,7 +214,7 @@ node_ready node few named numbers inside =
 
 -- WHAT IS FINE
 
-map_none : {X Y : Type 0} (f : X → Y) (xs : List X) → map f xs ≡ [] → xs ≡ []
+pub map_none : {X Y : Type 0} (f : X → Y) (xs : List X) → map f xs ≡ [] → xs ≡ []
 map_none f [] h = refl
 map_none f (x ∷ xs) h = let untrue : f x ∷ map f xs ≡ [] = h in absurd (cc)
 

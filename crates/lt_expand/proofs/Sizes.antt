@@ -1,5 +1,5 @@
 -- How many expressions a table has.
-use Rattle.std.proofs.Common.{◌≡◌, ℕ, ◌+◌, List, [], ◌∷◌, ◌++◌, length, length-append, ◌∙◌, arith}
+use Rattle.std.proofs.Common.{◌≡◌, ◌+◌, List, [], ◌∷◌, ◌++◌, length, length-append, ◌∙◌, arith}
 use Rattle.std.proofs.lemmas.List.{length-map}
 use Rattle.lt_formula.specs.Expression.{Expression}
 use Rattle.lt_formula.specs.Table.{expression_at, expressions_of, extended, nodes_of}

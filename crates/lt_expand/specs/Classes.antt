@@ -1,17 +1,13 @@
 -- Where an expression depends on what is drawn in the same instant and may not. Such an expression is controllable.
-use Rattle.std.specs.Prelude.{Bool, true, false, not, ◌&&◌, ◌||◌, List, map}
+use Rattle.std.specs.Prelude.{Bool, not, List, map}
 use Rattle.std.specs.List.{flat_map}
 use Rattle.lt_ast.specs.declared.span.Span.{Span}
-use Rattle.lt_num.specs.declared.kind.Kind.{Kind}
-use Rattle.lt_num.specs.declared.kind.Kind.TheVariants as kind
-use Rattle.lt_formula.specs.Facts.{facts_of}
 use Rattle.lt_formula.specs.Kinds.{Kinds}
-use Rattle.lt_formula.specs.declared.operator.BinaryOperator.{BinaryOperator}
-use Rattle.lt_formula.specs.declared.operator.BinaryOperator.TheVariants as two
-use Rattle.lt_macros.specs.Placed.{Placed, binary, choice, bare, place_of}
+use Rattle.lt_macros.specs.Placed.{Placed, bare, place_of}
 use Rattle.lt_macros.specs.Expanded.{Node}
 use Rattle.lt_macros.specs.Failing.{unless}
 use Rattle.lt_macros.specs.Preorder.{expressions_in, locals_in, weights_in, with_parts}
+use Rattle.lt_term.specs.Classes as without_places
 
 -- the kinds of a node's variables
 abbrev pub kinds_of : Node → Kinds
@@ -19,36 +15,15 @@ kinds_of node = record { inputs = map (λ d. d.kind) node.inputs; outputs = map 
 
 -- an expression depends on an output or a local of the instant
 abbrev pub is_controllable : Kinds → Placed → Bool
-is_controllable kinds e = not (facts_of kinds (bare e)).is_known
+is_controllable kinds e = without_places.is_controllable kinds (bare e)
 
--- the kind of an expression's values
-abbrev pub kind_in : Kinds → Placed → Kind
-kind_in kinds e = (facts_of kinds (bare e)).kind
-
--- int or real
-abbrev pub is_number : Kind → Bool
-is_number kind.Bool = false
-is_number kind.Int = true
-is_number kind.Real = true
-
--- whether what an operator gives is linear in what is drawn, where the left part has this kind and the parts are controllable or
--- not: a product has a known part, a quotient of reals a known divisor, and a quotient or a rest of ints two known parts
-abbrev pub is_linear : BinaryOperator → Kind → Bool → Bool → Bool
-is_linear two.Mul k left right = not (left && right)
-is_linear two.Div kind.Real left right = not right
-is_linear two.Div k left right = not (left || right)
-is_linear two.Mod k left right = not (left || right)
-is_linear op k left right = true
-
--- whether a node of an expression is linear in what is drawn
+-- whether the outermost node of an expression is linear in what is drawn
 abbrev pub is_linear_node : Kinds → Placed → Bool
-is_linear_node kinds (binary op d e at) = is_linear op (kind_in kinds d) (is_controllable kinds d) (is_controllable kinds e)
-is_linear_node kinds e = true
+is_linear_node kinds e = without_places.is_linear_node kinds (bare e)
 
--- whether a node isn't a choice between numbers by what is drawn
+-- whether it isn't a choice between numbers by what is drawn
 abbrev pub has_known_condition : Kinds → Placed → Bool
-has_known_condition kinds (choice c d e at) = not (is_number (kind_in kinds d) && is_controllable kinds c)
-has_known_condition kinds e = true
+has_known_condition kinds e = without_places.has_known_condition kinds (bare e)
 
 -- the places of those that fail a test
 abbrev pub failing : (Placed → Bool) → List Placed → List Span

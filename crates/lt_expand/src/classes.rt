@@ -1,7 +1,7 @@
 //! Where an expression depends on what is drawn in the same instant and may not.
 
 ghost use Rattle.std.specs.Prelude.{◌≡◌};
-ghost use Rattle.lt_expand.specs.Classes.{is_linear, is_number};
+ghost use Rattle.lt_term.specs.Classes.{is_linear, is_number};
 ghost use Rattle.lt_expand.specs.inner.Judged.{binary_judged, choice_judged, judged, kinds, unary_judged, unrefused};
 ghost use Rattle.lt_macros.specs.Tree.{placed};
 

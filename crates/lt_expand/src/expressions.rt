@@ -8,7 +8,8 @@ ghost use Rattle.lt_formula.specs.View.{table_expressions, table_kinds};
 ghost use Rattle.lt_formula.specs.declared.shape.Shape.TheVariants as shape;
 ghost use Rattle.lt_macros.specs.Placed.{bare};
 ghost use Rattle.lt_macros.specs.Tree.{placed};
-ghost use Rattle.lt_expand.specs.inner.Put.{IsGrown};
+ghost use Rattle.lt_term.specs.Named.{with_parts};
+ghost use Rattle.lt_expand.specs.inner.Put.{IsFilled, IsGrown};
 ghost use Rattle.lt_expand.specs.inner.Ready.{IsReady};
 
 use lt_formula::{BinaryOperator, ExpNode, Memory, Role, Table, UnaryOperator};
@@ -21,6 +22,9 @@ pub(crate) fn put_expression(table: &mut Table, written: &Placed) -> Result<u32,
     ensures number { IfOk result (λ number.
         IsNumber (table_expressions table.new) number (bare (placed written.now))) }
     ensures grown { OnOk result (IsGrown table.old table.new) }
+    ensures filled { OnOk result
+        (IsFilled (table_expressions table.old) (table_expressions table.new)
+        (with_parts (bare (placed written.now)))) }
 {
     match written {
         Placed::Constant(kind, value, _) => table.push(constant_node(*kind, *value)),

@@ -4,9 +4,11 @@ ghost use Rattle.std.specs.Prelude.{◌≡◌, IfOk, OnOk};
 ghost use Rattle.lt_formula.specs.View.{table_expressions, table_kinds};
 ghost use Rattle.lt_macros.specs.Tree.{exception, expanded, parts};
 ghost use Rattle.lt_term.specs.View.{choices, process};
+ghost use Rattle.lt_term.specs.Named.{parts_in};
 ghost use Rattle.lt_expand.specs.Exceptions.{number_in};
+ghost use Rattle.lt_expand.specs.Scenes.{process_of};
 ghost use Rattle.lt_expand.specs.inner.Declarations.{exceptions};
-ghost use Rattle.lt_expand.specs.inner.Put.{AreChoices, IsGrown, IsTerm};
+ghost use Rattle.lt_expand.specs.inner.Put.{AreChoices, IsFilled, IsGrown, IsTerm, parts_in_each};
 ghost use Rattle.lt_expand.specs.inner.Ready.{AreEachReady, AreReady, IsKnown};
 
 use crate::exceptions::Exceptions;
@@ -30,6 +32,9 @@ pub(crate) fn put_term(
         IsTerm (table_expressions table.new) (exceptions known.now) (expanded trace.now)
         (process made)) }
     ensures grown { OnOk result (IsGrown table.old table.new) }
+    ensures filled { OnOk result
+        (IsFilled (table_expressions table.old) (table_expressions table.new)
+        (parts_in (process_of (exceptions known.now) (expanded trace.now)))) }
 {
     match trace {
         Expanded::Eps => Ok(Term::Eps),
@@ -114,6 +119,9 @@ fn put_part(
         IsTerm (table_expressions table.new) (exceptions known.now) (expanded trace.now)
         (process made.value)) }
     ensures grown { OnOk result (IsGrown table.old table.new) }
+    ensures filled { OnOk result
+        (IsFilled (table_expressions table.old) (table_expressions table.new)
+        (parts_in (process_of (exceptions known.now) (expanded trace.now)))) }
 {
     let made = put_term(alloc, table, known, trace)?;
     Ok(Rc::new(alloc, made)?)
@@ -132,6 +140,9 @@ fn put_parts(
         AreChoices (table_expressions table.new) (exceptions known.now) (parts alternatives.now)
         (choices made.items)) }
     ensures grown { OnOk result (IsGrown table.old table.new) }
+    ensures filled { OnOk result
+        (IsFilled (table_expressions table.old) (table_expressions table.new)
+        (parts_in_each (exceptions known.now) (parts alternatives.now))) }
 {
     let mut made = Vec::new(alloc);
     for alternative in &alternatives.items {

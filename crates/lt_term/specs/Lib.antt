@@ -2,7 +2,7 @@
 pub mod Process
 -- A scenario as contracts see it.
 pub mod Scene
--- How large a scenario may be.
+-- How large a scenario and the tree of an instant may be.
 pub mod Limits
 -- Whether a value may be one of a variable.
 pub mod Fitting
@@ -12,6 +12,14 @@ pub mod Subterms
 pub mod Within
 -- Where locals are named.
 pub mod Scope
+-- The expressions that a term names, and their parts.
+pub mod Named
+-- Where an expression depends on what is drawn in the same instant and may not.
+pub mod Classes
+-- How deep terms and expressions are.
+pub mod Depth
+-- What a scenario keeps of its table and its body.
+pub mod Valid
 -- How many turns of counted loops are done.
 pub mod Counted
 -- Counted loops turn at most once in an instant.

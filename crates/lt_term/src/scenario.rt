@@ -1,11 +1,15 @@
 //! Scenarios.
 
 ghost use Rattle.std.specs.Prelude.{◌≡◌, ◌≤◌, ◌+◌, [], IsTrue, length};
+ghost use Rattle.std.specs.List.{list_all};
 ghost use Rattle.lt_num.specs.Bounds.{most_decimals};
-ghost use Rattle.lt_formula.specs.View.{table_kinds, table_len};
+ghost use Rattle.lt_formula.specs.View.{table_expressions, table_kinds, table_len};
 ghost use Rattle.lt_formula.specs.Limits.{most_variables};
+ghost use Rattle.lt_term.specs.Depth.{term_depth};
+ghost use Rattle.lt_term.specs.Limits.{most_nodes, most_term_depth};
 ghost use Rattle.lt_term.specs.Scope.{are_named_inside};
 ghost use Rattle.lt_term.specs.Subterms.{counters_in, is_at_start, is_narrow, locals_in, numbers_from};
+ghost use Rattle.lt_term.specs.Valid.{AreNamed, has_known_conditions, has_known_weights, is_linear_throughout, is_shallow, node_count};
 ghost use Rattle.lt_term.specs.View.{all_kinds, process, process_over};
 ghost use Rattle.lt_term.specs.Within.{is_within};
 
@@ -67,4 +71,25 @@ pub struct Scenario {
     // Nothing of the body is done yet, and each of its choices has at most 64 alternatives.
     pub ghost at_start: { IsTrue (is_at_start (process_over table body)) },
     pub ghost narrow: { IsTrue (is_narrow (process_over table body)) },
+
+    // Each expression of the table is a constraint or a weight of the body, or a part of one.
+    pub ghost named: { ∥ AreNamed (table_expressions table) (process_over table body) ∥₁ },
+
+    // No expression of the table, and no part of one, is a product of two controllable parts, a quotient by a
+    // controllable divisor, a quotient or a rest of ints with a controllable part, or a choice between numbers by
+    // a controllable condition; and no weight of the body is controllable.
+    pub ghost linear: { IsTrue
+        (list_all (is_linear_throughout (table_kinds table)) (table_expressions table)) },
+    pub ghost conditions: { IsTrue
+        (list_all (has_known_conditions (table_kinds table)) (table_expressions table)) },
+    pub ghost weights: { IsTrue
+        (has_known_weights (table_kinds table) (process_over table body)) },
+
+    // There are at most 100,000 expressions in the table, and as many terms and nodes of expressions in the body,
+    // each counted each time that it stands there. The terms stand at most 1,000 deep in one another, and the parts
+    // of an expression 5,000 deep.
+    pub ghost few_expressions: { table_len table ≤ most_nodes },
+    pub ghost few_nodes: { node_count (process_over table body) ≤ most_nodes },
+    pub ghost flat: { term_depth (process_over table body) ≤ most_term_depth },
+    pub ghost shallow: { IsTrue (list_all is_shallow (table_expressions table)) },
 }

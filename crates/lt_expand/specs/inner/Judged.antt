@@ -9,7 +9,8 @@ use Rattle.lt_formula.specs.declared.operator.UnaryOperator.{UnaryOperator}
 use Rattle.lt_formula.specs.declared.operator.BinaryOperator.{BinaryOperator}
 use Rattle.lt_macros.specs.Placed.{Placed, bare}
 use Rattle.lt_macros.specs.Preorder.{with_parts}
-use Rattle.lt_expand.specs.Classes.{failing, has_known_condition, is_linear, is_linear_node, is_number}
+use Rattle.lt_term.specs.Classes.{is_linear, is_number}
+use Rattle.lt_expand.specs.Classes.{failing, has_known_condition, is_linear_node}
 use Rattle.lt_macros.specs.Failing.{unless}
 use Rattle.lt_expand.specs.inner.Firsts.{first}
 use Rattle.lt_expand.specs.declared.kinds.Kinds as code

@@ -1,5 +1,6 @@
 -- Terms whose expressions are numbers of a table that grows.
-use Rattle.std.specs.Prelude.{◌≡◌, ℕ, true, nat_lt, List, [], ◌∷◌, length}
+use Rattle.std.specs.Prelude.{◌≡◌, ◌≤◌, ◌+◌, ℕ, true, nat_lt, List, [], ◌∷◌, ◌++◌, length}
+use Rattle.std.specs.List.{All, Contains, flat_map}
 use Rattle.lt_formula.specs.Expression.{Expression}
 use Rattle.lt_formula.specs.Table.{Keeps, spelled}
 use Rattle.lt_formula.specs.View.{table_expressions, table_kinds}
@@ -8,6 +9,7 @@ use Rattle.lt_macros.specs.Expanded.{Exception, Expanded, Parts, no_part, part}
 use Rattle.lt_macros.specs.Tree.{expanded, placed}
 use Rattle.lt_macros.specs.declared.tree.Part.{Part}
 use Rattle.lt_expand.specs.Scenes.{choices_of, process_of}
+use Rattle.lt_term.specs.Named.{expressions_in_each, with_parts}
 use Rattle.lt_term.specs.Process.{Process, Choices, choices_with_constraints, with_constraints}
 use Rattle.lt_term.specs.Within.{Tests, passes, each_passes}
 
@@ -15,6 +17,11 @@ use Rattle.lt_term.specs.Within.{Tests, passes, each_passes}
 pub record IsGrown (old new : Table) : Type 0 where
   pub keeps : Keeps (table_expressions old) (table_expressions new)
   pub kinds : table_kinds new ≡ table_kinds old
+
+-- A table has no other expressions than it had and these, and no more new ones than there are of these.
+pub record IsFilled (old new more : List Expression) : Type 0 where
+  pub only : All (Contains (old ++ more)) new
+  pub few : length new ≤ length old + length more
 
 -- whether constraints are among so many, and exceptions too
 abbrev pub among : ℕ → ℕ → Tests ℕ
@@ -29,6 +36,10 @@ pub record IsTerm (es : List Expression) (zs : List Exception) (x : Expanded) (p
 pub record AreChoices (es : List Expression) (zs : List Exception) (ps : Parts) (cs : Choices ℕ) : Type 0 where
   pub spells : choices_with_constraints (spelled es) cs ≡ choices_of zs ps
   pub within : each_passes (among (length es) (length zs)) cs ≡ true
+
+-- the expressions of alternatives and all their parts, where exceptions have this order
+abbrev pub parts_in_each : List Exception → Parts → List Expression
+parts_in_each zs ps = flat_map with_parts (expressions_in_each (choices_of zs ps))
 
 -- alternatives of the code
 abbrev pub parts_from : List Part → Parts

@@ -1,7 +1,8 @@
 use Rattle.std.proofs.Common.{IsTrue, ap, map, string_bytes, subst, sym, ◌∙◌}
+use Rattle.std.proofs.lemmas.Grind.{merely}
 use Rattle.std.proofs.lemmas.List.{length-map}
 use Rattle.std.specs.List.{All}
-use Rattle.lt_formula.specs.View.{table_kinds, table_len}
+use Rattle.lt_formula.specs.View.{table_expressions, table_kinds, table_len}
 use Rattle.lt_macros.specs.Expanded as x
 use Rattle.lt_macros.specs.Tree.{declared, node}
 use Rattle.lt_term.specs.View.{process as process_view, process_over}
@@ -10,7 +11,7 @@ use Rattle.lt_expand.specs.Scenes.{variable_of}
 use Rattle.lt_expand.specs.inner.Declarations.{exceptions}
 use Rattle.lt_expand.specs.inner.Items.{items_view}
 use Rattle.lt_expand.specs.inner.Ready.{IsFine}
-use Rattle.lt_expand.proofs.Made.{IsBody, IsMade, body_made, drawn_few, inputs_few, inside_made, loops_made, made_kinds, narrow_made, own_counters, own_locals, put_ready, scopes_made, start_made}
+use Rattle.lt_expand.proofs.Made.{IsBody, IsMade, IsTable, body_made, conditions_made, drawn_few, expressions_made, flat_made, inputs_few, inside_made, linear_made, loops_made, made_kinds, narrow_made, nodes_made, own_counters, own_locals, put_ready, scopes_made, shallow_made, start_made, table_made, weights_made}
 use Rattle.lt_expand.proofs.Prepared.{inputs_fine, limited, node_ready, outputs_fine, parts_are_fine}
 use Rattle.lt_expand.proofs.scenario.scenario.Goals as goal
 
@@ -54,15 +55,26 @@ invariant_of-result c =
     let body : IsBody from table c.in_ok-body.body _ = body_made from table c.in_ok-body.body (exceptions c.in_ok-known.known) (map string_bytes c.in_ok-exceptions.exceptions.items)
     c.in_ok-known.ensures c.in_ok-exceptions.ensures c.in_ok-body.ensures.term in
     let process = process_over table c.in_ok-body.body in
+    let same = c.in_ok-body.ensures.grown.kinds ∙ c.new-table.ensures.kinds ∙ c.in_ok-kinds.ensures in
+    let filled : IsTable from table process =
+    table_made from (table_expressions c.new-table.result) table (exceptions c.in_ok-known.known) process c.new-table.ensures.expressions c.in_ok-known.ensures body.is same c.in_ok-body.ensures.filled in
     record {
       few_decimals = c.requires.few;
       few_inputs = inputs_few n from inputs outputs locals counters few made;
       few_drawn = drawn_few n from inputs outputs locals counters few made;
-      kinds = made_kinds n from inputs outputs locals counters (table_kinds table) (c.in_ok-body.ensures.grown.kinds ∙ c.new-table.ensures.kinds ∙ c.in_ok-kinds.ensures) made;
+      kinds = made_kinds n from inputs outputs locals counters (table_kinds table) same made;
       within = subst (λ k. IsTrue (is_within (table_len table) k (process_view c.in_ok-body.body))) (length-map c.in_ok-exceptions.exceptions.items string_bytes) body.within;
       scopes = scopes_made n from inputs outputs locals counters process body.is c.requires.numbered made;
       loops = loops_made n from inputs outputs locals counters process body.is c.requires.numbered made;
       inside = inside_made from process body.is c.requires.inside;
       at_start = start_made from process body.is;
       narrow = narrow_made from process body.is few;
+      named = merely filled.named;
+      linear = linear_made n from table process c.requires.judged filled;
+      conditions = conditions_made n from table process c.requires.judged filled;
+      weights = weights_made n from table process c.requires.judged filled;
+      few_expressions = expressions_made from table process few filled;
+      few_nodes = nodes_made from table process few filled;
+      flat = flat_made from table process few filled;
+      shallow = shallow_made from table process few filled;
     }
