@@ -1,24 +1,28 @@
 -- Many steps of a generator as one sum, and the streams of seeds.
-use Rattle.std.proofs.Common.{◌≡◌, ℕ, zero, suc, ◌+◌, ◌*◌, ◌/◌, ◌%◌, ◌^◌, ◌<◌, List, [], ◌∷◌, bit_or, slice_index, All, sym, ap, subst, ◌∙◌, arith, mod-lt, mod-eq_of_lt, pow-suc}
+use Rattle.std.proofs.Common.{◌≡◌, ℕ, zero, suc, ◌+◌, ◌-◌, ◌*◌, ◌/◌, ◌%◌, ◌^◌, ◌<◌, ◌≤◌, inl, inr, List, [], ◌∷◌, bit_or, slice_index, get_or, All, refl, sym, ap, subst, ◌∙◌, arith, mod-lt, mod-eq_of_lt, pow-suc}
 use Rattle.std.proofs.lemmas.List.Elements.{All-append, All-cons, All-head, All-nil, All-tail, All-take}
 use Rattle.std.proofs.lemmas.Nat.{mul-mod_first, mul-mod_second, or_lt, or_shifted}
-use Rattle.std.specs.Int.{w32, byte_at, bytes_low_first, to_le_bytes}
+use Rattle.std.proofs.lemmas.Bool.{cases_lt}
+use Rattle.std.proofs.lemmas.Nat.Bits.{bit_at_above, bit_at-trailing_zeros}
+use Rattle.std.specs.Int.{w32, trailing_zeros, byte_at, bytes_low_first, to_le_bytes}
 use native.Mathlib.Nat.{add-mod, mod-add-mod}
 use Rattle.rand_core.specs.Pcg32Seed.{pcg32_seed, pcg32_step}
 use Rattle.rand_core.specs.Steps.{u32_at, u64_at, word_bytes}
 use Rattle.rand_pcg.proofs.LcgLemmas.{odd_after_or}
 use Rattle.rand_pcg.specs.Lcg.{Lcg, advance, increment_of, state_after, u128_at}
 use Rattle.rand_pcg.specs.Pcg.{multiplier_128}
-use Rattle.lt_draw.specs.Word.{generator_at, generator_of, place_of}
-use Rattle.lt_draw.specs.inner.Half.{after_half, half, HasStream}
+use Rattle.lt_draw.specs.Word.{generator_at, generator_of, place_of, slots}
+use Rattle.lt_draw.specs.inner.Half.{half, HasStream}
+use Rattle.lt_draw.specs.declared.jumps.Jump.{Jump}
+use Rattle.lt_draw.specs.declared.jumps.TheConstants.{JUMPS}
 use Rattle.lt_draw.proofs.WordLemmas.{generator_at-add, state_after-add}
 
 -- Jumps.
 
 module _ (w m : ℕ) where
-  -- so many steps are the state by one number, and the increment by another
-  abbrev IsJump : ℕ → ℕ → ℕ → Type 0
-  IsJump n a c = (p s : ℕ) → state_after w m p n s ≡ (a * s + c * p) % 2 ^ w
+  -- so many steps are one jump
+  abbrev IsJump : ℕ → Jump → Type 0
+  IsJump n j = (p s : ℕ) → state_after w m p n s ≡ (j.of_state * s + j.of_increment * p) % 2 ^ w
 
   -- a sum of products, by the remainders of their factors
   by_remainders : (a s c p : ℕ) → (a % 2 ^ w * s + c % 2 ^ w * p) % 2 ^ w ≡ (a * s + c * p) % 2 ^ w
@@ -37,15 +41,26 @@ module _ (w m : ℕ) where
       ∙ sym (add-mod (a * x) q M)
 
   -- one step
-  one_step : IsJump 1 m 1
+  abbrev one : Jump
+  one = record { of_state = m; of_increment = 1 }
+
+  one_step : IsJump 1 one
   unfolding state_after
   one_step p s =
       let same : s * m + p ≡ m * s + 1 * p = omega arith in
       mod-add-mod (s * m) (2 ^ w) p ∙ ap (λ (n : ℕ). n % 2 ^ w) same
 
   -- twice as many steps
-  twice : (n a c : ℕ) → IsJump n a c → IsJump (n + n) (a * a % 2 ^ w) ((a * c + c) % 2 ^ w)
-  twice n a c jump p s =
+  abbrev doubled : Jump → Jump
+  doubled j = record {
+    of_state = j.of_state * j.of_state % 2 ^ w;
+    of_increment = (j.of_state * j.of_increment + j.of_increment) % 2 ^ w;
+  }
+
+  twice : (n : ℕ) (j : Jump) → IsJump n j → IsJump (n + n) (doubled j)
+  twice n j jump p s =
+      let a : ℕ = j.of_state in
+      let c : ℕ = j.of_increment in
       let same : a * (a * s + c * p) + c * p ≡ a * a * s + (a * c + c) * p = omega arith in
       sym (state_after-add w m p n n s)
       ∙ jump p (state_after w m p n s)
@@ -54,24 +69,57 @@ module _ (w m : ℕ) where
       ∙ ap (λ (x : ℕ). x % 2 ^ w) same
       ∙ sym (by_remainders (a * a) s (a * c + c) p)
 
-  -- the numbers of a jump, doubled so often
-  abbrev doubled : ℕ → ℕ → ℕ → ℕ × ℕ
-  doubled zero a c = (a, c)
-  doubled (suc k) a c = doubled k (a * a % 2 ^ w) ((a * c + c) % 2 ^ w)
+  -- so many jumps, each over twice as many steps as the one before
+  abbrev doublings : ℕ → Jump → List Jump
+  doublings zero j = []
+  doublings (suc count) j = j ∷ doublings count (doubled j)
 
-  doubled_is : (k n a c : ℕ) → IsJump n a c → IsJump (n * 2 ^ k) (doubled k a c).0 (doubled k a c).1
-  doubled_is zero n a c jump p s =
+  doublings_are : (count k n : ℕ) (j other : Jump) → k < count → IsJump n j → IsJump (n * 2 ^ k) (get_or (doublings count j) k other)
+  doublings_are zero k n j other within jump p s = absurd (omega arith)
+  doublings_are (suc count) zero n j other within jump p s =
       let same : n * 2 ^ 0 ≡ n = omega arith in
       ap (λ (x : ℕ). state_after w m p x s) same ∙ jump p s
-  doubled_is (suc k) n a c jump p s =
+  doublings_are (suc count) (suc k) n j other within jump p s =
       let same : n * 2 ^ suc k ≡ (n + n) * 2 ^ k = ap (λ (x : ℕ). n * x) (pow-suc 2 k) ∙ omega arith in
       ap (λ (x : ℕ). state_after w m p x s) same
-      ∙ doubled_is k (n + n) (a * a % 2 ^ w) ((a * c + c) % 2 ^ w) (twice n a c jump) p s
+      ∙ doublings_are count k (n + n) (doubled j) other (omega arith) (twice n j jump) p s
 
--- half a step
-pub half_step : (p s : ℕ) → state_after 128 multiplier_128 p half s
-    ≡ (0xc5c4b9ce268d074a386be6c7de000001 * s + 0x90c0589db5533c5658a2b0e4bf800000 * p) % 2 ^ 128
-half_step = doubled_is 128 multiplier_128 23 1 multiplier_128 1 (one_step 128 multiplier_128)
+-- the table's jumps are the doublings of one step
+table_is : JUMPS ≡ doublings 128 multiplier_128 24 (one 128 multiplier_128)
+table_is = refl
+
+-- so a row of the table is the jump over as many steps as a bit counts
+row_is : (k : ℕ) (other : Jump) → k < 24 → IsJump 128 multiplier_128 (2 ^ k) (get_or JUMPS k other)
+row_is k other within p s =
+    let same : 2 ^ k ≡ 1 * 2 ^ k = omega arith in
+    ap (λ (n : ℕ). state_after 128 multiplier_128 p n s) same
+    ∙ doublings_are 128 multiplier_128 24 k 1 (one 128 multiplier_128) other within (one_step 128 multiplier_128) p s
+
+-- the lowest bit of a number of a step's slots has a row in the table, and is no more than the number
+pub lowest_bit : (n : ℕ) → 0 < n → n < slots → let k = trailing_zeros w32 n in (k < 24) × (1 * 2 ^ k % 2 ^ 32 ≡ 2 ^ k) × (2 ^ k ≤ n)
+lowest_bit n some few =
+    let k = trailing_zeros w32 n in
+    let set = (bit_at-trailing_zeros w32 n some (omega arith)).1 in
+    let row : k < 24 = elim (cases_lt k 24) [
+      | inl below ↦ below
+      | inr above ↦ absurd (omega (arith, set, bit_at_above n 24 k few above))
+    ] in
+    let part : 2 ^ k ≤ n = elim (cases_lt n (2 ^ k)) [
+      | inl above ↦ absurd (omega (arith, set, bit_at_above n k k above (omega arith)))
+      | inr below ↦ below
+    ] in
+    let same : 1 * 2 ^ k % 2 ^ 32 ≡ 2 ^ k = ap (λ (x : ℕ). x % 2 ^ 32) (omega arith) ∙ mod-eq_of_lt (omega (arith, part)) in
+    (row, same, part)
+
+-- once the jump of a row is made, the rest of the steps leads to where all of them led
+pub one_jump : (p s rest k there : ℕ) (other : Jump) → k < 24 → 2 ^ k ≤ rest →
+    there ≡ ((get_or JUMPS k other).of_state * s + (get_or JUMPS k other).of_increment * p) % 2 ^ 128 →
+    state_after 128 multiplier_128 p (rest - 2 ^ k) there ≡ state_after 128 multiplier_128 p rest s
+one_jump p s rest k there other row part jump =
+    let whole : 2 ^ k + (rest - 2 ^ k) ≡ rest = omega (arith, part) in
+    ap (state_after 128 multiplier_128 p (rest - 2 ^ k)) (jump ∙ sym (row_is k other row p s))
+    ∙ state_after-add 128 multiplier_128 p (2 ^ k) (rest - 2 ^ k) s
+    ∙ ap (λ (n : ℕ). state_after 128 multiplier_128 p n s) whole
 
 -- Streams.
 
@@ -83,22 +131,18 @@ stream_is g h =
     let fits : stream * 2 < 2 ^ 128 = omega (arith, h.1, whole) in
     ap (λ (n : ℕ). bit_or n 1) (mod-eq_of_lt fits) ∙ or_shifted stream 1 1 (omega arith) ∙ whole
 
--- the same state by one sum, and the same increment by its stream
-pub jumped : (g : Lcg) (state stream : ℕ) → HasStream g → state ≡ g.state → stream ≡ g.increment / 2 →
-    record {
-      state = (state * 0xc5c4b9ce268d074a386be6c7de000001 % 2 ^ 128 + increment_of 128 stream * 0x90c0589db5533c5658a2b0e4bf800000 % 2 ^ 128) % 2 ^ 128;
-      increment = increment_of 128 stream;
-    } ≡ after_half g
-jumped g state stream h s e =
-    let a : ℕ = 0xc5c4b9ce268d074a386be6c7de000001 in
-    let c : ℕ = 0x90c0589db5533c5658a2b0e4bf800000 in
-    let M = 2 ^ 128 in
+-- where no steps are left, the generator of the state and the stream is the one that was sought
+pub arrived : (g moved : Lcg) (words rest state stream : ℕ) → HasStream g → stream ≡ g.increment / 2 → rest ≡ 0 →
+    state_after 128 multiplier_128 (increment_of 128 stream) rest state ≡ state_after 128 multiplier_128 (increment_of 128 stream) words g.state →
+    moved ≡ record { state = state; increment = increment_of 128 stream } → moved ≡ advance 128 multiplier_128 words g
+unfolding state_after
+arrived g moved words rest state stream h e none led is =
     let increment : increment_of 128 stream ≡ g.increment = ap (increment_of 128) e ∙ stream_is g h in
-    let order : g.state * a + g.increment * c ≡ a * g.state + c * g.increment = omega arith in
-    let sum : (g.state * a % M + g.increment * c % M) % M ≡ state_after 128 multiplier_128 g.increment half g.state =
-    sym (add-mod (g.state * a) (g.increment * c) M) ∙ ap (λ (n : ℕ). n % M) order ∙ sym (half_step g.increment g.state) in
-    (λ i. let x : Lcg = record { state = (s i * a % M + increment i * c % M) % M; increment = increment i } in x)
-    ∙ ap (λ (n : ℕ). let x : Lcg = record { state = n; increment = g.increment } in x) sum
+    let there : state ≡ state_after 128 multiplier_128 (increment_of 128 stream) words g.state =
+    sym (ap (λ (n : ℕ). state_after 128 multiplier_128 (increment_of 128 stream) n state) none) ∙ led in
+    is
+    ∙ ap (λ (s : ℕ). let x : Lcg = record { state = s; increment = increment_of 128 stream } in x) there
+    ∙ ap (λ (p : ℕ). let x : Lcg = record { state = state_after 128 multiplier_128 p words g.state; increment = p } in x) increment
 
 -- Seeds.
 
@@ -151,17 +195,17 @@ seed_has_stream seed =
 pub place_has_stream : (seed place : ℕ) (g : Lcg) → g ≡ generator_at seed place → HasStream g
 place_has_stream seed place g e = let P : Lcg → Type 0 = HasStream in subst P (sym e) (seed_has_stream seed)
 
-half_behind : (seed place there : ℕ) (g moved : Lcg) → place + half ≡ there → g ≡ generator_at seed place → moved ≡ after_half g → moved ≡ generator_at seed there
-half_behind seed place there g moved sum e jump = jump ∙ ap after_half e ∙ generator_at-add seed place half there sum
+-- from a place to one behind it
+behind : (seed place more there : ℕ) (g moved : Lcg) → place + more ≡ there → g ≡ generator_at seed place → moved ≡ advance 128 multiplier_128 more g → moved ≡ generator_at seed there
+behind seed place more there g moved sum e jump = jump ∙ ap (advance 128 multiplier_128 more) e ∙ generator_at-add seed place more there sum
 
 -- from the start of a step to its middle, and from there to the start of the next step
-pub middle_is : (seed step : ℕ) (start middle : Lcg) → start ≡ generator_at seed (place_of step 0) → middle ≡ after_half start → middle ≡ generator_at seed (place_of step half)
-middle_is seed step start middle = half_behind seed (place_of step 0) (place_of step half) start middle (omega arith)
+pub middle_is : (seed step : ℕ) (start middle : Lcg) → start ≡ generator_at seed (place_of step 0) → middle ≡ advance 128 multiplier_128 half start → middle ≡ generator_at seed (place_of step half)
+middle_is seed step start middle = behind seed (place_of step 0) half (place_of step half) start middle (omega arith)
 
-pub next_is : (seed step : ℕ) (middle next : Lcg) → middle ≡ generator_at seed (place_of step half) → next ≡ after_half middle → next ≡ generator_at seed (place_of (step + 1) 0)
-next_is seed step middle next = half_behind seed (place_of step half) (place_of (step + 1) 0) middle next (omega arith)
+pub next_is : (seed step : ℕ) (middle next : Lcg) → middle ≡ generator_at seed (place_of step half) → next ≡ advance 128 multiplier_128 half middle → next ≡ generator_at seed (place_of (step + 1) 0)
+next_is seed step middle next = behind seed (place_of step half) half (place_of (step + 1) 0) middle next (omega arith)
 
 -- from a slot of a step to one behind it
 pub slot_is : (seed step slot more there : ℕ) (g moved : Lcg) → slot + more ≡ there → g ≡ generator_at seed (place_of step slot) → moved ≡ advance 128 multiplier_128 more g → moved ≡ generator_at seed (place_of step there)
-slot_is seed step slot more there g moved sum e jump =
-    jump ∙ ap (advance 128 multiplier_128 more) e ∙ generator_at-add seed (place_of step slot) more (place_of step there) (omega (arith, sum))
+slot_is seed step slot more there g moved sum = behind seed (place_of step slot) more (place_of step there) g moved (omega (arith, sum))

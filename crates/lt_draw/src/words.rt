@@ -1,12 +1,10 @@
 //! Words of a seed.
 
 ghost use Rattle.std.specs.Prelude.{◌≡◌, ◌<◌, ◌+◌};
-ghost use Rattle.rand_pcg.specs.Lcg.{advance};
-ghost use Rattle.rand_pcg.specs.Pcg.{multiplier_128};
 ghost use Rattle.lt_draw.specs.Word.{SlotOfSeed, StepOfSeed, generator_at, place_of, slots, word_at};
 ghost use Rattle.lt_draw.specs.inner.Half.{half};
 
-use crate::jumps::jump_half;
+use crate::jumps::moved_on;
 use rand_core::SeedableRng;
 use rand_core::utils::NextWord;
 use rand_pcg::Pcg64;
@@ -42,15 +40,6 @@ fn generator_at(seed: u64, place: u128) -> Pcg64
     generator
 }
 
-// A generator, once it has given so many words more.
-fn moved_on(generator: &Pcg64, words: u32) -> Pcg64
-    ensures { result ≡ advance 128 multiplier_128 words generator.now }
-{
-    let mut moved = generator.clone().unwrap();
-    moved.advance(u128::from(words));
-    moved
-}
-
 /// The words of one step of a seed.
 ///
 /// The way to the step is gone once, so a word costs the way to its slot alone, from the step's first slot or from
@@ -78,7 +67,7 @@ impl StepWords {
         ensures { result ≡ record { seed = seed; step = step } }
     {
         let start = generator_at(seed, place_of(step, 0));
-        let middle = jump_half(&start);
+        let middle = moved_on(&start, HALF);
         StepWords {
             seed,
             step,
@@ -93,8 +82,8 @@ impl StepWords {
         ensures { self.new ≡ record self.old { step = self.old.step + 1 } }
     {
         self.step += 1;
-        self.start = jump_half(&self.middle);
-        self.middle = jump_half(&self.start);
+        self.start = moved_on(&self.middle, HALF);
+        self.middle = moved_on(&self.start, HALF);
     }
 
     /// The word at a slot.

@@ -1,8 +1,15 @@
 use Rattle.std.proofs.Common.{◌∙◌, arith}
+use Rattle.lt_draw.specs.Word.{place_of}
 use Rattle.lt_draw.specs.inner.Half.{half}
-use Rattle.lt_draw.proofs.JumpLemmas.{slot_is}
+use Rattle.lt_draw.proofs.JumpLemmas.{slot_is, place_has_stream}
 use Rattle.lt_draw.proofs.words.StepWords.starting_at.Goals as goal
 use Rattle.lt_draw.proofs.words.StepWords.starting_at.Goals.{then-slot-lt-HALF, else-slot-lt-HALF}
+
+pub moved_on-generator-requires-clause-stream : goal.moved_on-generator-requires-clause-stream
+moved_on-generator-requires-clause-stream c = place_has_stream c.self.inside.seed (place_of c.self.inside.step 0) _ c.self.invariant.0
+
+pub moved_on-generator-requires-else-slot-lt-HALF-clause-stream : goal.moved_on-generator-requires-else-slot-lt-HALF-clause-stream
+moved_on-generator-requires-else-slot-lt-HALF-clause-stream c = place_has_stream c.self.inside.seed (place_of c.self.inside.step half) _ c.self.invariant.1
 
 pub invariant_of-result : goal.invariant_of-result
 invariant_of-result c =

@@ -1,0 +1,13 @@
+use Rattle.std.proofs.Common.{◌≡◌, ◌<◌}
+use Rattle.rand_pcg.specs.Lcg.{state_after}
+use Rattle.rand_pcg.specs.Pcg.{multiplier_128}
+use Rattle.lt_draw.specs.Word.{slots}
+use Rattle.lt_draw.proofs.jumps.moved_on.Given as goal
+
+-- what is left to go leads to where all the words lead
+abbrev pub invariant-bits : goal.invariant-bits
+invariant-bits l =
+    (l.rest < slots) × (state_after 128 multiplier_128 l.increment l.rest l.state ≡ state_after 128 multiplier_128 l.increment l.words l.generator.state)
+
+abbrev pub decreases-bits : goal.decreases-bits
+decreases-bits l = l.rest
