@@ -1,6 +1,7 @@
 //! Targets in ranges.
 
-ghost use Rattle.std.specs.Prelude.{◌≡◌, ◌%◌};
+ghost use Rattle.std.specs.Prelude.{◌≡◌, ◌%◌, ◌/◌, unsigned_abs};
+ghost use Rattle.std.specs.Int.{int_gap};
 ghost use Rattle.lt_num.specs.Range.{HasPoints, IsPoint, count_of};
 ghost use Rattle.lt_draw.specs.Target.{target_of};
 
@@ -22,10 +23,23 @@ fn place(range: Range, word: u64) -> u64
     requires { HasPoints range }
     ensures { result ≡ word % count_of range }
 {
-    let last = range.high.abs_diff(range.low) / range.step.unsigned_abs();
+    let last = steps_within(range);
     // All the 64-bit numbers are one more than a word can count, and then the word is its own remainder.
     match last.checked_add(1) {
         Some(count) => word % count,
         None => word,
+    }
+}
+
+// How many steps a range has. Most have a step of 1, which needs no division.
+fn steps_within(range: Range) -> u64
+    requires { HasPoints range }
+    ensures { result ≡ int_gap range.low range.high / unsigned_abs range.step }
+{
+    let span = range.high.abs_diff(range.low);
+    if range.step == 1 {
+        span
+    } else {
+        span / range.step.unsigned_abs()
     }
 }

@@ -1,6 +1,6 @@
 //! Picks by weight.
 
-ghost use Rattle.std.specs.Prelude.{◌≡◌, ◌<◌, length, slice_index, sum};
+ghost use Rattle.std.specs.Prelude.{◌≡◌, ◌<◌, ◌%◌, length, slice_index, sum};
 ghost use Rattle.lt_draw.specs.Pick.{picked};
 
 /// The place that a word picks: the first one whose cumulated weight is greater than the remainder of the word
@@ -11,13 +11,24 @@ pub fn pick(weights: &[u64], word: u64) -> usize
     ensures within { result < length weights.now }
     ensures positive { 0 < slice_index weights.now result }
 {
-    let mut rest = u128::from(word) % sum_of(weights);
+    let mut rest = remainder(word, sum_of(weights));
     let mut place = 0;
     while rest >= u128::from(weights[place]) {
         rest -= u128::from(weights[place]);
         place += 1;
     }
     place
+}
+
+// The remainder of a word by a sum. Most sums have 64 bits, by which a division is cheap.
+fn remainder(word: u64, total: u128) -> u128
+    requires { 0 < total }
+    ensures { result ≡ word % total }
+{
+    match u64::try_from(total) {
+        Ok(total) => u128::from(word % total),
+        Err(_) => u128::from(word) % total,
+    }
 }
 
 /// The sum of some weights, which may be more than 64 bits can tell.
