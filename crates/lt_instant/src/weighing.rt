@@ -1,9 +1,11 @@
 //! What the weights of a choice are worth in an instant.
 
-ghost use Rattle.std.specs.Prelude.{◌≡◌, ◌≤◌, IsTrue, length, map, vec_capacity};
+ghost use Rattle.std.specs.Prelude.{◌≡◌, ◌<◌, ◌≤◌, IsTrue, length, map, vec_capacity};
 ghost use Rattle.std.specs.List.{list_all};
 ghost use Rattle.lt_num.specs.Bounds.{most_decimals};
-ghost use Rattle.lt_formula.specs.View.{valuation_of_known};
+ghost use Rattle.lt_formula.specs.Table.{spelled};
+ghost use Rattle.lt_formula.specs.Valuation.{value_under};
+ghost use Rattle.lt_formula.specs.View.{table_expressions, table_kinds, table_len, valuation_of_known};
 ghost use Rattle.lt_term.specs.Configuration.{earlier_local, earlier_locals_from, turns_of, weight_of_answer};
 ghost use Rattle.lt_term.specs.Mapped.{weight_passes};
 ghost use Rattle.lt_term.specs.SceneView.{numbers_of, scene, variable};
@@ -13,7 +15,7 @@ ghost use Rattle.lt_instant.specs.inner.MomentView.{scene_of, weigher_of};
 ghost use Rattle.lt_instant.specs.inner.Worths.{known_worth, known_worths, weighed};
 
 use crate::moment::Moment;
-use lt_formula::{Known, known_value};
+use lt_formula::{Known, Shape, Table, constant_value, known_value};
 use lt_num::{Arith, Value};
 use lt_term::{Last, Scenario, Var, Weight};
 
@@ -76,7 +78,7 @@ fn weight_value(scenario: &Scenario, known: &Known<'_>, asked: Weight) -> Result
     ensures { result ≡ known_worth scenario.now (valuation_of_known known.now) (weight asked) }
 {
     match asked {
-        Weight::Exp(number) => number_of(known_value(&scenario.table, number, known)),
+        Weight::Exp(number) => number_of(expression_value(&scenario.table, number, known)),
         Weight::More { counter, done } => {
             let (_, most) = turns_of(scenario, counter);
             Ok(most.saturating_sub(done))
@@ -85,6 +87,19 @@ fn weight_value(scenario: &Scenario, known: &Known<'_>, asked: Weight) -> Result
             let (least, _) = turns_of(scenario, counter);
             Ok(if least <= done { 1 } else { 0 })
         }
+    }
+}
+
+// The value of the expression of a weight. Most are constants, which need nothing that is known.
+fn expression_value(table: &Table, number: u32, known: &Known<'_>) -> Result<Value, Arith>
+    requires within { number < table_len table.now }
+    requires decimals { known.now.decimals ≤ most_decimals }
+    ensures { result ≡ value_under (valuation_of_known known.now) (table_kinds table.now)
+        (spelled (table_expressions table.now) number) }
+{
+    match table.shape(number) {
+        Shape::Constant(_, value) => constant_value(value),
+        _ => known_value(table, number, known),
     }
 }
 

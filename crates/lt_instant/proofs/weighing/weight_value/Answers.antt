@@ -13,5 +13,5 @@ returns-in-Exp c =
     let s = c.args.scenario.now in
     let v = valuation_of_known c.args.known.now in
     c.number_of.ensures
-    ∙ ap weight_of_answer (c.known_value.ensures ∙ ap (λ ks. value_under v ks (spelled (table_expressions s.table) c.in-Exp.number)) (s.kinds ∙ scene_kinds-view s))
+    ∙ ap weight_of_answer (c.expression_value.ensures ∙ ap (λ ks. value_under v ks (spelled (table_expressions s.table) c.in-Exp.number)) (s.kinds ∙ scene_kinds-view s))
     ∙ sym (ap (λ a. known_worth s v (weight a)) c.in-Exp.is)
