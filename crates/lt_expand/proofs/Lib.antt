@@ -12,6 +12,7 @@ pub mod Filled
 pub mod Measures
 pub mod Throughout
 pub mod Unrefused
+pub mod Typing
 pub mod Declares
 pub mod There
 pub mod Prepared

@@ -23,12 +23,14 @@ use Rattle.lt_term.specs.SceneView.{turns, variable}
 use Rattle.lt_term.specs.Scope.{are_named_inside}
 use Rattle.lt_term.specs.Subterms as subterms
 use Rattle.lt_term.specs.Subterms.{is_at_start, is_narrow, numbers_from}
+use Rattle.lt_term.specs.TypedTerm.{IsTypedTerm}
 use Rattle.lt_term.specs.Valid.{AreNamed, has_known_conditions, has_known_weights, is_linear_throughout, is_shallow, node_count}
 use Rattle.lt_term.specs.View.{all_kinds, process, process_over}
 use Rattle.lt_term.specs.Within.{is_within}
 use Rattle.lt_term.specs.declared.counter.Counter.{Counter}
 use Rattle.lt_term.specs.declared.term.Term.{Term}
 use Rattle.lt_term.specs.declared.variable.Var.{Var}
+use Rattle.lt_typed.specs.TypedNode.{IsTypedNode}
 use Rattle.lt_expand.specs.Classes.{kinds_of}
 use Rattle.lt_expand.specs.Exceptions.{exception_names, numbered}
 use Rattle.lt_expand.specs.Scenes.{locals_of, process_of, variable_of}
@@ -41,6 +43,7 @@ use Rattle.lt_expand.proofs.Filled.{filled_few, filled_named}
 use Rattle.lt_expand.proofs.Prepared.{IsLimited, follow_up}
 use Rattle.lt_expand.proofs.Terms.{term_counters, term_inside, term_locals, term_narrow, term_unbegun}
 use Rattle.lt_expand.proofs.Throughout.{depth_down, named_pass, throughout_down}
+use Rattle.lt_expand.proofs.Typing.{term_typed}
 use Rattle.lt_expand.proofs.Unrefused.{body_conditions, body_few, body_flat, body_linear, body_shallow, body_weights}
 
 -- what is ready of a node is ready where its kinds and exceptions are these
@@ -201,6 +204,11 @@ conditions_made n node table p h made =
 
 pub weights_made : (n : ℕ) (node : Node) (table : Table) (p : Process Expression) → judged_refusals n node ≡ [] → IsTable node table p → has_known_weights (table_kinds table) p ≡ true
 weights_made n node table p h made = (λ i. has_known_weights (made.kinds i) (made.body i)) ∙ body_weights n node (numbered node.body) h
+
+pub typed_made : (node : Node) (table : Table) (p : Process Expression) → IsTypedNode node → IsTable node table p → IsTypedTerm (table_kinds table) p
+typed_made node table p h made =
+    subst (λ k. IsTypedTerm k p) (sym made.kinds)
+    (subst (IsTypedTerm (kinds_of node)) (sym made.body) (term_typed (kinds_of node) (numbered node.body) node.body h.body))
 
 pub shallow_made : (node : Node) (table : Table) (p : Process Expression) → IsLimited node → IsTable node table p → list_all is_shallow (table_expressions table) ≡ true
 shallow_made node table p few made =

@@ -10,6 +10,8 @@ ghost use Rattle.lt_macros.specs.Naming.{NamesWhatIsThere};
 ghost use Rattle.lt_macros.specs.Numbering.{IsNumbered};
 ghost use Rattle.lt_macros.specs.Scoping.{AreInside};
 ghost use Rattle.lt_macros.specs.Tree.{expanded, node};
+ghost use Rattle.lt_typed.specs.Macros.{MacrosFitTheirTypes};
+ghost use Rattle.lt_typed.specs.TypedNode.{IsTypedNode};
 ghost use Rattle.lt_expand.specs.Answer.{IsAnswer};
 
 use crate::judging::judge;
@@ -17,10 +19,12 @@ use crate::refusal::ExpandRefusal;
 use crate::scenario::scenario;
 use lt_macros::{Node, expanded_node, locals_are_inside, names_are_there, parts_are_numbered};
 use lt_term::Scenario;
-use lt_types::Typed;
+use lt_typed::expansion_keeps_types;
+use lt_types::{Typed, well_typed_is_unrefused};
 use std::alloc::Global;
 
-/// The scenario of the node that is asked for, or of the first one where no name is given.
+/// The scenario of the node that is asked for, or of the first one where no name is given. Macros of the program stand for
+/// what their types say, as they do in each program that a text spells.
 ///
 /// # Errors
 ///
@@ -28,6 +32,7 @@ use std::alloc::Global;
 /// the first limit that it is past, and the first place in preorder of each other cause, in the order of the causes.
 /// [`ExpandRefusal::Memory`] where memory ran out.
 pub fn expand(alloc: Global, typed: &Typed, node: Option<&str>) -> Result<Scenario, ExpandRefusal>
+    requires macros { MacrosFitTheirTypes (declarations typed.now.program) }
     ensures { IsAnswer typed.now.decimals
         (expanded_node typed.now.decimals (asked_name node.entry) (declarations typed.now.program))
         result }
@@ -36,6 +41,8 @@ pub fn expand(alloc: Global, typed: &Typed, node: Option<&str>) -> Result<Scenar
     parts_are_numbered();
     locals_are_inside();
     names_are_there();
+    well_typed_is_unrefused();
+    expansion_keeps_types();
     judged_scenario(alloc, &asked, typed.decimals())
 }
 
@@ -46,6 +53,7 @@ fn judged_scenario(alloc: Global, asked: &Node, decimals: u32) -> Result<Scenari
     requires named { NamesWhatIsThere (node asked.now) }
     requires numbered { IsNumbered (node asked.now) }
     requires inside { AreInside [] (expanded asked.now.body) }
+    requires typed { IsTypedNode (node asked.now) }
     ensures { IsAnswer decimals (Some (node asked.now)) result }
 {
     judge(alloc, asked, decimals)?;

@@ -8,6 +8,7 @@ ghost use Rattle.lt_macros.specs.Numbering.{IsNumbered};
 ghost use Rattle.lt_macros.specs.Scoping.{AreInside};
 ghost use Rattle.lt_macros.specs.Tree.{expanded, node};
 ghost use Rattle.lt_term.specs.SceneView.{scene};
+ghost use Rattle.lt_typed.specs.TypedNode.{IsTypedNode};
 ghost use Rattle.lt_expand.specs.Scenes.{scene_of};
 ghost use Rattle.lt_expand.specs.inner.Places.{judged_refusals};
 
@@ -30,6 +31,7 @@ pub(crate) fn scenario(alloc: Global, from: &Node, decimals: u32) -> Result<Scen
     requires named { NamesWhatIsThere (node from.now) }
     requires numbered { IsNumbered (node from.now) }
     requires inside { AreInside [] (expanded from.now.body) }
+    requires typed { IsTypedNode (node from.now) }
     ensures { IfOk result (λ made. scene made ≡ scene_of decimals (node from.now)) }
 {
     let parts = items_of(alloc, &from.body)?;

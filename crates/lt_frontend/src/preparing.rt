@@ -10,6 +10,7 @@ use crate::refusal::Unprepared;
 use lt_ast::print;
 use lt_expand::expand;
 use lt_parser::parse;
+use lt_spelled::spelled_macros_fit;
 use lt_term::Scenario;
 use lt_types::check;
 use std::alloc::Global;
@@ -36,6 +37,7 @@ pub fn scenario_of(
 {
     let program = parse(alloc, text)?;
     let typed = check(alloc, program, decimals)?;
+    spelled_macros_fit();
     Ok(expand(alloc, &typed, node)?)
 }
 

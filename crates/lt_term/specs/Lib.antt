@@ -18,6 +18,10 @@ pub mod Named
 pub mod Classes
 -- How deep terms and expressions are.
 pub mod Depth
+-- When an expression is well typed.
+pub mod WellTyped
+-- When all expressions of a term are.
+pub mod TypedTerm
 -- What a scenario keeps of its table and its body.
 pub mod Valid
 -- How many turns of counted loops are done.

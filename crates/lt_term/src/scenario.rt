@@ -9,6 +9,7 @@ ghost use Rattle.lt_term.specs.Depth.{term_depth};
 ghost use Rattle.lt_term.specs.Limits.{most_nodes, most_term_depth};
 ghost use Rattle.lt_term.specs.Scope.{are_named_inside};
 ghost use Rattle.lt_term.specs.Subterms.{counters_in, is_at_start, is_narrow, locals_in, numbers_from};
+ghost use Rattle.lt_term.specs.TypedTerm.{IsTypedTerm};
 ghost use Rattle.lt_term.specs.Valid.{AreNamed, has_known_conditions, has_known_weights, is_linear_throughout, is_shallow, node_count};
 ghost use Rattle.lt_term.specs.View.{all_kinds, process, process_over};
 ghost use Rattle.lt_term.specs.Within.{is_within};
@@ -74,6 +75,9 @@ pub struct Scenario {
 
     // Each expression of the table is a constraint or a weight of the body, or a part of one.
     pub ghost named: { ∥ AreNamed (table_expressions table) (process_over table body) ∥₁ },
+
+    // All of them are well typed, by the kinds of the variables: constraints are truths, and weights are ints.
+    pub ghost typed: { ∥ IsTypedTerm (table_kinds table) (process_over table body) ∥₁ },
 
     // No expression of the table, and no part of one, is a product of two controllable parts, a quotient by a
     // controllable divisor, a quotient or a rest of ints with a controllable part, or a choice between numbers by

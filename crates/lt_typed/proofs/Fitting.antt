@@ -19,7 +19,7 @@ use Rattle.lt_macros.specs.Environment.{Binding, variable, parameter, macro, Nam
 use Rattle.lt_macros.specs.Literals.{kind_of}
 use Rattle.lt_macros.specs.Denotation.{Numbers, Numbered, Denotation, expression, trace, as_expression, as_trace, standing_for, before, groups_names, parameter_names}
 use Rattle.lt_typed.specs.TypedNode.{IsOfKind, IsTyped}
-use Rattle.lt_typed.specs.WellTyped.{HasKind}
+use Rattle.lt_term.specs.WellTyped.{HasKind}
 use Rattle.lt_typed.proofs.Locals.{AreDeclared}
 
 -- A numbered trace is well typed wherever its locals stand in their table.

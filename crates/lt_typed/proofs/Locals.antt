@@ -8,7 +8,7 @@ use Rattle.lt_macros.specs.Expanded.{Declared, Expanded, eps, dead, con, raise, 
 use Rattle.lt_macros.specs.Numbering.{Follow, local_numbers, local_numbers_in, IsNumbered}
 use Rattle.lt_macros.specs.Preorder.{Item, items, items_in, local_at, locals_in}
 use Rattle.lt_typed.specs.TypedNode.{node_kinds}
-use Rattle.lt_typed.specs.WellTyped.{HasKind}
+use Rattle.lt_term.specs.WellTyped.{HasKind}
 use Rattle.lt_typed.proofs.Tables.{StandFrom, stand_behind}
 
 -- Each local that a trace declares stands in its table with its kind.

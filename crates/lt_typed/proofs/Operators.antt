@@ -10,7 +10,7 @@ use Rattle.lt_formula.specs.Facts.{unary_kind, binary_kind}
 use Rattle.lt_macros.specs.Literals.{kind_of, unary_operator, binary_operator}
 use Rattle.lt_types.specs.Operators as types
 use Rattle.lt_types.specs.Operators.{same_type, is_number, is_value, unary_gives, binary_gives}
-use Rattle.lt_typed.specs.WellTyped.{is_truth, is_whole, unary_takes, binary_takes}
+use Rattle.lt_term.specs.WellTyped.{is_truth, is_whole, unary_takes, binary_takes}
 
 -- Kinds of types.
 

@@ -5,7 +5,7 @@ use Rattle.lt_formula.specs.Expression.{variable}
 use Rattle.lt_formula.specs.Kinds.{Kinds, kinds_of_role}
 use Rattle.lt_formula.specs.declared.role.Role.{Role}
 use Rattle.lt_macros.specs.Expanded.{Declared}
-use Rattle.lt_typed.specs.WellTyped.{HasKind}
+use Rattle.lt_term.specs.WellTyped.{HasKind}
 
 -- Variables have the places from this one on, with their kinds.
 abbrev pub StandFrom : Kinds → Role → ℕ → List Declared → Type 0

@@ -14,7 +14,7 @@ use Rattle.lt_macros.specs.Placed.{Placed}
 use Rattle.lt_macros.specs.Preorder.{expressions_in}
 use Rattle.lt_typed.specs.Macros.{MacrosFitTheirTypes}
 use Rattle.lt_typed.specs.TypedNode.{node_kinds, IsOfKind, IsTypedNode}
-use Rattle.lt_typed.specs.WellTyped.{HasKind}
+use Rattle.lt_term.specs.WellTyped.{HasKind}
 
 -- The kind of a well typed expression is the one that its facts tell.
 abbrev pub KindsAreTold : Type 0

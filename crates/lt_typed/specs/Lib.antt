@@ -1,5 +1,3 @@
--- When an expression is well typed.
-pub mod WellTyped
 -- When all expressions of a node are.
 pub mod TypedNode
 -- Macros that stand for what their types say.

@@ -10,7 +10,7 @@ use Rattle.lt_formula.specs.declared.role.Role.TheVariants as role
 use Rattle.lt_macros.specs.Placed.{Placed, bare}
 use Rattle.lt_macros.specs.Expanded.{Declared, Bounds, between, around, Expanded, eps, dead, con, raise, seq, loop, count, any, pri, par, assert, exist, catch, try, Parts, no_part, part, Node}
 use Rattle.lt_macros.specs.Preorder.{locals_in}
-use Rattle.lt_typed.specs.WellTyped.{HasKind}
+use Rattle.lt_term.specs.WellTyped.{HasKind}
 
 -- the kinds of a node's variables
 abbrev pub node_kinds : Node → Kinds

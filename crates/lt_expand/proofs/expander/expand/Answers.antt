@@ -14,3 +14,10 @@ judged_scenario-requires-clause-numbered c =
 pub judged_scenario-requires-clause-inside : goal.judged_scenario-requires-clause-inside
 judged_scenario-requires-clause-inside c =
     c.locals_are_inside.ensures c.args.typed.now.decimals (asked_name c.args.node) (declarations c.args.typed.now.program) (node c.in_ok-asked.asked) c.in_ok-asked.ensures.0
+
+pub judged_scenario-requires-clause-typed : goal.judged_scenario-requires-clause-typed
+judged_scenario-requires-clause-typed c =
+    let typed = c.args.typed.now in
+    let program = declarations typed.program in
+    c.expansion_keeps_types.ensures typed.decimals (asked_name c.args.node) program (node c.in_ok-asked.asked)
+    ((c.well_typed_is_unrefused.ensures typed.decimals program).1 typed.unrefused) c.requires.macros c.in_ok-asked.ensures.0

@@ -11,7 +11,7 @@ use Rattle.lt_expand.specs.Scenes.{variable_of}
 use Rattle.lt_expand.specs.inner.Declarations.{exceptions}
 use Rattle.lt_expand.specs.inner.Items.{items_view}
 use Rattle.lt_expand.specs.inner.Ready.{IsFine}
-use Rattle.lt_expand.proofs.Made.{IsBody, IsMade, IsTable, body_made, conditions_made, drawn_few, expressions_made, flat_made, inputs_few, inside_made, linear_made, loops_made, made_kinds, narrow_made, nodes_made, own_counters, own_locals, put_ready, scopes_made, shallow_made, start_made, table_made, weights_made}
+use Rattle.lt_expand.proofs.Made.{IsBody, IsMade, IsTable, body_made, conditions_made, drawn_few, expressions_made, flat_made, inputs_few, inside_made, linear_made, loops_made, made_kinds, narrow_made, nodes_made, own_counters, own_locals, put_ready, scopes_made, shallow_made, start_made, table_made, typed_made, weights_made}
 use Rattle.lt_expand.proofs.Prepared.{inputs_fine, limited, node_ready, outputs_fine, parts_are_fine}
 use Rattle.lt_expand.proofs.scenario.scenario.Goals as goal
 
@@ -70,6 +70,7 @@ invariant_of-result c =
       at_start = start_made from process body.is;
       narrow = narrow_made from process body.is few;
       named = merely filled.named;
+      typed = merely (typed_made from table process c.requires.typed filled);
       linear = linear_made n from table process c.requires.judged filled;
       conditions = conditions_made n from table process c.requires.judged filled;
       weights = weights_made n from table process c.requires.judged filled;
