@@ -1,3 +1,4 @@
 mod Counting
 mod Siblings
 mod Scopes
+mod Worths

@@ -4,3 +4,5 @@ pub mod Counting
 pub mod Siblings
 -- Scopes that are entered again.
 pub mod Scopes
+-- What well typed expressions are worth.
+pub mod Worths

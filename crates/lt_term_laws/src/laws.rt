@@ -3,6 +3,7 @@
 ghost use Rattle.lt_term_laws.specs.Counting.{CountedLoopsKeepTheirBounds, TurnsTakeInstants};
 ghost use Rattle.lt_term_laws.specs.Scopes.{ScopesBeginAnew};
 ghost use Rattle.lt_term_laws.specs.Siblings.{FirstSideIsHeardFirst, PriorityIsJudgedWithSiblings};
+ghost use Rattle.lt_term_laws.specs.Worths.{WorthsAreOfTheirKinds};
 
 /// A counted loop goes through its part once more only while fewer turns are done than its greatest number, and it is
 /// over only once its least number of turns is done. A turn takes an instant, or raises an exception: none vanishes.
@@ -25,4 +26,10 @@ pub fn siblings_are_judged_together()
 /// these scopes is entered in what is left to be done.
 pub fn scopes_begin_anew()
     ensures { ScopesBeginAnew }
+{}
+
+/// Where a well typed expression is worth something, that is a value of its kind, if the variables that it names have values of
+/// theirs. So what is said of operators on values of other kinds says nothing of a scenario.
+pub fn worths_are_of_their_kinds()
+    ensures { WorthsAreOfTheirKinds }
 {}

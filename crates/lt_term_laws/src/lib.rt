@@ -4,4 +4,7 @@
 
 mod laws;
 
-pub use laws::{counted_loops_keep_their_bounds, scopes_begin_anew, siblings_are_judged_together};
+pub use laws::{
+    counted_loops_keep_their_bounds, scopes_begin_anew, siblings_are_judged_together,
+    worths_are_of_their_kinds,
+};
