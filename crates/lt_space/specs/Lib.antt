@@ -4,7 +4,7 @@ pub mod Formula
 pub mod FormulaView
 -- What expressions mean in an instant.
 pub mod Meaning
--- How large a formula may be.
+-- How large a formula may be, and how much a space may be made for.
 pub mod Size
 -- The ranges of a scope.
 pub mod Scope

@@ -1,9 +1,17 @@
--- How large a formula may be where it is worked out.
+-- How large a formula may be where it is worked out, and how much a space may be made for.
 use Rattle.std.specs.Prelude.{ℕ, Bool, true, ◌&&◌, length, nat_le}
 use Rattle.lt_linear.specs.declared.form.Form.{Form}
 use Rattle.lt_space.specs.Formula.{Formula, atom, choice, conjunction, disjunction, exclusive, negation, truth}
 use Rattle.lt_space.specs.declared.formula.Atom.{Atom}
 use Rattle.lt_space.specs.declared.formula.Atom.TheVariants.{Compare, Flag}
+
+-- how many expressions a table may have that a space is made for
+abbrev pub most_expressions : ℕ
+most_expressions = 16_777_216
+
+-- how many constraints a space may have room for at once
+abbrev pub most_constraints : ℕ
+most_constraints = 2_147_483_648
 
 -- how many terms a form may have: one for each output and local
 abbrev pub most_terms : ℕ

@@ -6,6 +6,7 @@ ghost use Rattle.lt_formula.specs.Limits.{most_variables};
 ghost use Rattle.lt_linear.specs.Draft.{draft_form, draft_room, lent_form};
 ghost use Rattle.lt_linear.specs.Form.{constant_form, form_compared, form_difference, form_divided, form_scaled, form_sum, is_raw, variable_form};
 ghost use Rattle.lt_linear.specs.Order.{is_difference, is_form};
+ghost use Rattle.lt_space.specs.Size.{most_expressions};
 ghost use Rattle.lt_space.specs.inner.Place.{form_at};
 ghost use Rattle.lt_space.specs.inner.Measures.{AreBlank, AreForms, AreRoomy, HasPlace, IsPut, IsRedrafted, PutTells, StayLarge, measured};
 
@@ -31,7 +32,7 @@ impl Measures {
         expressions: usize,
         variables: usize,
     ) -> Result<Measures, AllocError>
-        requires expressions { expressions ≤ 16_777_216 }
+        requires expressions { expressions ≤ most_expressions }
         requires variables { variables ≤ most_variables }
         ensures blank { IfOk result (λ measures. AreBlank measures) }
         ensures room { IfOk result (λ measures. AreRoomy expressions variables measures) }

@@ -10,6 +10,7 @@ ghost use Rattle.lt_formula.specs.View.{table_expressions, table_kinds, table_le
 ghost use Rattle.lt_space.specs.CircuitView.{circuit_formulas, circuit_len};
 ghost use Rattle.lt_space.specs.Formula.{truth};
 ghost use Rattle.lt_space.specs.Meaning.{formula_of_all};
+ghost use Rattle.lt_space.specs.Size.{most_constraints, most_expressions};
 ghost use Rattle.lt_space.specs.inner.Memo.{memo_numbers};
 ghost use Rattle.lt_space.specs.inner.Noted.{are_below};
 ghost use Rattle.lt_space.specs.inner.Work.{HasWorkRoom, formulas_in, gates_in};
@@ -22,12 +23,6 @@ use crate::work::Work;
 use lt_formula::{Known, Memory, Table};
 use lt_num::Arith;
 use std::alloc::Global;
-
-// How many expressions a table may have that a space is made for.
-const MOST_EXPRESSIONS: usize = 1 << 24;
-
-// How many constraints it may have room for at once.
-const MOST_WANTED: usize = 1 << 31;
 
 /// The constraints of an instant: what they say of its outputs and locals, as a circuit. All its room is reserved
 /// when it is made.
@@ -51,14 +46,17 @@ impl Space {
     ghost use Rattle.lt_space.specs.LoadedView.{loaded_formula, told_atom};
     ghost use Rattle.lt_space.specs.SpaceView.{IsOver, TellsEvaluated, loaded, space_circuit, space_decimals, space_formula, space_gates, space_len, space_most, space_root, space_told, space_wanted};
 
-    /// A space for the expressions of a table that has at most 128 outputs and locals together, with room for at most
-    /// so many constraints. It has none: its formula is the truth true.
+    /// A space for the expressions of a table, of which there are at most 2^24, over at most 128 outputs and locals
+    /// together; with room for at most so many constraints, which are 2^31 or fewer. It has none: its formula is the
+    /// truth true.
     ///
     /// # Errors
     ///
-    /// Want of memory; also where the table has more than 2^24 expressions, or the constraints may be more than 2^31.
+    /// Want of memory.
     pub fn make(alloc: Global, table: &Table, most: usize) -> Result<Space, Memory>
-        requires { variables_of (table_kinds table.now) ≤ most_variables }
+        requires few { variables_of (table_kinds table.now) ≤ most_variables }
+        requires few_expressions { table_len table.now ≤ most_expressions }
+        requires few_constraints { most ≤ most_constraints }
         ensures table { IfOk result (IsOver table.now) }
         ensures wanted { IfOk result (λ space. space_wanted space ≡ []) }
         ensures formula { IfOk result (λ space. space_formula space ≡ truth true) }
@@ -66,9 +64,6 @@ impl Space {
         ensures most { IfOk result (λ space. space_most space ≡ most) }
     {
         let expressions = table.len();
-        if expressions > MOST_EXPRESSIONS || most > MOST_WANTED {
-            return Err(Memory);
-        }
         let wanted = Vec::with_capacity(alloc, most)?;
         let noted = Memo::make(alloc, expressions)?;
         let mut work = Work::make(alloc, expressions, table.variables(), most)?;

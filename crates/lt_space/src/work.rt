@@ -8,6 +8,7 @@ ghost use Rattle.lt_space.specs.Circuit.{formula_at};
 ghost use Rattle.lt_space.specs.CircuitView.{circuit_formulas, circuit_room};
 ghost use Rattle.lt_space.specs.Formula.{truth};
 ghost use Rattle.lt_space.specs.Meaning.{compared, comparison, connected};
+ghost use Rattle.lt_space.specs.Size.{most_constraints, most_expressions};
 ghost use Rattle.lt_space.specs.inner.Place.{form_at};
 ghost use Rattle.lt_space.specs.inner.Measures.{AreForms, IsRedrafted, measured};
 ghost use Rattle.lt_space.specs.inner.Pushed.{HasGates, HasTerms, IsPushed};
@@ -39,9 +40,9 @@ impl Work {
         variables: usize,
         most: usize,
     ) -> Result<Work, AllocError>
-        requires expressions { expressions ≤ 16_777_216 }
+        requires expressions { expressions ≤ most_expressions }
         requires variables { variables ≤ most_variables }
-        requires most { most ≤ 2_147_483_648 }
+        requires most { most ≤ most_constraints }
         ensures room { IfOk result (λ work. HasWorkRoom most work) }
         ensures len { IfOk result (λ work. length (gates_in work) ≡ expressions) }
         ensures variables { IfOk result (λ work. work.measures.variables ≡ variables) }
