@@ -46,7 +46,7 @@ impl Run {
         body_is_at_start(scenario);
         body_is_valid(scenario);
         let track = track_of(alloc, &scenario.body)?;
-        let nodes = node_count(&track).ok_or("too many nodes")?;
+        let nodes = node_count(&track);
         Ok(Run {
             term: scenario.body.clone()?,
             walk: Walk::make(alloc, nodes, weights_for(alloc, &track)?)?,

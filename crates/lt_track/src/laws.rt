@@ -1,13 +1,14 @@
 //! What follows from the definitions. The functions do nothing: their contracts say it.
 
-ghost use Rattle.std.specs.Prelude.{ℕ, IsTrue};
+ghost use Rattle.std.specs.Prelude.{◌≤◌, ◌*◌, ℕ, IsTrue};
+ghost use Rattle.lt_term.specs.Limits.{most_nodes};
 ghost use Rattle.lt_term.specs.View.{process};
 ghost use Rattle.lt_term.specs.Within.{Tests, passes};
 ghost use Rattle.lt_track.specs.Found.{LeavesAreNodes, WeightsAreNodes};
 ghost use Rattle.lt_track.specs.Narrow.{ChoicesStayNarrow, IsNarrow};
 ghost use Rattle.lt_track.specs.Start.{IsAtStart};
 ghost use Rattle.lt_track.specs.Turns.{BodiesAreUnbegun, StepsGrowByOne};
-ghost use Rattle.lt_track.specs.View.{body, standing};
+ghost use Rattle.lt_track.specs.View.{body, nodes, standing};
 
 use crate::track::Track;
 use lt_term::{Scenario, turns_grow_by_one};
@@ -25,10 +26,12 @@ pub fn arrivals_are_nodes()
 {}
 
 /// The body of a scenario is at its beginning: so it is a term that [`track_of`](crate::track_of)
-/// takes. None of its choices has more than 64 alternatives.
+/// takes. None of its choices has more than 64 alternatives, and it has at most three nodes for each of the 100,000
+/// terms that may stand in it: so [`node_count`](crate::node_count) can count them.
 pub fn body_is_at_start(scenario: &Scenario)
     ensures begins { IsAtStart (process scenario.now.body) }
     ensures narrow { IsNarrow (process scenario.now.body) }
+    ensures few { nodes (process scenario.now.body) ≤ 3 * most_nodes }
 {}
 
 /// No turn is done in a body; and behind each instant that a walk finds, and that
