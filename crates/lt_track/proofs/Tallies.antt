@@ -132,3 +132,8 @@ loop_raises z b t = let row : raises z (with_leaves (in_turn b) t) ≡ raises z 
 
 pub count_raises : (z : ℕ) (b : Process ℕ) (x y : Weight ℕ) (t : TermTree ℕ) → raises z (weighted [] (branch x (with_leaves (in_turn b) t) (branch y (leaf vanish) no_branch))) ≡ raises z t
 count_raises z b x y t = let row : raises z (with_leaves (in_turn b) t) ≡ raises z t + vanishes t * 0 = (seq_row b (leaf nothing) t).raises_are z in omega (arith, row)
+
+-- where a loop has a turn at hand, it is asked where the run stands
+pub inside_stands : (is_fresh : Bool) (m : Mark) → mark.Inside ≡ marked is_fresh m → is_fresh ≡ false
+inside_stands true m e = absurd (cc)
+inside_stands false m e = refl

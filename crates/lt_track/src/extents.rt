@@ -1,6 +1,6 @@
 //! How large what tracks offer is.
 
-ghost use Rattle.std.specs.Prelude.{◌≡◌, ◌≤◌, ℕ, List, slice_index_or, true};
+ghost use Rattle.std.specs.Prelude.{◌≡◌, ◌≤◌, ℕ, List, false, slice_index_or, true};
 ghost use Rattle.lt_num.specs.declared.kind.Kind.{Kind};
 ghost use Rattle.lt_term.specs.Offers.{offers_of};
 ghost use Rattle.lt_term.specs.Process.{any, count, dead, loop};
@@ -91,7 +91,8 @@ pub(crate) fn keep(track: &mut Track, is_fresh: bool, extent: Extent)
 
 /// How large what a term offers is, by what its parts keep.
 pub(crate) fn extent_of(track: &Track, is_fresh: bool) -> Extent
-    requires { HasTalliedParts track.now }
+    requires parts { HasTalliedParts track.now }
+    requires whole { is_fresh ≡ false → IsWhole (extent_of true track.now) (body track.now) }
     ensures tally { IsTallyOf result.tally (begun is_fresh track.now) }
     ensures raised { IsRaisedWhile is_fresh result.raised track.now }
 {
@@ -118,6 +119,7 @@ fn raised_in(track: &Track, is_fresh: bool) -> u64
 // The tally of what a term offers. Of a term with a handler so many leaves of the part raise the exception.
 fn tally_by(track: &Track, is_fresh: bool, raised: u64) -> Tally
     requires parts { HasTalliedParts track.now }
+    requires whole { is_fresh ≡ false → IsWhole (extent_of true track.now) (body track.now) }
     requires few { raised ≤ 65537 }
     requires raised { IsRaisedWhile is_fresh raised track.now }
     ensures { IsTallyOf result (begun is_fresh track.now) }
@@ -135,7 +137,7 @@ fn tally_by(track: &Track, is_fresh: bool, raised: u64) -> Tally
             now => followed(part_tally(first, now.is_new()), part_tally(second, true)),
         },
         Track::Loop(marks, body) => match marks.standing(is_fresh) {
-            Mark::Inside => followed(part_tally(body, false), loop_tally(body)),
+            Mark::Inside => followed(part_tally(body, false), marks.whole.tally),
             _ => loop_tally(body),
         },
         Track::Count(marks, _, body) => match marks.standing(is_fresh) {

@@ -3,9 +3,9 @@ use Rattle.lt_tally.proofs.Public.{assert_row, exist_row, try_row}
 use Rattle.lt_term.specs.Offers.{offers_of, start_of}
 use Rattle.lt_track.specs.Marks.{count_at, last_of, loop_at}
 use Rattle.lt_track.specs.Over.{is_over}
-use Rattle.lt_track.specs.Tallied.{IsRaisedBy, IsRaisedWhile}
+use Rattle.lt_track.specs.Tallied.{IsRaisedBy, IsRaisedWhile, IsWhole, extent_of}
 use Rattle.lt_track.specs.View.{begun, body, standing}
-use Rattle.lt_track.proofs.Tallies.{found_raised, over_kinds, same_tally}
+use Rattle.lt_track.proofs.Tallies.{found_raised, inside_stands, over_kinds, same_tally}
 use Rattle.lt_track.proofs.Terms.{assert_offers, begun_is, catch_offers, con_begun, count_new, count_offers, exist_offers, loop_new, loop_offers, par_offers, pri_offers, seq_offers, try_offers}
 use Rattle.lt_track.proofs.extents.tally_by.Goals as goal
 use Rattle.lt_track.proofs.extents.tally_by.Goals.{else-not-is_new-via-then-not-is_new+else-is_over, else-not-is_new-via-else-not-is_new}
@@ -21,12 +21,14 @@ returns-in_default-standing c =
 
 pub returns-in-Inside : goal.returns-in-Inside
 returns-in-Inside c =
+    let stands : c.args.is_fresh ≡ false = inside_stands c.args.is_fresh c.in-Loop.marks.at c.in-Inside.ensures in
+    let whole = subst (λ t. IsWhole (extent_of true t) (body t)) c.in-Loop.is (c.requires.whole stands) in
     over_kinds _ _ (begun c.args.is_fresh c.args.track.now) (λ k. loop_offers k c.args.is_fresh c.args.track.now c.in-Loop.marks.at c.in-Loop.body.value c.in-Inside.ensures (ap standing c.in-Loop.is) (ap body c.in-Loop.is))
-    (λ k. c.followed-in-Inside.ensures _ _ _ (c.part_tally-in-Inside.ensures k) (c.loop_tally.ensures k))
+    (λ k. c.followed-in-Inside.ensures _ _ _ (c.part_tally-in-Inside.ensures k) (whole.0 k))
 
 pub returns-in_default-standing-2 : goal.returns-in_default-standing-2
 returns-in_default-standing-2 c =
-    over_kinds _ _ (begun c.args.is_fresh c.args.track.now) (λ k. ap (offers_of k) (begun_is c.args.is_fresh c.args.track.now c.in-Loop.marks.at c.standing-in-Loop.result (λ l. loop_at l (body c.in-Loop.body.value) (standing c.in-Loop.body.value)) c.standing-in-Loop.ensures (ap standing c.in-Loop.is) (ap body c.in-Loop.is) ∙ loop_new k c.standing-in-Loop.result (body c.in-Loop.body.value) (standing c.in-Loop.body.value) c.in_default-standing-2.not-Inside)) (λ k. c.loop_tally-in_default-standing-2.ensures k)
+    over_kinds _ _ (begun c.args.is_fresh c.args.track.now) (λ k. ap (offers_of k) (begun_is c.args.is_fresh c.args.track.now c.in-Loop.marks.at c.standing-in-Loop.result (λ l. loop_at l (body c.in-Loop.body.value) (standing c.in-Loop.body.value)) c.standing-in-Loop.ensures (ap standing c.in-Loop.is) (ap body c.in-Loop.is) ∙ loop_new k c.standing-in-Loop.result (body c.in-Loop.body.value) (standing c.in-Loop.body.value) c.in_default-standing-2.not-Inside)) (λ k. c.loop_tally.ensures k)
 
 pub returns-in-Counted : goal.returns-in-Counted
 returns-in-Counted c =
