@@ -22,6 +22,8 @@ mod Turns
 mod Scaled
 -- The places of variables.
 mod PlacedLemmas
+-- First points of boxes.
+mod FirstPoints
 -- Lists that code writes.
 mod Written
 -- What a search over places finds of points.

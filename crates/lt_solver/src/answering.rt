@@ -24,6 +24,7 @@ ghost use Rattle.lt_solver.specs.inner.Placed.{all_places};
 ghost use Rattle.lt_solver.specs.inner.Points.{first_point};
 ghost use Rattle.lt_solver.specs.inner.Roomy.{IsRoomy};
 
+use crate::first_point::passes_at_once;
 use crate::literals::{Fixing, fix_literals};
 use crate::placing::{first_raw, places_of};
 use crate::room::Room;
@@ -103,7 +104,7 @@ pub(crate) fn answer_within(
 }
 
 // Finds the first solution within the box at hand, which is then its first point; the answer says whether there is one. By the
-// literals of a formula alone, that is found at once.
+// literals of a formula alone, that is found at once, and often so where its first point passes.
 fn find(space: &Space, scope: &[bool], steps: u64, is_known: bool, room: &mut Room) -> bool
     requires scaled { AreScaled room.old.scales.items room.old.current.items }
     requires few { length room.old.current.items ≤ most_variables }
@@ -134,6 +135,15 @@ fn find(space: &Space, scope: &[bool], steps: u64, is_known: bool, room: &mut Ro
         Fixing::Infeasible => return false,
         Fixing::Solved => return true,
         Fixing::Open => {}
+    }
+    if passes_at_once(
+        space,
+        &room.scales,
+        &room.starts,
+        &room.current,
+        &mut room.misses,
+    ) {
+        return true;
     }
     room.prepare(space, scope, steps, is_known);
     let count = room.current.len();

@@ -9,12 +9,14 @@
 //! [`Scale`](lt_formula::Scale), whose slope is the step, or minus the step where the variable goes downward. The search goes
 //! over boxes of places, depth first in the order from the places of the targets. Each box is classified: what the formula
 //! says of its values narrows it, a dive along the first places may end at its first solution, and a reason may be found why
-//! it has none; else it is split. `specs/Answers.antt` says what is answered.
+//! it has none; else it is split. Where literals say all, or the first point is found to pass as it stands, nothing is searched.
+//! `specs/Answers.antt` says what is answered.
 #![tactic(auto)]
 
 mod answering;
 mod classifying;
 mod diving;
+mod first_point;
 mod laws;
 mod literals;
 mod placing;

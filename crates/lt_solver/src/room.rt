@@ -51,6 +51,9 @@ pub(crate) struct Room {
     /// For each gate an earlier one with the same form, or else itself.
     pub(crate) same: Vec<u32>,
 
+    /// How many first points weren't found to pass, one after the other.
+    pub(crate) misses: u32,
+
     /// Room to measure needs in, with the hard variables of the last one.
     pub(crate) need: lt_need::Room,
 }
@@ -78,6 +81,7 @@ impl Room {
             scope: Vec::with_capacity(alloc, count)?,
             latest: vec![in alloc; 0; LATEST]?,
             same: Vec::with_capacity(alloc, gates)?,
+            misses: 0,
             need: lt_need::Room::make(alloc, gates)?,
         })
     }

@@ -45,6 +45,41 @@ returns-in-Solved-clause-narrower c is =
     let long = narrower_length room.current.items new fixes.2 in
     subst (IsNarrower room.current.items) (sym (refilled room.current.len room.current.items new room.current.ok.0 long)) fixes.2
 
+pub passes_at_once-requires : goal.passes_at_once-requires
+passes_at_once-requires c =
+    let room = c.args.room.now in
+    let old = room.current.items in
+    let left = c.fix_literals.new.places in
+    let fixes = fixes_of c.args.space.now room.scales.items old left Open c.circuit.result.now c.root.result c.deref.result.now c.deref_mut.result.now c.circuit.ensures c.root.ensures.root c.deref.ensures.value c.deref_mut.ensures.value c.in-Open.ensures in
+    let long = narrower_length old left fixes.1 in
+    let box : c.deref-4.result.now ≡ left = c.deref-4.ensures.value ∙ refilled room.current.len old left room.current.ok.0 long in
+    record {
+      scaled = subst (λ (ss : List Scale). AreScaled ss c.deref-4.result.now) (sym c.deref-2.ensures.value) (subst (AreScaled room.scales.items) (sym box) (scaled_narrower room.scales.items old left c.requires.scaled fixes.1));
+      starts = ap length c.deref-3.ensures.value ∙ c.requires.starts ∙ sym (ap length box ∙ long);
+    }
+
+pub returns-then-passes_at_once-clause-found : goal.returns-then-passes_at_once-clause-found
+returns-then-passes_at_once-clause-found c =
+    let room = c.args.room.now in
+    let old = room.current.items in
+    let left = c.fix_literals.new.places in
+    let fixes = fixes_of c.args.space.now room.scales.items old left Open c.circuit.result.now c.root.result c.deref.result.now c.deref_mut.result.now c.circuit.ensures c.root.ensures.root c.deref.ensures.value c.deref_mut.ensures.value c.in-Open.ensures in
+    let long = narrower_length old left fixes.1 in
+    let box : c.deref-4.result.now ≡ left = c.deref-4.ensures.value ∙ refilled room.current.len old left room.current.ok.0 long in
+    fixed_open (passes c.args.space.now room.scales.items) old left room.starts.items fixes
+    ∙ (λ i. first_in_box (passes c.args.space.now (sym c.deref-2.ensures.value i)) (sym box i) (sym c.deref-3.ensures.value i))
+    ∙ c.passes_at_once.ensures c.if-passes_at_once.true
+    ∙ (λ i. Some (first_point (c.deref-3.ensures.value i) (c.deref-4.ensures.value i)))
+
+pub returns-then-passes_at_once-clause-narrower : goal.returns-then-passes_at_once-clause-narrower
+returns-then-passes_at_once-clause-narrower c is =
+    let room = c.args.room.now in
+    let old = room.current.items in
+    let left = c.fix_literals.new.places in
+    let fixes = fixes_of c.args.space.now room.scales.items old left Open c.circuit.result.now c.root.result c.deref.result.now c.deref_mut.result.now c.circuit.ensures c.root.ensures.root c.deref.ensures.value c.deref_mut.ensures.value c.in-Open.ensures in
+    let long = narrower_length old left fixes.1 in
+    subst (IsNarrower old) (sym (refilled room.current.len old left room.current.ok.0 long)) fixes.1
+
 pub search-requires : goal.search-requires
 search-requires c =
     let room = c.args.room.now in
@@ -54,17 +89,17 @@ search-requires c =
     let long = narrower_length old left fixes.1 in
     let ready = c.prepare.new.self in
     let box : c.deref_mut-2.result.now ≡ left = c.deref_mut-2.ensures.value ∙ ap (λ (v : Vec Interval Global). v.items) c.prepare.ensures.current ∙ refilled room.current.len old left room.current.ok.0 long in
-    let scales : c.deref-3.result.now ≡ room.scales.items = c.deref-3.ensures.value ∙ ap (λ (v : Vec Scale Global). v.items) c.prepare.ensures.scales in
-    let starts : c.deref-4.result.now ≡ room.starts.items = c.deref-4.ensures.value ∙ ap (λ (v : Vec ℤ Global). v.items) c.prepare.ensures.starts in
+    let scales : c.deref-6.result.now ≡ room.scales.items = c.deref-6.ensures.value ∙ ap (λ (v : Vec Scale Global). v.items) c.prepare.ensures.scales in
+    let starts : c.deref-7.result.now ≡ room.starts.items = c.deref-7.ensures.value ∙ ap (λ (v : Vec ℤ Global). v.items) c.prepare.ensures.starts in
     let many : length c.deref_mut-2.result.now ≡ length old = ap length box ∙ long in
     let roomy = c.prepare.ensures.roomy (length old) (circuit_len (space_circuit c.args.space.now))
     (record { scales = c.requires.roomy.scales; starts = c.requires.roomy.starts; current = c.requires.roomy.current; stack = c.requires.roomy.stack; wide = c.requires.roomy.wide; latest = c.requires.roomy.latest; same = c.requires.roomy.same; need = c.requires.roomy.need }) in
-    let most = mul-le (levels_of c.deref-4.result.now c.deref_mut-2.result.now) (length c.deref_mut-2.result.now) (length c.deref_mut-2.result.now * 42) (length c.deref_mut-2.result.now) (levels_most c.deref-4.result.now c.deref_mut-2.result.now) (omega arith) in
+    let most = mul-le (levels_of c.deref-7.result.now c.deref_mut-2.result.now) (length c.deref_mut-2.result.now) (length c.deref_mut-2.result.now * 42) (length c.deref_mut-2.result.now) (levels_most c.deref-7.result.now c.deref_mut-2.result.now) (omega arith) in
     record {
       scaled = subst (λ (ss : List Scale). AreScaled ss c.deref_mut-2.result.now) (sym scales) (subst (AreScaled room.scales.items) (sym box) (scaled_narrower room.scales.items old left c.requires.scaled fixes.1));
       few = omega (arith, many, c.requires.few);
       starts = ap length starts ∙ c.requires.starts ∙ sym many;
-      ties = subst (λ (xs : List ℕ). AreTies (space_circuit c.args.space.now) xs) (sym c.deref-2.ensures.value) c.prepare.ensures.ties;
+      ties = subst (λ (xs : List ℕ). AreTies (space_circuit c.args.space.now) xs) (sym c.deref-5.ensures.value) c.prepare.ensures.ties;
       hard = omega (arith, length-take c.len-count.result c.hard.result.now, c.hard.ensures.len, c.len-count.ensures, c.deref_mut-2.ensures.len, many, c.requires.few);
       stack = omega (arith, most, ap (λ n. n * 42 * n) many, roomy.stack);
       widened = omega (arith, many, roomy.wide.widened);
@@ -83,8 +118,8 @@ returns-clause-found c =
     let long = narrower_length old left fixes.1 in
     let ready = c.prepare.new.self in
     let box : c.deref_mut-2.result.now ≡ left = c.deref_mut-2.ensures.value ∙ ap (λ (v : Vec Interval Global). v.items) c.prepare.ensures.current ∙ refilled room.current.len old left room.current.ok.0 long in
-    let scales : c.deref-3.result.now ≡ room.scales.items = c.deref-3.ensures.value ∙ ap (λ (v : Vec Scale Global). v.items) c.prepare.ensures.scales in
-    let starts : c.deref-4.result.now ≡ room.starts.items = c.deref-4.ensures.value ∙ ap (λ (v : Vec ℤ Global). v.items) c.prepare.ensures.starts in
+    let scales : c.deref-6.result.now ≡ room.scales.items = c.deref-6.ensures.value ∙ ap (λ (v : Vec Scale Global). v.items) c.prepare.ensures.scales in
+    let starts : c.deref-7.result.now ≡ room.starts.items = c.deref-7.ensures.value ∙ ap (λ (v : Vec ℤ Global). v.items) c.prepare.ensures.starts in
     let new = c.search.new.current in
     let shorter = narrower_length c.deref_mut-2.result.now new c.search.ensures.narrower in
     let last = refilled ready.current.len ready.current.items new ready.current.ok.0 (shorter ∙ ap length c.deref_mut-2.ensures.value) in
@@ -102,8 +137,8 @@ returns-clause-narrower c is =
     let long = narrower_length old left fixes.1 in
     let ready = c.prepare.new.self in
     let box : c.deref_mut-2.result.now ≡ left = c.deref_mut-2.ensures.value ∙ ap (λ (v : Vec Interval Global). v.items) c.prepare.ensures.current ∙ refilled room.current.len old left room.current.ok.0 long in
-    let scales : c.deref-3.result.now ≡ room.scales.items = c.deref-3.ensures.value ∙ ap (λ (v : Vec Scale Global). v.items) c.prepare.ensures.scales in
-    let starts : c.deref-4.result.now ≡ room.starts.items = c.deref-4.ensures.value ∙ ap (λ (v : Vec ℤ Global). v.items) c.prepare.ensures.starts in
+    let scales : c.deref-6.result.now ≡ room.scales.items = c.deref-6.ensures.value ∙ ap (λ (v : Vec Scale Global). v.items) c.prepare.ensures.scales in
+    let starts : c.deref-7.result.now ≡ room.starts.items = c.deref-7.ensures.value ∙ ap (λ (v : Vec ℤ Global). v.items) c.prepare.ensures.starts in
     let new = c.search.new.current in
     let shorter = narrower_length c.deref_mut-2.result.now new c.search.ensures.narrower in
     let last = refilled ready.current.len ready.current.items new ready.current.ok.0 (shorter ∙ ap length c.deref_mut-2.ensures.value) in
