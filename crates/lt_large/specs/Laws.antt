@@ -11,7 +11,7 @@ use Rattle.lt_term.specs.Scene.{Scene}
 use Rattle.lt_large.specs.Scenario.{scenario_text}
 use Rattle.lt_large.specs.Scene.{body, large_scene}
 
--- The text of each number of outputs has its scenario, and no other answer: so it is never refused.
+-- The text of each number of outputs, from 2 to 7, has its scenario, and no other answer: so it is never refused.
 abbrev pub LargeTextsHaveScenes : Type 0
 LargeTextsHaveScenes =
     (variables : ℕ) → 2 ≤ variables → variables ≤ 7 →

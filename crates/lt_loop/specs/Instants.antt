@@ -13,7 +13,7 @@ use Rattle.lt_loop.specs.declared.event.PieceKind.{PieceKind}
 use Rattle.lt_loop.specs.declared.event.PieceKind.TheVariants as piece_kind
 
 -- How many pieces an instant puts out at most: the outputs, for the controller; the question, for the oracle; the step; and
--- the end line behind the last step, where no further instant is made or a side fails then.
+-- the end line behind the last step, which counts to that step's instant, whatever instant it names.
 abbrev pub most_pieces : ℕ
 most_pieces = 4
 

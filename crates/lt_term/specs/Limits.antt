@@ -1,4 +1,4 @@
--- How large a scenario may be, and the tree of an instant. An expansion is refused beyond the same numbers.
+-- How large a scenario may be, beyond which an expansion is refused, and the tree of an instant.
 use Rattle.std.specs.Prelude.{ℕ}
 
 -- the most terms and nodes of expressions that there may be

@@ -76,7 +76,8 @@ pub struct Scenario {
     // Each expression of the table is a constraint or a weight of the body, or a part of one.
     pub ghost named: { ∥ AreNamed (table_expressions table) (process_over table body) ∥₁ },
 
-    // All of them are well typed, by the kinds of the variables: constraints are truths, and weights are ints.
+    // The constraints of the body are truths, and its weights ints, by the kinds of the variables, and all their parts are
+    // well typed: so are all expressions of the table.
     pub ghost typed: { ∥ IsTypedTerm (table_kinds table) (process_over table body) ∥₁ },
 
     // No expression of the table, and no part of one, is a product of two controllable parts, a quotient by a

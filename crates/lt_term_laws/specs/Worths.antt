@@ -22,8 +22,8 @@ HasFittingVariables kinds v (unary op e) = HasFittingVariables kinds v e
 HasFittingVariables kinds v (binary op d e) = HasFittingVariables kinds v d × HasFittingVariables kinds v e
 HasFittingVariables kinds v (choice c d e) = HasFittingVariables kinds v c × HasFittingVariables kinds v d × HasFittingVariables kinds v e
 
--- Where a well typed expression is worth something, that is a value of its kind. So are its parts, and no operator meets a value
--- of another kind than it takes.
+-- Where a well typed expression is worth something, that is a value of its kind. Its parts are well typed too, so the same holds of
+-- each of them that is worth something.
 abbrev pub WorthsAreOfTheirKinds : Type 0
 WorthsAreOfTheirKinds =
     (kinds : Kinds) (v : Valuation) (e : Expression) (k : Kind) (x : Value) →

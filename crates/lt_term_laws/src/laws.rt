@@ -29,7 +29,7 @@ pub fn scopes_begin_anew()
 {}
 
 /// Where a well typed expression is worth something, that is a value of its kind, if the variables that it names have values of
-/// theirs. So what is said of operators on values of other kinds says nothing of a scenario.
+/// theirs. The same holds of its parts.
 pub fn worths_are_of_their_kinds()
     ensures { WorthsAreOfTheirKinds }
 {}

@@ -1,4 +1,4 @@
--- When all expressions of a node are.
+-- When all expressions of a node are well typed.
 pub mod TypedNode
 -- Macros that stand for what their types say.
 pub mod Macros

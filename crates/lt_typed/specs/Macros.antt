@@ -81,7 +81,7 @@ abbrev mutual
   FitInMeaning kind (s.trace_meaning x) = (kind ≡ t.Trace) × FitInTrace x
   FitInMeaning kind (s.value_meaning e) = FitInExp e
 
-  -- in a macro
+  -- in a macro, but for first values of its parameters, which no well typed program has
   pub FitInMacro : Macro → Type 0
   FitInMacro (s.macro w ps kind m) = FitInMeaning kind m
 
@@ -106,7 +106,8 @@ FitInDeclaration (s.node w ins outs x) = FitInGroups ins × FitInGroups outs × 
 FitInDeclaration (s.macro_declaration m) = FitInMacro m
 FitInDeclaration (s.exception_declaration ws) = Unit {0}
 
--- Each macro of a program stands for a trace only where its type is that of traces.
+-- Each macro of a program stands for a trace only where its type is that of traces; of those in first values of parameters nothing
+-- is said.
 abbrev pub MacrosFitTheirTypes : List Declaration → Type 0
 MacrosFitTheirTypes [] = Unit {0}
 MacrosFitTheirTypes (d ∷ ds) = FitInDeclaration d × MacrosFitTheirTypes ds
