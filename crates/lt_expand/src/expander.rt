@@ -10,7 +10,6 @@ ghost use Rattle.lt_macros.specs.Naming.{NamesWhatIsThere};
 ghost use Rattle.lt_macros.specs.Numbering.{IsNumbered};
 ghost use Rattle.lt_macros.specs.Scoping.{AreInside};
 ghost use Rattle.lt_macros.specs.Tree.{expanded, node};
-ghost use Rattle.lt_typed.specs.Macros.{MacrosFitTheirTypes};
 ghost use Rattle.lt_typed.specs.TypedNode.{IsTypedNode};
 ghost use Rattle.lt_expand.specs.Answer.{IsAnswer};
 
@@ -18,13 +17,12 @@ use crate::judging::judge;
 use crate::refusal::ExpandRefusal;
 use crate::scenario::scenario;
 use lt_macros::{Node, expanded_node, locals_are_inside, names_are_there, parts_are_numbered};
+use lt_spelled::texts_keep_types;
 use lt_term::Scenario;
-use lt_typed::expansion_keeps_types;
 use lt_types::{Typed, well_typed_is_unrefused};
 use std::alloc::Global;
 
-/// The scenario of the node that is asked for, or of the first one where no name is given. Macros of the program stand for
-/// what their types say, as they do in each program that a text spells.
+/// The scenario of the node that is asked for, or of the first one where no name is given.
 ///
 /// # Errors
 ///
@@ -32,7 +30,6 @@ use std::alloc::Global;
 /// the first limit that it is past, and the first place in preorder of each other cause, in the order of the causes.
 /// [`ExpandRefusal::Memory`] where memory ran out.
 pub fn expand(alloc: Global, typed: &Typed, node: Option<&str>) -> Result<Scenario, ExpandRefusal>
-    requires macros { MacrosFitTheirTypes (declarations typed.now.program) }
     ensures { IsAnswer typed.now.decimals
         (expanded_node typed.now.decimals (asked_name node.entry) (declarations typed.now.program))
         result }
@@ -42,7 +39,7 @@ pub fn expand(alloc: Global, typed: &Typed, node: Option<&str>) -> Result<Scenar
     locals_are_inside();
     names_are_there();
     well_typed_is_unrefused();
-    expansion_keeps_types();
+    texts_keep_types();
     judged_scenario(alloc, &asked, typed.decimals())
 }
 
@@ -53,7 +50,7 @@ fn judged_scenario(alloc: Global, asked: &Node, decimals: u32) -> Result<Scenari
     requires named { NamesWhatIsThere (node asked.now) }
     requires numbered { IsNumbered (node asked.now) }
     requires inside { AreInside [] (expanded asked.now.body) }
-    requires typed { IsTypedNode (node asked.now) }
+    requires typed { ∥ IsTypedNode (node asked.now) ∥₁ }
     ensures { IsAnswer decimals (Some (node asked.now)) result }
 {
     judge(alloc, asked, decimals)?;

@@ -31,7 +31,7 @@ pub(crate) fn scenario(alloc: Global, from: &Node, decimals: u32) -> Result<Scen
     requires named { NamesWhatIsThere (node from.now) }
     requires numbered { IsNumbered (node from.now) }
     requires inside { AreInside [] (expanded from.now.body) }
-    requires typed { IsTypedNode (node from.now) }
+    requires typed { ∥ IsTypedNode (node from.now) ∥₁ }
     ensures { IfOk result (λ made. scene made ≡ scene_of decimals (node from.now)) }
 {
     let parts = items_of(alloc, &from.body)?;

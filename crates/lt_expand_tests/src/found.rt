@@ -1,15 +1,12 @@
 //! What is found of a text.
 
-ghost use Rattle.std.specs.Prelude.{◌≤◌, IfOk};
-ghost use Rattle.lt_ast.specs.View.{program as declarations};
+ghost use Rattle.std.specs.Prelude.{◌≤◌};
 ghost use Rattle.lt_num.specs.Bounds.{most_decimals};
-ghost use Rattle.lt_typed.specs.Macros.{MacrosFitTheirTypes};
 
 use crate::shown::shown;
 use lt_expand::{ExpandRefusal, expand};
 use lt_macros::{Expanded, Node, expanded_node};
 use lt_parser::parse;
-use lt_spelled::spelled_macros_fit;
 use lt_term::Scenario;
 use lt_types::{Typed, check};
 use std::alloc::{AllocError, Global};
@@ -62,29 +59,15 @@ fn answer_of(
 ) -> Result<String, Fail>
     requires { decimals ≤ most_decimals }
 {
-    told(alloc, asked, &expanded(alloc, text, name, decimals)?)
-}
-
-// The scenario of a node of a well typed text, or why there is none.
-fn expanded(
-    alloc: Global,
-    text: &str,
-    name: Option<&str>,
-    decimals: u32,
-) -> Result<Result<Scenario, ExpandRefusal>, Fail>
-    requires { decimals ≤ most_decimals }
-{
     let typed = typed_of(alloc, text, decimals)?;
-    Ok(expand(alloc, &typed, name))
+    told(alloc, asked, &expand(alloc, &typed, name))
 }
 
 // The program of a well typed text.
 fn typed_of(alloc: Global, text: &str, decimals: u32) -> Result<Typed, Fail>
     requires { decimals ≤ most_decimals }
-    ensures { IfOk result (λ typed. MacrosFitTheirTypes (declarations typed.program)) }
 {
     let program = parse(alloc, text.as_bytes())?;
-    spelled_macros_fit();
     Ok(check(alloc, program, decimals)?)
 }
 

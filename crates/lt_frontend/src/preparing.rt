@@ -10,7 +10,6 @@ use crate::refusal::Unprepared;
 use lt_ast::print;
 use lt_expand::expand;
 use lt_parser::parse;
-use lt_spelled::spelled_macros_fit;
 use lt_term::Scenario;
 use lt_types::check;
 use std::alloc::Global;
@@ -37,7 +36,6 @@ pub fn scenario_of(
 {
     let program = parse(alloc, text)?;
     let typed = check(alloc, program, decimals)?;
-    spelled_macros_fit();
     Ok(expand(alloc, &typed, node)?)
 }
 

@@ -4,6 +4,8 @@ pub mod Environment
 pub mod Operators
 -- the numbers that the ends of a range are read as
 pub mod Literal
+-- programs that texts spell
+pub mod Spelled
 -- when a program is well typed
 pub mod Typing
 -- the rules that a program breaks, in the order of its text

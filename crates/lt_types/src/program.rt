@@ -7,6 +7,7 @@ ghost use Rattle.lt_types.specs.Answer.{Leads};
 ghost use Rattle.lt_types.specs.inner.Checks.{Checks};
 ghost use Rattle.lt_types.specs.Environment.{with_declaration};
 ghost use Rattle.lt_types.specs.Refusals.{declaration_refusals, declarations_refusals, new_macro, type_refusals, unless};
+ghost use Rattle.lt_types.specs.Spelled.{IsSpelled};
 ghost use Rattle.lt_types.specs.inner.Given.{node_declaration};
 ghost use Rattle.lt_types.specs.Typing.{IsWellTyped, has_node};
 
@@ -18,12 +19,13 @@ use crate::traces::check_trace;
 use lt_ast::{Decl, MacroDecl, NodeDecl, Program};
 use std::alloc::Global;
 
-/// A program that is well typed.
+/// A program that some text spells, and that is well typed.
 #[derive(Drop)]
 pub struct Typed {
     program: Program,
     decimals: u32,
     ghost few: { decimals ≤ most_decimals },
+    ghost spelled: { ∥ IsSpelled (declarations program) ∥₁ },
     ghost unrefused: { type_refusals decimals (declarations program) ≡ [] },
 }
 
@@ -53,13 +55,14 @@ impl Typed {
     }
 }
 
-/// Checks a program against the rules. A real has so many decimals, 0 to 6.
+/// Checks a program that some text spells against the rules. A real has so many decimals, 0 to 6.
 ///
 /// # Errors
 ///
 /// The first rule that the program breaks, in the order of its text, or [`TypeRefusal::Memory`] where memory ran out.
 #[tactic(auto, using(crate::proofs::Checking::checked))]
 pub fn check(alloc: Global, program: Program, decimals: u32) -> Result<Typed, TypeRefusal>
+    requires spelled { IsSpelled (declarations program) }
     requires few { decimals ≤ most_decimals }
     ensures same { IfOk result (λ t. (t.program ≡ program) × (t.decimals ≡ decimals)) }
     ensures typed { IfOk result (λ t. IsWellTyped decimals (declarations program)) }

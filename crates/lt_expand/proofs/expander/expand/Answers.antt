@@ -1,3 +1,4 @@
+use Rattle.std.proofs.Math.Logic.{∥∥₁_map}
 use Rattle.lt_ast.specs.View.{program as declarations}
 use Rattle.lt_macros.specs.Answer.{asked_name}
 use Rattle.lt_macros.specs.Tree.{node}
@@ -19,5 +20,5 @@ pub judged_scenario-requires-clause-typed : goal.judged_scenario-requires-clause
 judged_scenario-requires-clause-typed c =
     let typed = c.args.typed.now in
     let program = declarations typed.program in
-    c.expansion_keeps_types.ensures typed.decimals (asked_name c.args.node) program (node c.in_ok-asked.asked)
-    ((c.well_typed_is_unrefused.ensures typed.decimals program).1 typed.unrefused) c.requires.macros c.in_ok-asked.ensures.0
+    ∥∥₁_map typed.spelled (λ spelled. c.texts_keep_types.ensures spelled.0 typed.decimals (asked_name c.args.node) program (node c.in_ok-asked.asked)
+    spelled.1 ((c.well_typed_is_unrefused.ensures typed.decimals program).1 typed.unrefused) c.in_ok-asked.ensures.0)

@@ -1,4 +1,5 @@
 use Rattle.std.proofs.Common.{IsTrue, ap, map, string_bytes, subst, sym, ◌∙◌}
+use Rattle.std.proofs.Math.Logic.{∥∥₁_map}
 use Rattle.std.proofs.lemmas.Grind.{merely}
 use Rattle.std.proofs.lemmas.List.{length-map}
 use Rattle.std.specs.List.{All}
@@ -70,7 +71,7 @@ invariant_of-result c =
       at_start = start_made from process body.is;
       narrow = narrow_made from process body.is few;
       named = merely filled.named;
-      typed = merely (typed_made from table process c.requires.typed filled);
+      typed = ∥∥₁_map c.requires.typed (λ typed. typed_made from table process typed filled);
       linear = linear_made n from table process c.requires.judged filled;
       conditions = conditions_made n from table process c.requires.judged filled;
       weights = weights_made n from table process c.requires.judged filled;

@@ -1,8 +1,7 @@
-use Rattle.std.proofs.Common.{Err, Ok, ap, subst, sym}
+use Rattle.std.proofs.Common.{Err, Ok, ap}
 use Rattle.std.proofs.lemmas.Result.{err_from_is_err_and}
 use Rattle.lt_ast.specs.View.{program}
 use Rattle.lt_macros.specs.Answer.{asked_name}
-use Rattle.lt_typed.specs.Macros.{MacrosFitTheirTypes}
 use Rattle.lt_frontend.specs.Prepared.{IsScenarioAnswer}
 use Rattle.lt_frontend.proofs.Telling.{as_asked, expansion_told, scene_told, text_told, types_told}
 use Rattle.lt_frontend.proofs.preparing.scenario_of.Goals as goal
@@ -29,10 +28,3 @@ returns-clause-made c =
     let same = c.in_ok-typed.ensures.same in
     let answer = as_asked c.args.decimals c.in_ok-typed.typed.decimals (asked_name c.args.node) (program c.in_ok-program.program) (program c.in_ok-typed.typed.program) (Ok c.in_ok-expand.field-0) same.1 (ap program same.0) c.in_ok-expand.ensures in
     scene_told c.args.decimals (asked_name c.args.node) c.args.text.now (program c.in_ok-program.program) c.in_ok-expand.field-0 c.in_ok-program.ensures.found c.in_ok-typed.ensures.typed answer
-
-pub expand-requires : goal.expand-requires
-expand-requires c = record {
-  macros =
-      subst MacrosFitTheirTypes (sym (ap program c.in_ok-typed.ensures.same.0))
-      (c.spelled_macros_fit.ensures c.args.text.now (program c.in_ok-program.program) c.in_ok-program.ensures.found);
-}
