@@ -66,6 +66,7 @@ pub(crate) fn load(alloc: Global, sheet: &Sheet) -> Result<(Space, Result<(), Ar
     if !are_within(&sheet.table, numbers) {
         return Err(Fail::new("an expression is missing"));
     }
+    sheet.check_size()?;
     let mut space = Space::make(alloc, &sheet.table, numbers.len())?;
     let mut loaded = Ok(());
     if !numbers.is_empty() {
