@@ -40,7 +40,7 @@ impl Explorer {
     ///
     /// # Errors
     ///
-    /// Want of memory; also where the scenario has more expressions or nodes than a solver has room for.
+    /// Want of memory.
     pub fn make(alloc: Global, scenario: &Scenario) -> Result<Explorer, Memory>
         ensures explores { IfOk result (IsExplorerOf scenario.now) }
         ensures begins { IfOk result (λ e. process_of e ≡ process scenario.now.body) }
@@ -49,9 +49,7 @@ impl Explorer {
         body_is_at_start(scenario);
         body_is_valid(scenario);
         let track = track_of(alloc, &scenario.body)?;
-        let Some(nodes) = node_count(&track) else {
-            return Err(Memory);
-        };
+        let nodes = node_count(&track);
         let walk = Walk::make(alloc, nodes, weights_for(alloc, &track)?)?;
         let solver = Solver::make(alloc, scenario, nodes)?;
         let picker = Picker {

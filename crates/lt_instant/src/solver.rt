@@ -35,19 +35,20 @@ impl Solver {
     ghost use Rattle.lt_space.specs.Meaning.{formula_of_all};
     ghost use Rattle.lt_need.specs.Need.{need};
     ghost use Rattle.lt_space.specs.Scope.{ranges_in};
+    ghost use Rattle.lt_space.specs.Size.{most_constraints};
     ghost use Rattle.lt_space.specs.SpaceView.{loaded, space_decimals, space_formula, space_wanted};
     ghost use Rattle.lt_term.specs.Configuration.{earlier_locals_from, scene_kinds};
     ghost use Rattle.lt_instant.specs.Solved.{directions_of, holds_of, targets_of};
     ghost use Rattle.lt_instant.specs.inner.Found.{finding, found_by, found_in};
     ghost use Rattle.lt_instant.specs.inner.MomentView.{meaning_of, scene_of, valuation_with, word_of, worth_of};
 
-    /// A solver of a scenario, with room for at most so many constraints at once.
+    /// A solver of a scenario, with room for at most so many constraints at once, which are 2^31 or fewer.
     ///
     /// # Errors
     ///
-    /// Want of memory; also where the scenario has more expressions, or may have more constraints, than a space has
-    /// room for.
+    /// Want of memory.
     pub fn make(alloc: Global, scenario: &Scenario, most: usize) -> Result<Solver, Memory>
+        requires { most ≤ most_constraints }
         ensures solver { IfOk result (IsSolverOf scenario.now) }
         ensures most { IfOk result (λ solver. solver_most solver ≡ most) }
     {
