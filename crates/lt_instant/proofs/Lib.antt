@@ -20,6 +20,10 @@ pub mod Meanings
 pub mod Formulas
 pub mod Holdings
 pub mod Solves
+pub mod FirstPoints
+pub mod LiteralFormulas
+pub mod LiteralPoints
+pub mod LiteralFindings
 pub mod Ranges
 pub mod Domains
 pub mod Listed

@@ -1,5 +1,5 @@
 -- The solver of a scenario.
-use Rattle.std.specs.Prelude.{◌≡◌, ◌≤◌, ◌+◌, ℕ, true, List, ℤ, Ok, length, map, vec_capacity}
+use Rattle.std.specs.Prelude.{◌≡◌, ◌≤◌, ◌+◌, ℕ, true, if◌then◌else◌, List, ℤ, Ok, length, map, vec_capacity}
 use Rattle.lt_formula.specs.Table.{spelled}
 use Rattle.lt_formula.specs.View.{table_expressions}
 use Rattle.lt_space.specs.Meaning.{formula_of_all}
@@ -15,7 +15,7 @@ use Rattle.lt_instant.specs.declared.solver.Solver.{Solver}
 
 -- the raw numbers of the last solution that it found
 abbrev pub solver_values : Solver → List ℤ
-solver_values solver = workspace_values solver.workspace
+solver_values solver = if solver.is_of_literals then solver.values.items else workspace_values solver.workspace
 
 -- how many constraints it has room for at once
 abbrev pub solver_most : Solver → ℕ
@@ -35,6 +35,8 @@ pub record IsSolverOf (s : Scenario) (solver : Solver) : Type 0 where
   pub searched : workspace_ranges solver.workspace ≡ drawn_ranges (scene s)
   pub gates : space_gates solver.space ≤ workspace_gates solver.workspace
   pub scope : length s.outputs.items + length s.locals.items ≤ vec_capacity solver.scope
+  pub literals : solver_most solver ≤ vec_capacity solver.literals
+  pub values : length s.outputs.items + length s.locals.items ≤ vec_capacity solver.values
   -- what it takes for steady is so, and then its space has the formula that its constraints have whatever is known
   pub steady : solver.is_steady ≡ true → IsSteady s.table
   pub meaning : solver.is_steady ≡ true → HasMeaning s solver.space

@@ -15,6 +15,7 @@ mod explorer;
 mod exploring;
 mod finding;
 mod laws;
+mod literals;
 mod moment;
 mod past;
 mod picker;

@@ -1,13 +1,15 @@
 //! The solver of a scenario.
 
-ghost use Rattle.std.specs.Prelude.{◌≡◌, ◌≤◌, ◌++◌, true, IfOk, OnOk, IsTrue, length, map, nat_lt};
+ghost use Rattle.std.specs.Prelude.{◌≡◌, ◌≤◌, ◌+◌, ◌*◌, ◌++◌, true, IfOk, IfSome, OnOk, IsTrue, length, map, nat_lt};
 ghost use Rattle.std.specs.List.{list_all};
+ghost use Rattle.lt_formula.specs.Limits.{most_variables};
 ghost use Rattle.lt_formula.specs.View.{table_len};
 ghost use Rattle.lt_term.specs.SceneView.{scene, variable};
 ghost use Rattle.lt_instant.specs.Solved.{drawn_ranges, ranges_of_all};
 ghost use Rattle.lt_instant.specs.inner.Found.{finding_for};
 
 use crate::finding::Finding;
+use crate::literals::{Literal, find_literals, put_values};
 use crate::moment::Moment;
 use crate::scopes::find_scope;
 use crate::steady::is_steady;
@@ -25,6 +27,13 @@ pub struct Solver {
     ranges: Vec<Range>,
     scope: Vec<bool>,
 
+    // The literals of an instant that has nothing else, and its values.
+    literals: Vec<Literal>,
+    values: Vec<i64>,
+
+    // Whether the last solution is that of literals, and else that of a search.
+    is_of_literals: bool,
+
     // Whether constraints mean the same in each instant.
     is_steady: bool,
 }
@@ -38,7 +47,8 @@ impl Solver {
     ghost use Rattle.lt_space.specs.Size.{most_constraints};
     ghost use Rattle.lt_space.specs.SpaceView.{loaded, space_decimals, space_formula, space_wanted};
     ghost use Rattle.lt_term.specs.Configuration.{earlier_locals_from, scene_kinds};
-    ghost use Rattle.lt_instant.specs.Solved.{directions_of, holds_of, targets_of};
+    ghost use Rattle.lt_term.specs.Tree.{Lasts};
+    ghost use Rattle.lt_instant.specs.Solved.{directions_of, holds_of, scope_of, targets_of};
     ghost use Rattle.lt_instant.specs.inner.Found.{finding, found_by, found_in};
     ghost use Rattle.lt_instant.specs.inner.MomentView.{meaning_of, scene_of, valuation_with, word_of, worth_of};
 
@@ -53,18 +63,24 @@ impl Solver {
         ensures most { IfOk result (λ solver. solver_most solver ≡ most) }
     {
         let ranges = drawn_ranges(alloc, scenario)?;
-        let scope = Vec::with_capacity(alloc, scenario.outputs.len() + scenario.locals.len())?;
+        let drawn = scenario.outputs.len() + scenario.locals.len();
+        let scope = Vec::with_capacity(alloc, drawn)?;
         let Ok(space) = Space::make(alloc, &scenario.table, most) else {
             return Err(Memory);
         };
         let Ok(workspace) = Workspace::make(alloc, &ranges, space.gates()) else {
             return Err(Memory);
         };
+        let literals = Vec::with_capacity(alloc, most)?;
+        let values = Vec::with_capacity(alloc, drawn)?;
         Ok(Solver {
             space,
             workspace,
             ranges,
             scope,
+            literals,
+            values,
+            is_of_literals: false,
             is_steady: is_steady(&scenario.table),
         })
     }
@@ -81,7 +97,11 @@ impl Solver {
     pub fn values(&self) -> &[i64]
         ensures { result.now ≡ solver_values self.now }
     {
-        self.workspace.values()
+        if self.is_of_literals {
+            &self.values
+        } else {
+            self.workspace.values()
+        }
     }
 
     /// What is found at an instant with these constraints, in which these locals are in scope; all locals were this in
@@ -107,10 +127,55 @@ impl Solver {
         ensures most { solver_most self.new ≡ solver_most self.old }
     {
         find_scope(&mut self.scope, moment.scenario, lasts);
+        if let Some(finding) = self.solve_literals(moment, constraints) {
+            return finding;
+        }
         match self.load(moment, constraints, locals) {
             Ok(()) => self.search(moment),
             Err(fault) => Finding::Fault(fault),
         }
+    }
+
+    // What is found where constraints are literals alone, and the budget is enough for all searches for them.
+    fn solve_literals(&mut self, moment: &Moment<'_>, constraints: &[u32]) -> Option<Finding>
+        requires solver { IsSolverOf moment.now.scenario.now self.old }
+        requires within { IsTrue (list_all (λ c.
+            nat_lt c (table_len moment.now.scenario.now.table)) constraints.now) }
+        requires room { length constraints.now ≤ solver_most self.old }
+        ensures finds { IfSome result (λ found. (ls : Lasts) →
+            self.old.scope.items ≡ scope_of (scene_of moment.now) ls →
+            finding (solver_values self.new) found ≡
+            found_in (scene_of moment.now) moment.now.draw (word_of moment.now)
+            moment.now.budget ls
+            ((worth_of moment.now).formula ls
+            (map (meaning_of moment.now.scenario.now.table) constraints.now))) }
+        ensures solver { IsSolverOf moment.now.scenario.now self.new }
+        ensures most { solver_most self.new ≡ solver_most self.old }
+        ensures scope { self.new.scope ≡ self.old.scope }
+    {
+        if most_need(self.ranges.len()) > moment.budget {
+            return None;
+        }
+        let table = &moment.scenario.table;
+        if !find_literals(
+            &mut self.literals,
+            table,
+            constraints,
+            &self.scope,
+            &self.ranges,
+        ) {
+            return None;
+        }
+        if !put_values(
+            &mut self.values,
+            &self.scope,
+            moment.targets,
+            &self.literals,
+        ) {
+            return Some(Finding::Passed);
+        }
+        self.is_of_literals = true;
+        Some(Finding::Solved)
     }
 
     // Loads constraints, where locals were this in the instant before; but not where that would change nothing.
@@ -166,6 +231,7 @@ impl Solver {
         ensures solver { IsSolverOf moment.now.scenario.now self.new }
         ensures most { solver_most self.new ≡ solver_most self.old }
     {
+        self.is_of_literals = false;
         let answer = self.workspace.first_from(
             &self.space,
             &self.scope,
@@ -175,6 +241,14 @@ impl Solver {
         );
         finding_for(answer)
     }
+}
+
+// The most that a search for literals of so many variables may need.
+fn most_need(variables: usize) -> u64
+    requires { variables ≤ most_variables }
+    ensures { result ≡ 180 * (variables + 1) }
+{
+    180 * (variables as u64 + 1)
 }
 
 // What is found where a search answers this.

@@ -7,13 +7,13 @@ use Rattle.lt_instant.proofs.solver.Solver.solve.Goals as goal
 
 pub search-requires-clause-scope : goal.search-requires-clause-scope
 search-requires-clause-scope c =
-    ap length (ap (λ v. v.items) c.load.ensures.scope ∙ c.find_scope.ensures.items) ∙ scope_len (scene_of c.args.moment.now) c.args.lasts.now
+    ap length (ap (λ v. v.items) (c.load.ensures.scope ∙ c.solve_literals.ensures.scope) ∙ c.find_scope.ensures.items) ∙ scope_len (scene_of c.args.moment.now) c.args.lasts.now
 
 pub returns-in-Ok-clause-finds : goal.returns-in-Ok-clause-finds
 returns-in-Ok-clause-finds c =
     let m = c.args.moment.now in
     formula_solved m c.args.lasts.now c.args.locals.now (map (meaning_of m.scenario.now.table) c.args.constraints.now) c.requires.known (space_formula c.load.new.self.space) _ _ c.in-Ok.ensures.loads
-    (ap (λ v. v.items) c.load.ensures.scope ∙ c.find_scope.ensures.items) c.search.ensures.finds
+    (ap (λ v. v.items) (c.load.ensures.scope ∙ c.solve_literals.ensures.scope) ∙ c.find_scope.ensures.items) c.search.ensures.finds
 
 pub returns-in-Err-clause-finds : goal.returns-in-Err-clause-finds
 returns-in-Err-clause-finds c =
