@@ -14,7 +14,7 @@ ghost use Rattle.lt_propagation.specs.Domains.{AreDomains};
 use crate::kleene::Kleene;
 use lt_bounds::{greatest_of, least_of};
 use lt_num::Interval;
-use lt_space::{Circuit, Gate, Relation};
+use lt_space::{Circuit, Gate, Relation, power_of_ten};
 
 /// Between which values something lies.
 #[derive(Clone, Copy)]
@@ -157,7 +157,7 @@ pub(crate) fn scaled(constant: i64, decimals: u32) -> i128
     ensures value { result ≡ constant *ℤ pos (10 ^ decimals) }
     ensures bound { unsigned_abs result ≤ 2 ^ 95 }
 {
-    i128::from(constant) * i128::from(10u32.pow(decimals))
+    i128::from(constant) * i128::from(power_of_ten(decimals))
 }
 
 /// The terms from one place to another.

@@ -294,11 +294,19 @@ pub(crate) fn decimals_of(kind: Kind, decimals: u32) -> u32
     }
 }
 
-/// 10 to a power of at most 6.
-pub(crate) fn power_of_ten(exponent: u32) -> i64
+/// 10 to a power of at most 6: how many raw numbers of a real with so many decimals a unit has.
+pub fn power_of_ten(exponent: u32) -> i64
     requires { exponent ≤ most_decimals }
     ensures value { result ≡ pos (10 ^ exponent) }
     ensures most { unsigned_abs result ≤ 1_000_000 }
 {
-    10i64.pow(exponent)
+    match exponent {
+        0 => 1,
+        1 => 10,
+        2 => 100,
+        3 => 1_000,
+        4 => 10_000,
+        5 => 100_000,
+        _ => 1_000_000,
+    }
 }

@@ -27,6 +27,7 @@ mod work;
 
 pub use building::{connected, formula_of};
 pub use circuit::{Circuit, Gate};
+pub use forming::power_of_ten;
 pub use formula::{Atom, Formula, Relation};
 pub use holding::holds;
 pub use loaded::Loaded;
