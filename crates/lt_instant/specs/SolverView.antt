@@ -22,8 +22,8 @@ abbrev pub solver_most : Solver → ℕ
 solver_most solver = space_most solver.space
 
 -- the formula that a space has is that of its constraints where nothing is known
-abbrev pub HasMeaning : Scenario → Space → Type 0
-HasMeaning s space =
+abbrev pub HasSteadyFormula : Scenario → Space → Type 0
+HasSteadyFormula s space =
     Ok (space_formula space) ≡
     formula_of_all (nothing_known (space_decimals space)) (scene_kinds (scene s))
     (map (spelled (table_expressions s.table)) (space_wanted space))
@@ -37,6 +37,7 @@ pub record IsSolverOf (s : Scenario) (solver : Solver) : Type 0 where
   pub scope : length s.outputs.items + length s.locals.items ≤ vec_capacity solver.scope
   pub literals : solver_most solver ≤ vec_capacity solver.literals
   pub values : length s.outputs.items + length s.locals.items ≤ vec_capacity solver.values
-  -- what it takes for steady is so, and then its space has the formula that its constraints have whatever is known
+  -- what it takes for steady is so, and then its space has the formula that its constraints have where nothing is known but the
+  -- decimals of a real number
   pub steady : solver.is_steady ≡ true → IsSteady s.table
-  pub meaning : solver.is_steady ≡ true → HasMeaning s solver.space
+  pub meaning : solver.is_steady ≡ true → HasSteadyFormula s solver.space

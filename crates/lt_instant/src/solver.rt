@@ -34,7 +34,7 @@ pub struct Solver {
     // Whether the last solution is that of literals, and else that of a search.
     is_of_literals: bool,
 
-    // Whether constraints mean the same in each instant.
+    // Whether constraints have the same formula in each instant.
     is_steady: bool,
 }
 
