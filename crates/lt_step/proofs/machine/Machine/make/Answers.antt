@@ -15,3 +15,53 @@ invariant_of-result c =
       counted = begun c.in_ok-past.past.step (process s.body) (process_of c.in_ok-explorer.explorer) c.in_ok-past.ensures.step c.in_ok-explorer.ensures.begins (c.turns_grow_by_one.ensures.few 0 1 (process s.body) (omega arith) c.body_is_valid.ensures.unbegun);
       in_step = ap (λ (w : StepOfSeed). w.step) c.new.ensures ∙ sym c.in_ok-past.ensures.step;
     }
+
+pub invariant_of-scenario-in_err-past : goal.invariant_of-scenario-in_err-past
+invariant_of-scenario-in_err-past c =
+    let s = c.args.scenario in
+    record {
+      few_decimals = s.few_decimals;
+      few_inputs = s.few_inputs;
+      few_drawn = s.few_drawn;
+      kinds = s.kinds;
+      within = s.within;
+      scopes = s.scopes;
+      loops = s.loops;
+      inside = s.inside;
+      at_start = s.at_start;
+      narrow = s.narrow;
+      named = s.named;
+      typed = s.typed;
+      linear = s.linear;
+      conditions = s.conditions;
+      weights = s.weights;
+      few_expressions = s.few_expressions;
+      few_nodes = s.few_nodes;
+      flat = s.flat;
+      shallow = s.shallow;
+    }
+
+pub invariant_of-scenario-in_err-room : goal.invariant_of-scenario-in_err-room
+invariant_of-scenario-in_err-room c =
+    let s = c.args.scenario in
+    record {
+      few_decimals = s.few_decimals;
+      few_inputs = s.few_inputs;
+      few_drawn = s.few_drawn;
+      kinds = s.kinds;
+      within = s.within;
+      scopes = s.scopes;
+      loops = s.loops;
+      inside = s.inside;
+      at_start = s.at_start;
+      narrow = s.narrow;
+      named = s.named;
+      typed = s.typed;
+      linear = s.linear;
+      conditions = s.conditions;
+      weights = s.weights;
+      few_expressions = s.few_expressions;
+      few_nodes = s.few_nodes;
+      flat = s.flat;
+      shallow = s.shallow;
+    }
