@@ -59,8 +59,20 @@ fn answer_of(
 ) -> Result<String, Fail>
     requires { decimals ≤ most_decimals }
 {
+    told(alloc, asked, &expanded(alloc, text, name, decimals)?)
+}
+
+// The scenario of a node of a well typed text, or why there is none.
+fn expanded(
+    alloc: Global,
+    text: &str,
+    name: Option<&str>,
+    decimals: u32,
+) -> Result<Result<Scenario, ExpandRefusal>, Fail>
+    requires { decimals ≤ most_decimals }
+{
     let typed = typed_of(alloc, text, decimals)?;
-    told(alloc, asked, &expand(alloc, &typed, name))
+    Ok(expand(alloc, &typed, name))
 }
 
 // The program of a well typed text.
