@@ -84,12 +84,9 @@ fn part(alloc: Global, table: &Table, exp: u32) -> Result<Part, Memory>
     let mut occurring = Vec::new(alloc);
     collect_atoms(table, exp, &mut occurring)?;
     let atoms = arrange(alloc, table, &occurring)?;
-    let Ok(known) = u32::try_from(atoms.known) else {
-        return Err(Memory);
-    };
     Ok(Part {
         conjunct: outline(alloc, table, exp, &atoms.numbers)?,
         atoms: atoms.numbers.as_slice().to_vec(alloc)?,
-        known,
+        known: atoms.known,
     })
 }

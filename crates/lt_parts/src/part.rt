@@ -14,5 +14,5 @@ pub struct Part {
     pub atoms: Vec<u32>,
 
     /// How many of them are known.
-    pub known: u32,
+    pub known: usize,
 }

@@ -1,9 +1,10 @@
 //! What is found of a box.
 
-ghost use Rattle.std.specs.Prelude.{◌≡◌, ◌<◌, ◌≤◌, ◌+◌, ◌++◌, ◌<ℤ◌, List, ℤ, length, true, false, replicate, pos, negsuc, MatchOption, Some, vec_capacity};
+ghost use Rattle.std.specs.Prelude.{◌≡◌, ◌<◌, ◌≤◌, ◌+◌, ◌^◌, ◌++◌, ◌<ℤ◌, List, ℤ, length, true, false, replicate, pos, negsuc, MatchOption, Some, vec_capacity};
 ghost use Rattle.lt_bounds.specs.Places.{AreScaled, values_in_box};
 ghost use Rattle.lt_bounds.specs.Ranges.{AreSome, IsNarrower, range_at};
 ghost use Rattle.lt_formula.specs.Box.{IsInBox, first_in_box};
+ghost use Rattle.lt_formula.specs.Limits.{most_variables};
 ghost use Rattle.lt_space.specs.CircuitView.{circuit_len};
 ghost use Rattle.lt_space.specs.SpaceView.{space_circuit, space_decimals, space_formula, space_root};
 ghost use Rattle.lt_propagation.specs.Domains.{AreDomains};
@@ -62,15 +63,15 @@ impl BoxRoom {
     ghost use Rattle.std.specs.Prelude.{◌≡◌, IfOk, vec_capacity};
     ghost use Rattle.lt_solver.specs.inner.Roomy.{IsWide};
 
-    /// Room for boxes of so many variables, and for circuits of up to so many gates.
+    /// Room for boxes of so many variables, and for circuits of up to so many gates: at most as many as have a number.
     pub(crate) fn make(alloc: Global, variables: usize, gates: usize) -> Result<BoxRoom, Memory>
+        requires few { variables ≤ most_variables }
+        requires few_gates { gates ≤ 2 ^ 32 }
         ensures wide { IfOk result (λ room.
             IsWide variables (vec_capacity room.refuter.kleenes) room) }
         ensures gates { IfOk result (λ room. vec_capacity room.refuter.kleenes ≡ gates) }
     {
-        let Some(places) = variables.checked_add(gates) else {
-            return Err(Memory);
-        };
+        let places = variables + gates;
         let kept = places.saturating_mul(MOST_BOXES).min(MOST_KEPT);
         Ok(BoxRoom {
             widened: Vec::with_capacity(alloc, places)?,

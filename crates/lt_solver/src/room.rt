@@ -1,6 +1,6 @@
 //! Room for searches, and what the last search leaves to the next one.
 
-ghost use Rattle.std.specs.Prelude.{◌≡◌, ◌<◌, ◌≤◌, IfOk, IfSome, ℕ, List, length, true, vec_capacity};
+ghost use Rattle.std.specs.Prelude.{◌≡◌, ◌<◌, ◌≤◌, ◌^◌, IfOk, IfSome, ℕ, List, length, true, vec_capacity};
 ghost use Rattle.lt_formula.specs.Limits.{most_variables};
 ghost use Rattle.lt_need.specs.Need.{need};
 ghost use Rattle.lt_num.specs.declared.range.Range.{Range};
@@ -59,13 +59,14 @@ pub(crate) struct Room {
 }
 
 impl Room {
-    /// Room for searches over so many variables, for circuits of up to so many gates.
+    /// Room for searches over so many variables, for circuits of up to so many gates: at most as many as have a number.
     ///
     /// # Errors
     ///
     /// Want of memory.
     pub(crate) fn make(alloc: Global, count: usize, gates: usize) -> Result<Room, Memory>
         requires few { count ≤ most_variables }
+        requires few_gates { gates ≤ 2 ^ 32 }
         ensures roomy { IfOk result (λ room.
             IsRoomy count (vec_capacity room.boxes.refuter.kleenes) room) }
         ensures gates { IfOk result (λ room. gates ≤ vec_capacity room.boxes.refuter.kleenes) }

@@ -1,6 +1,6 @@
 //! Room for searches over some variables, taken once.
 
-ghost use Rattle.std.specs.Prelude.{◌≡◌, ◌≤◌, IfOk, IsTrue, length, vec_capacity};
+ghost use Rattle.std.specs.Prelude.{◌≡◌, ◌≤◌, ◌^◌, IfOk, IsTrue, length, vec_capacity};
 ghost use Rattle.lt_formula.specs.Limits.{most_variables};
 ghost use Rattle.lt_solver.specs.Domains.{are_domains};
 ghost use Rattle.lt_solver.specs.inner.Known.{Knows, Knows-prop};
@@ -37,8 +37,8 @@ impl Workspace {
     ghost use Rattle.lt_solver.specs.WorkspaceView.{workspace_gates, workspace_ranges, workspace_values};
 
     /// A workspace for variables of these ranges, one for each output and then one for each local, and for circuits
-    /// of up to so many gates. There are at most 128 ranges; each has a point and a step of at least 1, and none of its
-    /// numbers is past 10^12 in size.
+    /// of up to so many gates, which are at most 2^32. There are at most 128 ranges; each has a point and a step of at
+    /// least 1, and none of its numbers is past 10^12 in size.
     ///
     /// # Errors
     ///
@@ -46,6 +46,7 @@ impl Workspace {
     pub fn make(alloc: Global, ranges: &[Range], gates: usize) -> Result<Workspace, Memory>
         requires domains { IsTrue (are_domains ranges.now) }
         requires few { length ranges.now ≤ most_variables }
+        requires few_gates { gates ≤ 2 ^ 32 }
         ensures ranges { IfOk result (λ w. workspace_ranges w ≡ ranges.now) }
         ensures gates { IfOk result (λ w. gates ≤ workspace_gates w) }
     {
