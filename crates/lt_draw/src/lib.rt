@@ -11,6 +11,7 @@
 #![tactic(auto)]
 
 mod directions;
+mod jump_table;
 mod jumps;
 mod laws;
 mod targets;
