@@ -1,10 +1,10 @@
 -- Picks by weight.
-use Rattle.std.proofs.Common.{◌≡◌, ℕ, zero, suc, ◌+◌, ◌-◌, ◌<◌, ◌≤◌, Bool, true, false, nat_lt, if◌then◌else◌, List, [], ◌∷◌, length, take, refl, sym, ap, ◌∙◌, arith, zero-add, add-zero, suc-add, cond}
+use Rattle.std.proofs.Common.{◌≡◌, ℕ, zero, suc, ◌+◌, ◌-◌, ◌<◌, ◌≤◌, Bool, true, false, nat_lt, if◌then◌else◌, List, [], ◌∷◌, drop, length, slice_index, take, refl, sym, ap, ◌∙◌, arith, zero-add, add-zero, suc-add, cond}
 use Rattle.std.specs.Prelude.{sum, count_by, ◌==◌}
 use Rattle.std.specs.List.{range_with_len}
 use Rattle.std.proofs.lemmas.Bool.{ltb-true, ltb-false}
 use Rattle.std.proofs.lemmas.Bool.Decides.{nat_tests}
-use Rattle.std.proofs.lemmas.List.Sums.{sum_by-cons}
+use Rattle.std.proofs.lemmas.List.Sums.{sum_by-cons, sum_by-take-drop}
 use Prim.Native.Nat.compare
 use Rattle.lt_draw.specs.Pick.{place_over, PicksTheFirstOver, PicksByWeight}
 
@@ -26,6 +26,31 @@ later_by w ws r false e h = refl
 
 pub place_over-later : (w : ℕ) (ws : List ℕ) (r : ℕ) → w ≤ r → place_over (w ∷ ws) r ≡ suc (place_over ws (r - w))
 place_over-later w ws r h = later_by w ws r (nat_lt r w) refl h
+
+-- a pick among weights of which the first ones are 0 is one among those behind them
+pub place_over-behind : (ws : List ℕ) (k r : ℕ) → k < length ws → sum (drop k ws) ≡ sum ws → place_over ws r ≡ k + place_over (drop k ws) r
+place_over-behind [] k r within all = absurd (omega (arith, within))
+place_over-behind (w ∷ ws) zero r within all = sym (zero-add _)
+place_over-behind (w ∷ ws) (suc k) r within all =
+    let parts = sum_by-take-drop (λ x. x) ws k in
+    let whole = sum-cons w ws in
+    let nothing : w ≡ 0 = omega (arith, all, parts, whole) in
+    let later = place_over-behind ws k (r - w) (omega (arith, within)) (omega (arith, all, parts, whole)) in
+    let same : r - w ≡ r = omega (arith, nothing) in
+    place_over-later w ws r (omega (arith, nothing))
+    ∙ ap suc (later ∙ ap (λ x. k + place_over (drop k ws) x) same)
+    ∙ sym (suc-add k _)
+
+-- where the first weight behind them is the whole sum, that is the pick of each remainder
+pub place_over-whole : (ws : List ℕ) (k r : ℕ) → k < length ws → sum (drop k ws) ≡ sum ws → slice_index ws k ≡ sum ws → r < sum ws → place_over ws r ≡ k
+place_over-whole [] k r within all own few = absurd (omega (arith, within))
+place_over-whole (w ∷ ws) zero r within all own few = place_over-here w ws r (omega (arith, own, few))
+place_over-whole (w ∷ ws) (suc k) r within all own few =
+    let parts = sum_by-take-drop (λ x. x) ws k in
+    let whole = sum-cons w ws in
+    let nothing : w ≡ 0 = omega (arith, all, parts, whole) in
+    let later = place_over-whole ws k (r - w) (omega (arith, within)) (omega (arith, all, parts, whole)) (omega (arith, own, nothing, whole)) (omega (arith, few, nothing, whole)) in
+    place_over-later w ws r (omega (arith, nothing)) ∙ ap suc later
 
 -- The first one over: there are places so far, the weights before sum to no more, and with its own to more.
 pub record IsFirstOver (ws : List ℕ) (r k : ℕ) : Type 0 where

@@ -1,6 +1,6 @@
 //! Picks by weight.
 
-ghost use Rattle.std.specs.Prelude.{◌≡◌, ◌<◌, ◌%◌, length, slice_index, sum};
+ghost use Rattle.std.specs.Prelude.{◌≡◌, ◌<◌, ◌%◌, drop, length, slice_index, sum};
 ghost use Rattle.lt_draw.specs.Pick.{picked};
 
 /// The place that a word picks: the first one whose cumulated weight is greater than the remainder of the word
@@ -11,10 +11,30 @@ pub fn pick(weights: &[u64], word: u64) -> usize
     ensures within { result < length weights.now }
     ensures positive { 0 < slice_index weights.now result }
 {
-    let mut rest = remainder(word, sum_of(weights));
-    let mut place = 0;
+    let total = sum_of(weights);
+    let first = first_above_zero(weights);
+    // Any word picks a weight that is the whole sum, so this needs no division: the last part of a choice is picked so.
+    if u128::from(weights[first]) == total {
+        return first;
+    }
+    let mut rest = remainder(word, total);
+    let mut place = first;
     while rest >= u128::from(weights[place]) {
         rest -= u128::from(weights[place]);
+        place += 1;
+    }
+    place
+}
+
+// The first place whose weight is above 0.
+fn first_above_zero(weights: &[u64]) -> usize
+    requires { 0 < sum weights.now }
+    ensures within { result < length weights.now }
+    ensures positive { 0 < slice_index weights.now result }
+    ensures all_behind { sum (drop result weights.now) ≡ sum weights.now }
+{
+    let mut place = 0;
+    while weights[place] == 0 {
         place += 1;
     }
     place
