@@ -76,6 +76,20 @@ impl StepWords {
         }
     }
 
+    /// The seed.
+    pub fn seed(&self) -> u64
+        ensures { result ≡ self.now.seed }
+    {
+        self.seed
+    }
+
+    /// The step, from 1.
+    pub fn step(&self) -> u64
+        ensures { result ≡ self.now.step }
+    {
+        self.step
+    }
+
     /// On to the words of the next step.
     pub fn next_step(&mut self)
         requires { self.old.step < u64.MAX }
