@@ -1,5 +1,5 @@
 -- Terms have few nodes: at most three for each term that stands in them.
-use Rattle.std.proofs.Common.{◌≡◌, ◌≤◌, ℕ, suc, ◌+◌, ◌*◌, ◌++◌, length, length-append, arith}
+use Rattle.std.proofs.Common.{◌≤◌, ℕ, suc, ◌+◌, ◌*◌, length, length-append, arith}
 use Rattle.lt_term.specs.Process.{Process, eps, dead, con, raise, seq, loop, count, any, pri, par, assert, exist, catch, try, Choices, no_choice, choice, with_constraints, choices_with_constraints}
 use Rattle.lt_term.specs.Subterms.{subterms, subterms_of_each}
 use Rattle.lt_track.specs.View.{nodes, nodes_of_each}

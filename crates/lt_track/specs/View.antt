@@ -1,10 +1,7 @@
 -- The terms that tracks stand for.
-use Rattle.std.specs.Prelude.{ℕ, suc, ◌+◌, List, [], ◌∷◌, map, Bool, if◌then◌else◌}
-use Rattle.std.specs.declared.alloc.Global.{Global}
-use Rattle.std.specs.declared.boxed.Box.{Box}
+use Rattle.std.specs.Prelude.{ℕ, suc, ◌+◌, List, [], ◌∷◌, Bool, if◌then◌else◌}
 use Rattle.lt_term.specs.declared.last.Last.TheVariants as last
 use Rattle.lt_term.specs.Process.{Process, eps, dead, con, raise, seq, loop, count, any, pri, par, assert, exist, catch, try, Choices, no_choice, choice}
-use Rattle.lt_term.specs.View.{choices_from}
 use Rattle.lt_track.specs.Marks.{con_at, seq_at, loop_at, count_at, any_at, pri_at, par_at, assert_at, exist_at, catch_at, try_at}
 use Rattle.lt_track.specs.declared.track.Track.{Track}
 use Rattle.lt_track.specs.declared.track.Track.TheVariants.{Eps, Dead, Con, Raise, Seq', Loop', Count', Any', Pri', Par', Assert', Exist', Catch', Try'}
@@ -110,11 +107,3 @@ abbrev mutual
   pub nodes_of_each : {C : Type 0} → Choices C → ℕ
   nodes_of_each no_choice = 1
   nodes_of_each (choice w t cs) = suc (nodes t + nodes_of_each cs)
-
--- a term to choose, and its weight
-abbrev pub linked_part : ℕ × Box Track Global → ℕ × Process ℕ
-linked_part c = (c.0, body c.1.value)
-
--- terms to choose from, by a list of them
-abbrev pub linked_choices : List (ℕ × Box Track Global) → Choices ℕ
-linked_choices cs = choices_from (map linked_part cs)
