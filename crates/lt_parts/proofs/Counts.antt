@@ -31,7 +31,7 @@ length_nodes : (entries : List (ExpNode × Facts)) → length (nodes_of entries)
 length_nodes [] = refl
 length_nodes (e ∷ es) = ap suc (length_nodes es)
 
-length_expressions : (t : Table) → length (table_expressions t) ≡ table_len t
+pub length_expressions : (t : Table) → length (table_expressions t) ≡ table_len t
 length_expressions t = let all = length_extended [] (nodes_of t.nodes.entries) in let nodes = length_nodes t.nodes.entries in omega (arith, all, nodes)
 
 module _ (t : Table) (once : HasEachOnce (table_expressions t)) where
@@ -89,6 +89,10 @@ module _ (t : Table) (once : HasEachOnce (table_expressions t)) where
     all_within found [] within all = within
     all_within found (n ∷ ns) within all =
         let b = test (at t n) in all_within (if b then with_number found n else found) ns (within_put b found n (first_of n ns all) within) (rest_of n ns all)
+
+  pub arranged_within : (ns : List ℕ) → IsTrue (are_within t ns) → IsTrue (are_within t (arranged t ns))
+  arranged_within ns within =
+      let known = is_known (table_kinds t) in all_within (λ a. not (known a)) (known_numbers t ns) ns (all_within known [] ns refl within) within
 
   -- the numbers that are arranged are those of the atoms, each once
   arranged_at : (ns : List ℕ) → IsTrue (are_within t ns)

@@ -1,3 +1,4 @@
+mod Arrangements
 mod Conjoined
 mod Agreements
 mod Counts

@@ -84,6 +84,7 @@ fn part(alloc: Global, table: &Table, exp: u32) -> Result<Part, Memory>
     let mut occurring = Vec::new(alloc);
     collect_atoms(table, exp, &mut occurring)?;
     let atoms = arrange(alloc, table, &occurring)?;
+    has_each_once(table);
     Ok(Part {
         conjunct: outline(alloc, table, exp, &atoms.numbers)?,
         atoms: atoms.numbers.as_slice().to_vec(alloc)?,

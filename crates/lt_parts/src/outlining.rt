@@ -1,10 +1,10 @@
 //! Outlines of Booleans.
 
-ghost use Rattle.std.specs.Prelude.{◌≡◌, ◌<◌, IfOk, IfSome, length, slice_index_or};
+ghost use Rattle.std.specs.Prelude.{◌<◌, IfOk};
 ghost use Rattle.lt_formula.specs.View.{table_kinds, table_len};
-ghost use Rattle.lt_parts.specs.Outline.{Outlines, OutlinesComparison};
+ghost use Rattle.lt_parts.specs.Outline.{Outlines, OutlinesComparison, atoms_in};
 ghost use Rattle.lt_parts.specs.Part.{IsFlagOf, at};
-ghost use Rattle.lt_parts.specs.inner.Flags.{IsFlagAt};
+ghost use Rattle.lt_parts.specs.inner.Flags.{HasFlag, HaveFlags, IsFlagAt};
 ghost use Rattle.lt_space.specs.FormulaView.{boxed_view, formula_view};
 
 use crate::collecting::is_comparison;
@@ -13,11 +13,12 @@ use lt_formula::{BinaryOperator, Memory, Shape, Table};
 use lt_space::{Atom, Formula, connected};
 use std::alloc::Global;
 
-/// The outline of a Boolean, with a flag for each of its atoms, which is the atom's place among these numbers.
+/// The outline of a Boolean, with a flag for each of its atoms, which is the atom's place among these numbers. They have
+/// each of its atoms.
 ///
 /// # Errors
 ///
-/// Want of memory; also where an atom isn't among the first 2^32 of these.
+/// Want of memory.
 #[cycle(outline)]
 pub(crate) fn outline(
     alloc: Global,
@@ -25,16 +26,18 @@ pub(crate) fn outline(
     exp: u32,
     atoms: &IndexSet<u32>,
 ) -> Result<Formula, Memory>
-    requires { exp < table_len table.now }
+    requires within { exp < table_len table.now }
+    requires flags { HaveFlags table.now atoms.now.keys
+        (atoms_in (table_kinds table.now) (at table.now exp)) }
     ensures { IfOk result (λ formula.
         Outlines (IsFlagOf table.now atoms.now.keys) (table_kinds table.now) (at table.now exp)
         (formula_view formula)) }
 {
     if table.facts(exp).is_known {
-        return flag(exp, atoms);
+        return Ok(flag(exp, atoms));
     }
     match table.shape(exp) {
-        Shape::Constant(..) | Shape::Variable(..) | Shape::Previous(..) => flag(exp, atoms),
+        Shape::Constant(..) | Shape::Variable(..) | Shape::Previous(..) => Ok(flag(exp, atoms)),
         Shape::Unary(_, part) => Ok(Formula::Not(boxed_outline(alloc, table, part, atoms)?)),
         Shape::Binary(operator, left, right) => {
             if is_comparison(table, left) {
@@ -61,7 +64,9 @@ fn boxed_outline(
     exp: u32,
     atoms: &IndexSet<u32>,
 ) -> Result<Box<Formula>, Memory>
-    requires { exp < table_len table.now }
+    requires within { exp < table_len table.now }
+    requires flags { HaveFlags table.now atoms.now.keys
+        (atoms_in (table_kinds table.now) (at table.now exp)) }
     ensures { IfOk result (λ formula.
         Outlines (IsFlagOf table.now atoms.now.keys) (table_kinds table.now) (at table.now exp)
         (boxed_view formula)) }
@@ -77,29 +82,22 @@ fn comparison(
     exp: u32,
     atoms: &IndexSet<u32>,
 ) -> Result<Formula, Memory>
+    requires { HasFlag atoms.now.keys exp }
     ensures { IfOk result (λ formula.
         OutlinesComparison (λ f. IsFlagAt atoms.now.keys exp f) operator (formula_view formula)) }
 {
-    let formula = flag(exp, atoms)?;
+    let formula = flag(exp, atoms);
     match operator {
         BinaryOperator::Ne => Ok(Formula::Not(Box::new(alloc, formula)?)),
         _ => Ok(formula),
     }
 }
 
-// The flag of an atom.
-fn flag(exp: u32, atoms: &IndexSet<u32>) -> Result<Formula, Memory>
-    ensures { IfOk result (λ formula. IsFlagAt atoms.now.keys exp (formula_view formula)) }
+// The flag of an atom that is among these.
+fn flag(exp: u32, atoms: &IndexSet<u32>) -> Formula
+    requires { HasFlag atoms.now.keys exp }
+    ensures { IsFlagAt atoms.now.keys exp (formula_view result) }
 {
-    let place = place_of(exp, atoms).ok_or(Memory)?;
-    Ok(Formula::Atom(Atom::Flag(place)))
-}
-
-// The place of a number among others, if it is there and has a number.
-fn place_of(exp: u32, atoms: &IndexSet<u32>) -> Option<u32>
-    ensures { IfSome result (λ place. (place < length atoms.now.keys) ×
-        (slice_index_or atoms.now.keys place 0 ≡ exp)) }
-{
-    let place = atoms.get_index_of(&exp)?;
-    u32::try_from(place).ok()
+    let place = atoms.get_index_of(&exp).unwrap();
+    Formula::Atom(Atom::Flag(place as u32))
 }
