@@ -1,5 +1,5 @@
 -- Signs by their letters, and the symbol at the front of a text.
-use Rattle.std.proofs.Common.{◌≡◌, ℕ, ◌≤◌, ◌<◌, Bool, true, false, not, IsTrue, List, [], ◌∷◌, ◌++◌, length, take, drop, refl, ap, sym, ◌∙◌, arith, subst, Some, None, nat_eq, inl, inr, ◌⊎◌, if◌then◌else◌}
+use Rattle.std.proofs.Common.{◌≡◌, ℕ, ◌≤◌, ◌<◌, Bool, true, false, not, IsTrue, List, [], ◌∷◌, ◌++◌, length, take, drop, get_or, refl, ap, sym, ◌∙◌, arith, subst, Some, None, nat_eq, inl, inr, ◌⊎◌, if◌then◌else◌}
 use Rattle.std.specs.declared.option.Option.{Option}
 use Rattle.std.specs.Char.{is_ascii_alphabetic}
 use Rattle.std.specs.Option.{option_or}
@@ -10,7 +10,7 @@ use Rattle.lt_ast.specs.Signs.{spelled}
 use Rattle.lt_ast.specs.declared.sign.Sign.{Sign}
 use Rattle.lt_ast.specs.declared.sign.Sign.TheVariants as s
 use Rattle.lt_lexer.specs.Symbol.{is_symbol, begins_without_letter}
-use Rattle.lt_lexer.specs.inner.Spelling.{signs, sign_spelled, first_symbol}
+use Rattle.lt_lexer.specs.inner.Spelling.{signs, ends_pair, sign_spelled, first_symbol}
 use Rattle.lt_lexer.proofs.Finds.{find_passes}
 
 -- whether a sign has letters of its own
@@ -128,9 +128,31 @@ first_of-short [] h = refl
 first_of-short (a ∷ []) h = refl
 first_of-short (a ∷ b ∷ bs) h = absurd (omega arith)
 
-pub first_of-long : (text : List ℕ) → 2 ≤ length text → option_or (sign_spelled (take 2 text)) (sign_spelled (take 1 text)) ≡ first_symbol text
+-- whether letters, if they are two, end with a byte that ends a sign of two
+abbrev pair_ends : List ℕ → Bool
+pair_ends (a ∷ b ∷ []) = ends_pair b
+pair_ends l = true
+
+-- those of each sign do, by cases
+pair_ends-each : (sign : Sign) → pair_ends (spelled sign) ≡ true
+pair_ends-each s.Open = refl
+pair_ends-each sign = refl
+
+-- no sign has these two letters, where none ends with the second one
+no_pair-by : (a b : ℕ) (o : Option Sign) → sign_spelled (a ∷ b ∷ []) ≡ o → ends_pair b ≡ false → sign_spelled (a ∷ b ∷ []) ≡ None
+no_pair-by a b None e h = e
+no_pair-by a b (Some sign) e h =
+    let untrue : true ≡ false = sym (ap pair_ends (spelled-bytes (a ∷ b ∷ []) sign e).1 ∙ pair_ends-each sign) ∙ h in
+    absurd (cc untrue)
+
+pub first_of-single : (text : List ℕ) → 2 ≤ length text → ends_pair (get_or text 1 0) ≡ false → sign_spelled (get_or text 0 0 ∷ []) ≡ first_symbol text
+first_of-single [] h e = absurd (omega arith)
+first_of-single (a ∷ []) h e = absurd (omega arith)
+first_of-single (a ∷ b ∷ bs) h e = ap (λ o. option_or o (sign_spelled (a ∷ []))) (sym (no_pair-by a b (sign_spelled (a ∷ b ∷ [])) refl e))
+
+pub first_of-long : (text : List ℕ) → 2 ≤ length text → option_or (sign_spelled (take 2 text)) (sign_spelled (get_or text 0 0 ∷ [])) ≡ first_symbol text
 first_of-long [] h = absurd (omega arith)
 first_of-long (a ∷ []) h = absurd (omega arith)
 first_of-long (a ∷ b ∷ bs) h = refl
 
-pub ruleset first_bytes = (first_of-short, first_of-long)
+pub ruleset first_bytes = (first_of-short, first_of-single, first_of-long)

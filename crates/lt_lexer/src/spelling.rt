@@ -1,7 +1,7 @@
 //! Signs by their letters.
 
-ghost use Rattle.std.specs.Prelude.{◌≡◌};
-ghost use Rattle.lt_lexer.specs.inner.Spelling.{beginning_with, first_spelled, sign_spelled, first_symbol};
+ghost use Rattle.std.specs.Prelude.{◌≡◌, [], ◌∷◌};
+ghost use Rattle.lt_lexer.specs.inner.Spelling.{beginning_with, ends_pair, first_spelled, sign_spelled, first_symbol};
 
 use lt_ast::Sign;
 
@@ -58,12 +58,50 @@ fn first_spelled(signs: &[Sign], letters: &[u8]) -> Option<Sign>
         .find(|sign| sign.text().as_bytes() == letters)
 }
 
+// The sign that has this letter and no other: most symbols do.
+fn sign_of_letter(letter: u8) -> Option<Sign>
+    ensures { result ≡ sign_spelled (letter ∷ []) }
+{
+    match letter {
+        b'(' => Some(Sign::Open),
+        b')' => Some(Sign::Close),
+        b'{' => Some(Sign::OpenBrace),
+        b'}' => Some(Sign::CloseBrace),
+        b'[' => Some(Sign::OpenBracket),
+        b']' => Some(Sign::CloseBracket),
+        b':' => Some(Sign::Colon),
+        b';' => Some(Sign::Semicolon),
+        b',' => Some(Sign::Comma),
+        b'=' => Some(Sign::Equal),
+        b'<' => Some(Sign::Less),
+        b'>' => Some(Sign::Greater),
+        b'+' => Some(Sign::Plus),
+        b'-' => Some(Sign::Minus),
+        b'*' => Some(Sign::Star),
+        b'/' => Some(Sign::Slash),
+        b'|' => Some(Sign::Bar),
+        b'~' => Some(Sign::Tilde),
+        _ => None,
+    }
+}
+
 /// The sign that has these letters: a keyword or a symbol.
 pub fn sign_spelled(letters: &[u8]) -> Option<Sign>
     ensures { result ≡ sign_spelled letters.now }
 {
     let first = letters.first()?;
+    if letters.len() == 1 {
+        return sign_of_letter(*first);
+    }
     first_spelled(beginning_with(*first), letters)
+}
+
+// Whether a sign of two letters may end with this byte. Most symbols have one letter, and are found without a look at
+// two.
+fn ends_pair(byte: u8) -> bool
+    ensures { result ≡ ends_pair byte }
+{
+    matches!(byte, b'=' | b'>' | b'f' | b'n' | b'o' | b'r')
 }
 
 /// The longest symbol at the front of a text, which begins with no letter.
@@ -74,5 +112,8 @@ pub fn first_symbol(text: &[u8]) -> Option<Sign>
     if text.len() < 2 {
         return sign_spelled(text);
     }
-    sign_spelled(&text[..2]).or(sign_spelled(&text[..1]))
+    if !ends_pair(text[1]) {
+        return sign_of_letter(text[0]);
+    }
+    sign_spelled(&text[..2]).or(sign_of_letter(text[0]))
 }

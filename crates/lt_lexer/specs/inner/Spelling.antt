@@ -1,5 +1,5 @@
 -- Signs by their letters.
-use Rattle.std.specs.Prelude.{ℕ, nat_eq, Bool, false, List, [], ◌∷◌, None}
+use Rattle.std.specs.Prelude.{ℕ, nat_eq, Bool, false, ◌==◌, ◌||◌, List, [], ◌∷◌, None}
 use Rattle.std.specs.declared.option.Option.{Option}
 use Rattle.std.specs.Cmp.Lexicographic.{pointwise}
 use Rattle.std.specs.List.{find, filter}
@@ -37,6 +37,10 @@ first_spelled bytes among = find (λ sign. pointwise nat_eq (spelled sign) bytes
 -- the one sign that is
 abbrev pub sign_spelled : List ℕ → Option Sign
 sign_spelled bytes = first_spelled bytes signs
+
+-- a sign of two letters may end with this byte
+abbrev pub ends_pair : ℕ → Bool
+ends_pair b = b == 61 || b == 62 || b == 102 || b == 110 || b == 111 || b == 114
 
 -- the longest symbol at the front of a text that begins with no letter: each symbol has one byte or two
 abbrev pub first_symbol : List ℕ → Option Sign
