@@ -15,5 +15,6 @@ pub mod Divisions
 pub mod Progress
 pub mod Answering
 pub mod Letters
+mod Lexemes
 pub mod Places
 pub mod Apart

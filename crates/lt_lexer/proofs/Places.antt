@@ -1,21 +1,15 @@
 -- Where the tokens of a text stand.
-use Rattle.std.proofs.Common.{◌≡◌, ℕ, ◌+◌, ◌-◌, ◌<◌, List, [], ◌∷◌, ◌++◌, length, drop, take, refl, ap, sym, ◌∙◌, arith, subst, None, length-append, append_assoc, Ok, Err, IfOk}
-use Rattle.std.specs.Prelude.{All}
-use Rattle.std.specs.declared.result.Result.{Result}
-use Rattle.std.specs.declared.vec.Vec.{Vec}
-use Rattle.std.specs.declared.alloc.Global.{Global}
-use Rattle.std.proofs.lemmas.List.Elements.{All-from_recursion}
+use Rattle.std.proofs.Common.{◌≡◌, ℕ, ◌+◌, ◌-◌, ◌<◌, List, [], ◌∷◌, ◌++◌, length, drop, take, refl, ap, sym, ◌∙◌, arith, subst, None, length-append, append_assoc}
 use Rattle.std.specs.List.{AllByRecursion}
 use Rattle.std.proofs.lemmas.List.{drop_at, take_at, drop-drop}
 use Rattle.lt_lexer.specs.Piece.{Piece, token, bytes_of, kind_of, IsToken, IsShort, IsTaken}
 use Rattle.lt_lexer.specs.Tokenization.{Divides, tokens_from, IsTokenization}
-use Rattle.lt_lexer.specs.Source.{IsTokenOf, IsGap, StandInTurn}
+use Rattle.lt_lexer.specs.Source.{IsGap, StandInTurn}
 use Rattle.lt_lexer.specs.declared.token.Token.{Token}
-use Rattle.lt_lexer.specs.declared.refusal.LexRefusal.{LexRefusal}
 use Rattle.lt_lexer.proofs.Divisions.{bytes_some, divides_more}
 
 -- the bytes of pieces
-abbrev all_bytes : List Piece → List ℕ
+abbrev pub all_bytes : List Piece → List ℕ
 all_bytes [] = []
 all_bytes (p ∷ ps) = bytes_of p ++ all_bytes ps
 
@@ -23,7 +17,7 @@ abbrev AreNoTokens : List Piece → Type 0
 AreNoTokens ps = AllByRecursion (λ p. kind_of p ≡ None) ps
 
 -- a text is the bytes of its pieces and the rest
-divides-all_bytes : (text : List ℕ) (ps : List Piece) (rest : List ℕ) → Divides text ps rest → text ≡ all_bytes ps ++ rest
+pub divides-all_bytes : (text : List ℕ) (ps : List Piece) (rest : List ℕ) → Divides text ps rest → text ≡ all_bytes ps ++ rest
 divides-all_bytes text [] rest h = h
 divides-all_bytes text (p ∷ ps) rest h = h.1 ∙ ap (λ l. bytes_of p ++ l) (divides-all_bytes h.0 ps rest h.3) ∙ sym (append_assoc (bytes_of p) (all_bytes ps) rest)
 
@@ -72,17 +66,3 @@ stand (p ∷ ps) text from gs rest n h k d place whole =
 -- the tokens of a text stand in turn
 pub stand_in_turn : (text : List ℕ) (ts : List Token) → IsTokenization text ts → StandInTurn text 0 ts
 stand_in_turn text ts h = let P : List Token → Type 0 = StandInTurn text 0 in subst P (sym h.are) (stand h.pieces text 0 [] text 0 refl tt h.divides refl (omega arith))
-
--- one by one
-token_of-each : (text : List ℕ) (from : ℕ) (ts : List Token) → StandInTurn text from ts → AllByRecursion (IsTokenOf text) ts
-token_of-each text from [] h = tt
-token_of-each text from (t ∷ ts) h = (h.2, token_of-each text t.span.end ts h.4)
-
--- each of them stands in the text, as a token of its kind
-pub inside : (text : List ℕ) (ts : List Token) → IsTokenization text ts → All (IsTokenOf text) ts
-inside text ts h = All-from_recursion (IsTokenOf text) ts (token_of-each text 0 ts (stand_in_turn text ts h))
-
--- and so do those that are answered
-pub inside_of : (result : Result (Vec Token Global) LexRefusal) (text : List ℕ) → IfOk result (λ v. IsTokenization text v.items) → IfOk result (λ v. All (IsTokenOf text) v.items)
-inside_of (Ok v) text h = inside text v.items h
-inside_of (Err refusal) text h = tt

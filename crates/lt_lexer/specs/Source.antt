@@ -1,11 +1,17 @@
--- What a token is in the text that it is a token of, and where the tokens of a text stand.
-use Rattle.std.specs.Prelude.{◌≡◌, ℕ, ◌≤◌, ◌<◌, List, [], ◌∷◌, None, drop, length, slice_range}
+-- What a token is in the text that it is a token of, what is answered of it, and where the tokens of a text stand.
+use Rattle.std.specs.Prelude.{◌≡◌, ◌⊎◌, ℕ, ◌≤◌, ◌<◌, List, [], ◌∷◌, None, Ok, Err, drop, length, slice_range}
+use Rattle.std.specs.declared.result.Result.{Result}
+use Rattle.std.specs.declared.vec.Vec.{Vec}
+use Rattle.std.specs.declared.alloc.Global.{Global}
 use Rattle.std.specs.List.{AllByRecursion}
 use Rattle.lt_ast.specs.Signs.{spelled}
 use Rattle.lt_ast.specs.declared.sign.Sign.{Sign}
 use Rattle.lt_ast.specs.declared.sign.Sign.TheVariants as s
 use Rattle.lt_lexer.specs.Piece.{Piece, kind_of, IsToken, IsShort, IsTaken}
-use Rattle.lt_lexer.specs.Tokenization.{Divides}
+use Rattle.lt_lexer.specs.Tokenization.{Divides, IsTokenization}
+use Rattle.lt_lexer.specs.declared.refusal.LexRefusal.{LexRefusal}
+use Rattle.lt_lexer.specs.declared.refusal.LexRefusal.TheVariants.{Memory}
+use Rattle.lt_lexer.specs.declared.lexeme.Lexeme.{Lexeme}
 use Rattle.lt_lexer.specs.declared.token.Token.{Token}
 use Rattle.lt_lexer.specs.declared.token.TokenKind.TheVariants as kind
 
@@ -25,6 +31,34 @@ abbrev pub IsSign : List ℕ → Token → Sign → Type 0
 IsSign text t s.Name = (t.kind ≡ kind.Word) × ((sign : Sign) → token_bytes text t ≡ spelled sign → ⊥)
 IsSign text t s.Number = t.kind ≡ kind.Number
 IsSign text t sign = token_bytes text t ≡ spelled sign
+
+-- what a token of a text is read as: it stands in the text, and has this sign, these letters and this place
+pub record IsReadAs (text : List ℕ) (t : Token) (l : Lexeme) : Type 0 where
+  pub token : IsTokenOf text t
+  pub sign : IsSign text t l.sign
+  pub letters : l.text.now ≡ token_bytes text t
+  pub place : l.span ≡ t.span
+
+-- what tokens of a text are read as, one by one
+abbrev pub AreReadAs : List ℕ → List Token → List Lexeme → Type 0
+AreReadAs text [] [] = Unit {0}
+AreReadAs text (t ∷ ts) (l ∷ ls) = IsReadAs text t l × AreReadAs text ts ls
+AreReadAs text [] (l ∷ ls) = ⊥
+AreReadAs text (t ∷ ts) [] = ⊥
+
+-- all the tokens of a text are read as these
+abbrev pub TextIsReadAs : List ℕ → List Lexeme → Type 0
+TextIsReadAs text ls = (tokens : List Token) × IsTokenization text tokens × AreReadAs text tokens ls
+
+-- what these tokens of a text are read as is answered, or that memory ran out
+abbrev pub AnswersTokens : List ℕ → List Token → Result (Vec Lexeme Global) LexRefusal → Type 0
+AnswersTokens text tokens (Ok v) = AreReadAs text tokens v.items
+AnswersTokens text tokens (Err refusal) = refusal ≡ Memory
+
+-- this refusal is answered, or that memory ran out
+abbrev pub AnswersRefusal : LexRefusal → Result (Vec Lexeme Global) LexRefusal → Type 0
+AnswersRefusal refusal (Ok v) = ⊥
+AnswersRefusal refusal (Err answer) = (answer ≡ refusal) ⊎ (answer ≡ Memory)
 
 -- from one place of the text up to another stand blanks and comments, and nothing else
 abbrev pub IsGap : List ℕ → ℕ → ℕ → Type 0

@@ -1,9 +1,6 @@
 -- What tokens a text has, and why a text has none.
-use Rattle.std.specs.Prelude.{◌≡◌, ◌⊎◌, ℕ, ◌+◌, ◌-◌, ◌<◌, false, IsTrue, List, [], ◌∷◌, ◌++◌, length, count_by, Ok, Err, codes}
+use Rattle.std.specs.Prelude.{◌≡◌, ℕ, ◌+◌, ◌-◌, ◌<◌, false, IsTrue, List, [], ◌∷◌, ◌++◌, length, count_by, codes}
 use Rattle.std.specs.Char.{is_ascii_digit}
-use Rattle.std.specs.declared.result.Result.{Result}
-use Rattle.std.specs.declared.vec.Vec.{Vec}
-use Rattle.std.specs.declared.alloc.Global.{Global}
 use Rattle.lt_num.specs.Bounds.{most_digits}
 use Rattle.lt_num.specs.Literal.{is_number}
 use Rattle.lt_lexer.specs.Byte.{is_blank}
@@ -11,7 +8,7 @@ use Rattle.lt_lexer.specs.Piece.{Piece, blank, line_comment, block_comment, toke
 use Rattle.lt_lexer.specs.declared.token.Token.{Token}
 use Rattle.lt_lexer.specs.declared.token.TokenKind.{TokenKind}
 use Rattle.lt_lexer.specs.declared.refusal.LexRefusal.{LexRefusal}
-use Rattle.lt_lexer.specs.declared.refusal.LexRefusal.TheVariants.{BadByte, OpenComment, NumberTooLong, Memory}
+use Rattle.lt_lexer.specs.declared.refusal.LexRefusal.TheVariants.{BadByte, OpenComment, NumberTooLong}
 
 -- the text is these pieces one after another, and then the rest
 abbrev pub Divides : List ℕ → List Piece → List ℕ → Type 0
@@ -89,13 +86,3 @@ pub record IsRefusal (text : List ℕ) (refusal : LexRefusal) : Type 0 where
   pub flaw : Flaw
   pub fails : Fails flaw rest
   pub is : refusal ≡ refusal_at flaw (length text - length rest)
-
--- these tokens are answered, or that memory ran out
-abbrev pub AnswersTokens : List Token → Result (Vec Token Global) LexRefusal → Type 0
-AnswersTokens tokens (Ok v) = v.items ≡ tokens
-AnswersTokens tokens (Err refusal) = refusal ≡ Memory
-
--- this refusal is answered, or that memory ran out
-abbrev pub AnswersRefusal : LexRefusal → Result (Vec Token Global) LexRefusal → Type 0
-AnswersRefusal refusal (Ok v) = ⊥
-AnswersRefusal refusal (Err answer) = (answer ≡ refusal) ⊎ (answer ≡ Memory)

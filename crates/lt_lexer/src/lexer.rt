@@ -1,11 +1,12 @@
 //! From a text to its tokens.
 
-ghost use Rattle.std.specs.Prelude.{◌≡◌, ◌⊎◌, List, All, IfOk, IfErr};
-ghost use Rattle.lt_lexer.specs.Tokenization.{IsTokenization, IsRefusal, AnswersTokens, AnswersRefusal};
-ghost use Rattle.lt_lexer.specs.Source.{IsTokenOf};
+ghost use Rattle.std.specs.Prelude.{◌≡◌, ◌⊎◌, List, IfOk, IfErr};
+ghost use Rattle.lt_lexer.specs.Tokenization.{IsTokenization, IsRefusal};
+ghost use Rattle.lt_lexer.specs.Source.{TextIsReadAs, AnswersTokens, AnswersRefusal};
 ghost use Rattle.lt_lexer.specs.declared.token.Token.{Token};
 ghost use Rattle.lt_lexer.specs.declared.refusal.LexRefusal.{LexRefusal};
 
+use crate::lexeme::Lexeme;
 use crate::piece::first_piece;
 use crate::refusal::LexRefusal;
 use crate::token::Token;
@@ -16,14 +17,12 @@ use std::alloc::Global;
 ///
 /// A text that has none is refused with the first place from the left at which the rules fail. The one
 /// answer that the text doesn't determine is [`LexRefusal::Memory`].
-pub fn lex(alloc: Global, text: &[u8]) -> Result<Vec<Token>, LexRefusal>
-    // What is answered are the text's tokens ..
-    ensures found { IfOk result (λ v. IsTokenization text.now v.items) }
+pub fn lex<'a>(alloc: Global, text: &'a [u8]) -> Result<Vec<Lexeme<'a>>, LexRefusal>
+    // What is answered are the text's tokens, each with its sign and its letters ..
+    ensures found { IfOk result (λ v. TextIsReadAs text.now v.items) }
     // .. and what are the text's tokens is answered, unless memory runs out.
     ensures only { (tokens : List Token) →
-        IsTokenization text.now tokens → AnswersTokens tokens result }
-    // Each of them stands in the text, as a token of its kind.
-    ensures inside { IfOk result (λ v. All (IsTokenOf text.now) v.items) }
+        IsTokenization text.now tokens → AnswersTokens text.now tokens result }
 
     // What is refused is refused rightly ..
     ensures refused { IfErr result (λ refusal.
@@ -35,23 +34,24 @@ pub fn lex(alloc: Global, text: &[u8]) -> Result<Vec<Token>, LexRefusal>
     tokens_of(alloc, text)
 }
 
-// The tokens of a text, piece by piece.
-fn tokens_of(alloc: Global, text: &[u8]) -> Result<Vec<Token>, LexRefusal>
-    ensures found { IfOk result (λ v. IsTokenization text.now v.items) }
+// The tokens of a text, piece by piece. There is room at once for one in every two bytes, and few texts have more.
+fn tokens_of<'a>(alloc: Global, text: &'a [u8]) -> Result<Vec<Lexeme<'a>>, LexRefusal>
+    ensures found { IfOk result (λ v. TextIsReadAs text.now v.items) }
     ensures refused { IfErr result (λ refusal.
         (refusal ≡ LexRefusal.Memory) ⊎ IsRefusal text.now refusal) }
 {
-    let mut tokens = Vec::new(alloc);
+    let mut tokens = Vec::with_capacity(alloc, text.len() / 2)?;
     let mut rest = text;
     while !rest.is_empty() {
         let start = text.len() - rest.len();
         let piece = first_piece(rest, start)?;
         if let Some(kind) = piece.kind {
             let end = start + piece.len;
-            tokens.push(Token {
+            let token = Token {
                 kind,
                 span: Span { start, end },
-            })?;
+            };
+            tokens.push(token.lexeme(text))?;
         }
         rest = &rest[piece.len..];
     }

@@ -1,7 +1,7 @@
 //! Tokens: the words, numbers and symbols of a scenario's text, with their places.
 //!
 //! A text divides into blanks, comments and tokens, each token as long as it can be. [`lex`] answers a
-//! text's tokens, or why it has none; a [`Token`] tells which sign of the language it is, and its letters.
+//! text's tokens, or why it has none: each as a [`Lexeme`], which has its sign, its letters and its place.
 //!
 //! The rules are in `docs/LANGUAGE.md`, under *Lexical rules*. `specs/Piece.antt` says what blanks,
 //! comments and tokens are, `specs/Tokenization.antt` what tokens a text has and why a text has none, and
@@ -10,6 +10,7 @@
 
 mod byte;
 mod laws;
+mod lexeme;
 mod lexer;
 mod piece;
 mod refusal;
@@ -20,6 +21,7 @@ pub use laws::{
     a_token_is_one_sign, one_answer_belongs_to_a_text, tokens_apart_are_the_same,
     tokens_stand_in_turn,
 };
+pub use lexeme::Lexeme;
 pub use lexer::lex;
 pub use refusal::LexRefusal;
 pub use token::{Token, TokenKind};

@@ -2,7 +2,7 @@
 
 ghost use Rattle.std.specs.Prelude.{◌≡◌};
 
-use std::alloc::AllocFailed;
+use std::alloc::{AllocError, AllocFailed};
 use thiserror::Error;
 
 /// Why a text has no tokens, with the place of the byte at which that shows, from 0.
@@ -50,6 +50,17 @@ impl LexRefusal {
             | LexRefusal::NumberTooLong(place) => Some(place),
             LexRefusal::Memory => None,
         }
+    }
+}
+
+impl From<AllocError> for LexRefusal {
+    ghost use Rattle.std.specs.Prelude.{◌≡◌};
+    ghost use Rattle.lt_lexer.specs.declared.refusal.LexRefusal.TheVariants.{Memory};
+
+    ghost from_gives = { λ _ e. e ≡ Memory };
+
+    fn from(_error: AllocError) -> LexRefusal {
+        LexRefusal::Memory
     }
 }
 

@@ -2,9 +2,10 @@
 
 ghost use Rattle.std.specs.Prelude.{◌≡◌};
 ghost use Rattle.lt_num.specs.Literal.{IsNumber};
-ghost use Rattle.lt_lexer.specs.Source.{IsTokenOf, token_bytes, IsSign};
+ghost use Rattle.lt_lexer.specs.Source.{IsTokenOf, token_bytes, IsSign, IsReadAs};
 ghost use Rattle.lt_lexer.specs.declared.token.TokenKind.{TokenKind};
 
+use crate::lexeme::Lexeme;
 use crate::spelling::sign_spelled;
 use lt_ast::{Sign, Span};
 use std::str;
@@ -51,16 +52,34 @@ impl Token {
         str::from_utf8(self.bytes(text)).unwrap()
     }
 
-    /// Which sign it is.
-    #[tactic(auto, using(crate::proofs::Signs::token_signs))]
-    pub fn sign(&self, text: &[u8]) -> Sign
+    /// What it is read as: its sign, its letters and its place.
+    pub fn lexeme<'a>(&self, text: &'a [u8]) -> Lexeme<'a>
         requires { IsTokenOf text.now self.now }
-        ensures { IsSign text.now self.now result }
+        ensures { IsReadAs text.now self.now result }
     {
         match self.kind {
-            TokenKind::Word => sign_spelled(self.bytes(text)).unwrap_or(Sign::Name),
-            TokenKind::Number => Sign::Number,
-            TokenKind::Symbol => sign_spelled(self.bytes(text)).unwrap(),
+            TokenKind::Number => self.unspelled(text, Sign::Number),
+            TokenKind::Word | TokenKind::Symbol => match sign_spelled(self.bytes(text)) {
+                Some(sign) => Lexeme {
+                    sign,
+                    text: sign.text(),
+                    span: self.span,
+                },
+                None => self.unspelled(text, Sign::Name),
+            },
+        }
+    }
+
+    // The same, where its sign has no letters of its own.
+    fn unspelled<'a>(&self, text: &'a [u8], sign: Sign) -> Lexeme<'a>
+        requires token { IsTokenOf text.now self.now }
+        requires sign { IsSign text.now self.now sign }
+        ensures { IsReadAs text.now self.now result }
+    {
+        Lexeme {
+            sign,
+            text: self.letters(text),
+            span: self.span,
         }
     }
 }

@@ -1,18 +1,11 @@
 -- The tokens of a text as the grammar sees them.
-use Rattle.std.proofs.Common.{◌≡◌, ℕ, List, [], ◌∷◌, get_or, refl, sym, ◌∙◌, subst}
-use Rattle.lt_ast.specs.declared.sign.Sign.{Sign}
-use Rattle.lt_ast.specs.declared.sign.Sign.TheVariants as t
+use Rattle.std.proofs.Common.{◌≡◌, ℕ, List, [], ◌∷◌, refl, sym, ◌∙◌, subst}
 use Rattle.lt_lexer.specs.Source.{token_bytes, IsTokenOf, IsSign, StandInTurn}
 use Rattle.lt_lexer.specs.Tokenization.{IsTokenization}
 use Rattle.lt_lexer.specs.declared.token.Token.{Token}
-use Rattle.lt_lexer.specs.declared.token.TokenKind.TheVariants as kind
 use Rattle.lt_lexer.proofs.Public.{one_sign, one_tokenization, some_sign, stand_in_turn}
 use Rattle.lt_parser.specs.Lexemes.{Lexeme, Lexemes, lexeme}
 use Rattle.lt_parser.specs.Text.{IsLexemeOf, AreLexemesOf, HasLexemes}
-
--- One of several tokens, whose sign is that of numbers, is a number.
-pub number_kind : (text : List ℕ) (tokens : List Token) (i : ℕ) (d : Token) (sign : Sign) → IsSign text (get_or tokens i d) sign → sign ≡ t.Number → (get_or tokens i d).kind ≡ kind.Number
-number_kind text tokens i d sign h e = subst (IsSign text (get_or tokens i d)) e h
 
 -- a token is one lexeme
 one_lexeme : (text : List ℕ) (token : Token) (l l' : Lexeme) → IsTokenOf text token → IsLexemeOf text token l → IsLexemeOf text token l' → l ≡ l'

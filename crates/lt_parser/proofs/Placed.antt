@@ -1,54 +1,44 @@
 -- The parser's tokens and refusals are those of the text.
-use Rattle.std.proofs.Common.{◌≡◌, ◌⊎◌, inl, inr, ℕ, zero, suc, ◌+◌, ◌<◌, List, [], ◌∷◌, ◌++◌, length, drop, take, get_or, refl, sym, ◌∙◌, ap, subst, Result, Ok, Err, IfOk, IfErr, arith}
-use Rattle.std.proofs.Math.Seq.{take-suc}
+use Rattle.std.proofs.Common.{◌≡◌, ◌⊎◌, inl, inr, ℕ, zero, suc, ◌+◌, ◌<◌, List, [], ◌∷◌, length, drop, get_or, refl, sym, ◌∙◌, ap, subst, Result, Ok, Err, IfOk, IfErr, arith}
 use Rattle.lt_ast.specs.Syntax.{Declaration}
 use Rattle.lt_ast.specs.View.{program}
 use Rattle.lt_ast.specs.declared.program.Program.{Program}
+use Rattle.lt_lexer.specs.declared.lexeme.Lexeme as read
 use Rattle.lt_lexer.specs.declared.token.Token.{Token}
+use Rattle.lt_lexer.specs.Source.{AreReadAs, TextIsReadAs}
 use Rattle.lt_parser.specs.inner.Parsing.{ProgramReadsAs}
-use Rattle.lt_parser.specs.Lexemes.{Lexeme, Lexemes}
-use Rattle.lt_parser.specs.inner.Tokens.{lexeme_of, lexemes}
+use Rattle.lt_parser.specs.Lexemes.{Lexemes}
+use Rattle.lt_parser.specs.inner.Tokens.{lexemes}
 use Rattle.lt_parser.specs.inner.Placing.{IsPlaced, IsWithin}
-use Rattle.lt_parser.specs.Text.{AnswersProgram, AnswersRefusal, AreLexemesOf, HasLexemes, IsLexemeOf, IsProgramOf, IsRefusal, start_of}
+use Rattle.lt_parser.specs.Text.{AnswersProgram, AnswersRefusal, AreLexemesOf, HasLexemes, IsProgramOf, IsRefusal, start_of}
 use Rattle.lt_parser.specs.declared.refusal.ParseRefusal.{ParseRefusal}
 use Rattle.lt_parser.specs.declared.refusal.ParseRefusal.TheVariants.{Memory}
 use Rattle.lt_parser.specs.declared.refusal.Refusal.{Refusal}
 use Rattle.lt_parser.specs.declared.refusal.Refusal.TheVariants as r
-use Rattle.lt_parser.specs.declared.token.Token as parser
 use Rattle.lt_parser.proofs.Texts.{one_program, one_refusal, program_or_refusal, read_is_program, too_deep_fits, too_deep_is_refusal, unexpected_fits, unexpected_is_refusal}
 
 -- TOKENS
 
--- one more token, and one more lexeme
-pub more_lexemes : (text : List ℕ) (ts : List Token) (ls : Lexemes) (t : Token) (l : Lexeme) → AreLexemesOf text ts ls → IsLexemeOf text t l → AreLexemesOf text (ts ++ t ∷ []) (ls ++ l ∷ [])
-more_lexemes text [] [] t l h g = (g, tt)
-more_lexemes text (u ∷ us) (v ∷ vs) t l h g = (h.0, more_lexemes text us vs t l h.1 g)
-more_lexemes text [] (v ∷ vs) t l h g = absurd h
-more_lexemes text (u ∷ us) [] t l h g = absurd h
+-- what tokens of a text are read as are their lexemes
+lexemes_of_read : (text : List ℕ) (ts : List Token) (ls : List read.Lexeme) → AreReadAs text ts ls → AreLexemesOf text ts (lexemes ls)
+lexemes_of_read text [] [] h = tt
+lexemes_of_read text (t ∷ ts) (l ∷ ls) h = ((h.0.sign, h.0.letters, h.0.place), lexemes_of_read text ts ls h.1)
+lexemes_of_read text [] (l ∷ ls) h = absurd h
+lexemes_of_read text (t ∷ ts) [] h = absurd h
 
--- the lexemes of one token more
-pub lexemes-push : (ts : List parser.Token) (t : parser.Token) → lexemes (ts ++ t ∷ []) ≡ lexemes ts ++ lexeme_of t ∷ []
-lexemes-push [] t = refl
-lexemes-push (u ∷ us) t = ap (λ ls. lexeme_of u ∷ ls) (lexemes-push us t)
-
--- the loop over the lexer's tokens comes to the next one
-pub next_lexeme : (text : List ℕ) (lexed : List Token) (i : ℕ) (d : Token) (ts new : List parser.Token) (t : parser.Token) → i < length lexed → AreLexemesOf text (take i lexed) (lexemes ts) → new ≡ ts ++ t ∷ []
-    → IsLexemeOf text (get_or lexed i d) (lexeme_of t) → AreLexemesOf text (take (i + 1) lexed) (lexemes new)
-next_lexeme text lexed i d ts new t le h e g =
-    let one : suc i ≡ i + 1 = omega arith in
-    subst (λ us. AreLexemesOf text us (lexemes new)) (sym (take-suc lexed i d le) ∙ ap (λ n. take n lexed) one)
-    (subst (AreLexemesOf text (take i lexed ++ get_or lexed i d ∷ [])) (sym (ap lexemes e ∙ lexemes-push ts t))
-    (more_lexemes text (take i lexed) (lexemes ts) (get_or lexed i d) (lexeme_of t) h g))
+-- What a text is read as are its lexemes.
+pub has_lexemes : (text : List ℕ) (ls : List read.Lexeme) → TextIsReadAs text ls → HasLexemes text (lexemes ls)
+has_lexemes text ls h = (h.0, h.1, lexemes_of_read text h.0 ls h.2)
 
 -- there are as many
-pub length-lexemes : (ts : List parser.Token) → length (lexemes ts) ≡ length ts
+pub length-lexemes : (ts : List read.Lexeme) → length (lexemes ts) ≡ length ts
 length-lexemes [] = refl
 length-lexemes (t ∷ ts) = ap suc (length-lexemes ts)
 
 -- PLACES
 
 -- the rest from a token on begins where that token stands
-pub place_at : (text : List ℕ) (ts : List parser.Token) (i : ℕ) (t : parser.Token) → i < length ts → t ≡ get_or ts i t → t.span.start ≡ start_of text (drop i (lexemes ts))
+pub place_at : (text : List ℕ) (ts : List read.Lexeme) (i : ℕ) (t : read.Lexeme) → i < length ts → t ≡ get_or ts i t → t.span.start ≡ start_of text (drop i (lexemes ts))
 place_at text [] i t le e = absurd (omega (arith, le))
 place_at text (u ∷ us) zero t le e = ap (λ v. v.span.start) e
 place_at text (u ∷ us) (suc i) t le e = place_at text us i t (omega (arith, le)) e

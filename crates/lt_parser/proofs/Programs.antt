@@ -6,7 +6,7 @@ use Rattle.lt_ast.specs.declared.program.Program.{Program}
 use Rattle.lt_ast.specs.View.{declaration}
 use Rattle.lt_parser.specs.declared.refusal.Refusal.{Refusal}
 use Rattle.lt_parser.specs.declared.refusal.Refusal.TheVariants as r
-use Rattle.lt_parser.specs.declared.token.Token.{Token}
+use Rattle.lt_lexer.specs.declared.lexeme.Lexeme.{Lexeme as Token}
 use Rattle.lt_parser.specs.inner.Parsing.{ProgramReadsAs, Refused}
 use Rattle.lt_parser.specs.Lexemes.{Lexemes}
 use Rattle.lt_parser.specs.inner.Tokens.{lexemes}

@@ -18,7 +18,7 @@ use Rattle.lt_ast.specs.Syntax as s
 use Rattle.lt_ast.specs.Syntax.{Word, Exp, Argument, Arguments, Limits, Braces, Alternative, Alternatives, Trace, Traces, Grouping, Groupings, MaybeExp, MaybeTrace, Parameters, Declaration, WrittenRange}
 use Rattle.lt_parser.specs.declared.refusal.Refusal.{Refusal}
 use Rattle.lt_parser.specs.declared.refusal.Refusal.TheVariants as r
-use Rattle.lt_parser.specs.declared.token.Token.{Token}
+use Rattle.lt_lexer.specs.declared.lexeme.Lexeme.{Lexeme as Token}
 use Rattle.lt_parser.specs.inner.Parsing.{ReadsTo, Refused}
 use Rattle.lt_parser.specs.Lexemes.{Lexemes, lexeme, IsNotFirst}
 use Rattle.lt_parser.specs.inner.Tokens.{lexemes, Begins}

@@ -10,18 +10,18 @@ ghost use Rattle.lt_parser.specs.inner.Reading.{Goal, a_digits, a_figure, a_name
 ghost use Rattle.lt_parser.specs.inner.Reading as reading;
 
 use crate::refusal::Refusal;
-use crate::token::Token;
 use lt_ast::{Literal, Name, Names, Range, Sign, Span, TypeName};
+use lt_lexer::Lexeme;
 use std::alloc::{AllocError, Global};
 
 // How many levels may be open at once.
 const MOST_LEVELS: u32 = 200;
 
 /// What was found, and the tokens after it.
-pub(crate) type Parsed<'a, T> = Result<(T, &'a [Token<'a>]), Refusal>;
+pub(crate) type Parsed<'a, T> = Result<(T, &'a [Lexeme<'a>]), Refusal>;
 
 /// The name that a token is.
-pub(crate) fn name_of(alloc: Global, token: &Token<'_>) -> Result<Name, AllocError>
+pub(crate) fn name_of(alloc: Global, token: &Lexeme<'_>) -> Result<Name, AllocError>
     ensures { IfOk result
         (λ n. word n ≡ record { text = token.now.text.now; span = token.now.span }) }
 {
@@ -36,7 +36,7 @@ pub(crate) fn number_of(
     alloc: Global,
     minus: bool,
     span: Span,
-    token: &Token<'_>,
+    token: &Lexeme<'_>,
 ) -> Result<Literal, AllocError>
     requires { token.now.sign ≡ Sign.Number }
     ensures { IfOk result
@@ -61,7 +61,7 @@ pub(crate) fn deeper(depth: u32, left: usize) -> Result<u32, Refusal>
 
 /// The place of this sign and the tokens after it, where it is the first.
 #[tactic(auto, using(crate::proofs::Steps::firsts))]
-pub(crate) fn after<'a>(tokens: &'a [Token<'a>], sign: Sign) -> Option<(Span, &'a [Token<'a>])>
+pub(crate) fn after<'a>(tokens: &'a [Lexeme<'a>], sign: Sign) -> Option<(Span, &'a [Lexeme<'a>])>
     ensures found { MatchOption result (IsNotFirst sign (lexemes tokens.now))
         (λ r. Begins sign r.0 (lexemes tokens.now) (lexemes r.1.now)) }
     ensures shorter { MatchOption result (length tokens.now ≡ length tokens.now)
@@ -79,7 +79,7 @@ pub(crate) fn after<'a>(tokens: &'a [Token<'a>], sign: Sign) -> Option<(Span, &'
 }
 
 /// This sign.
-pub(crate) fn expect<'a>(tokens: &'a [Token<'a>], sign: Sign) -> Parsed<'a, Span>
+pub(crate) fn expect<'a>(tokens: &'a [Lexeme<'a>], sign: Sign) -> Parsed<'a, Span>
     ensures reads { ReadsAs (λ x. x.0) (λ x. lexemes x.1.now) (a_sign sign) (lexemes tokens.now)
         result }
     ensures shorter { IfOk result (λ x. length x.1.now < length tokens.now) }
@@ -91,7 +91,7 @@ pub(crate) fn expect<'a>(tokens: &'a [Token<'a>], sign: Sign) -> Parsed<'a, Span
 }
 
 /// A name.
-pub(crate) fn parse_name<'a>(alloc: Global, tokens: &'a [Token<'a>]) -> Parsed<'a, Name>
+pub(crate) fn parse_name<'a>(alloc: Global, tokens: &'a [Lexeme<'a>]) -> Parsed<'a, Name>
     ensures reads { ReadsAs (λ x. word x.0) (λ x. lexemes x.1.now) a_name (lexemes tokens.now)
         result }
     ensures shorter { IfOk result (λ x. length x.1.now < length tokens.now) }
@@ -104,7 +104,7 @@ pub(crate) fn parse_name<'a>(alloc: Global, tokens: &'a [Token<'a>]) -> Parsed<'
 
 /// Names with commas between them.
 #[tactic(auto, using(crate::proofs::Skips::no_name))]
-pub(crate) fn parse_names<'a>(alloc: Global, tokens: &'a [Token<'a>]) -> Parsed<'a, Names>
+pub(crate) fn parse_names<'a>(alloc: Global, tokens: &'a [Lexeme<'a>]) -> Parsed<'a, Names>
     ensures reads { ReadsAs (λ x. words x.0) (λ x. lexemes x.1.now) reading.names
         (lexemes tokens.now) result }
     ensures shorter { IfOk result (λ x. length x.1.now < length tokens.now) }
@@ -120,7 +120,7 @@ pub(crate) fn parse_names<'a>(alloc: Global, tokens: &'a [Token<'a>]) -> Parsed<
 }
 
 /// The name of a type.
-pub(crate) fn parse_type_name<'a>(tokens: &'a [Token<'a>]) -> Parsed<'a, TypeName>
+pub(crate) fn parse_type_name<'a>(tokens: &'a [Lexeme<'a>]) -> Parsed<'a, TypeName>
     ensures reads { ReadsAs (λ x. x.0) (λ x. lexemes x.1.now) a_type (lexemes tokens.now) result }
     ensures shorter { IfOk result (λ x. length x.1.now < length tokens.now) }
 {
@@ -138,7 +138,7 @@ pub(crate) fn parse_type_name<'a>(tokens: &'a [Token<'a>]) -> Parsed<'a, TypeNam
 
 /// Whether `ref` comes.
 #[tactic(auto, using(crate::proofs::Skips::no_ref))]
-pub(crate) fn parse_ref<'a>(tokens: &'a [Token<'a>]) -> (bool, &'a [Token<'a>])
+pub(crate) fn parse_ref<'a>(tokens: &'a [Lexeme<'a>]) -> (bool, &'a [Lexeme<'a>])
     ensures reads { (k : Bool → Goal) →
         outcome most_levels (a_ref k) (lexemes tokens.now)
         ≡ outcome most_levels (k result.0) (lexemes result.1.now) }
@@ -151,7 +151,7 @@ pub(crate) fn parse_ref<'a>(tokens: &'a [Token<'a>]) -> (bool, &'a [Token<'a>])
 }
 
 /// A number, with a minus or without one.
-pub(crate) fn parse_literal<'a>(alloc: Global, tokens: &'a [Token<'a>]) -> Parsed<'a, Literal>
+pub(crate) fn parse_literal<'a>(alloc: Global, tokens: &'a [Lexeme<'a>]) -> Parsed<'a, Literal>
     ensures reads { ReadsAs (λ x. figure x.0) (λ x. lexemes x.1.now) a_figure (lexemes tokens.now)
         result }
     ensures shorter { IfOk result (λ x. length x.1.now < length tokens.now) }
@@ -167,7 +167,7 @@ pub(crate) fn parse_literal<'a>(alloc: Global, tokens: &'a [Token<'a>]) -> Parse
 }
 
 // The number after a minus.
-fn parse_digits<'a>(alloc: Global, start: Span, tokens: &'a [Token<'a>]) -> Parsed<'a, Literal>
+fn parse_digits<'a>(alloc: Global, start: Span, tokens: &'a [Lexeme<'a>]) -> Parsed<'a, Literal>
     ensures reads { ReadsAs (λ x. figure x.0) (λ x. lexemes x.1.now) (a_digits start)
         (lexemes tokens.now) result }
     ensures shorter { IfOk result (λ x. length x.1.now < length tokens.now) }
@@ -182,7 +182,7 @@ fn parse_digits<'a>(alloc: Global, start: Span, tokens: &'a [Token<'a>]) -> Pars
 
 // A step, where it is there.
 #[tactic(auto, using(crate::proofs::Skips::no_step))]
-fn parse_step<'a>(alloc: Global, tokens: &'a [Token<'a>]) -> Parsed<'a, Option<Literal>>
+fn parse_step<'a>(alloc: Global, tokens: &'a [Lexeme<'a>]) -> Parsed<'a, Option<Literal>>
     ensures reads { ReadsAs (λ x. written_step x.0) (λ x. lexemes x.1.now) a_step
         (lexemes tokens.now) result }
     ensures shorter { IfOk result (λ x. length x.1.now ≤ length tokens.now) }
@@ -198,7 +198,7 @@ fn parse_step<'a>(alloc: Global, tokens: &'a [Token<'a>]) -> Parsed<'a, Option<L
 
 /// A range, where it is there.
 #[tactic(auto, using(crate::proofs::Skips::no_range))]
-pub(crate) fn parse_range<'a>(alloc: Global, tokens: &'a [Token<'a>]) -> Parsed<'a, Option<Range>>
+pub(crate) fn parse_range<'a>(alloc: Global, tokens: &'a [Lexeme<'a>]) -> Parsed<'a, Option<Range>>
     ensures reads { ReadsAs (λ x. written_range x.0) (λ x. lexemes x.1.now) a_range
         (lexemes tokens.now) result }
     ensures shorter { IfOk result (λ x. length x.1.now ≤ length tokens.now) }

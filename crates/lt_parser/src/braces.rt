@@ -13,17 +13,17 @@ ghost use Rattle.lt_parser.specs.inner.Reading.{after_first, an_alternative, som
 use crate::atoms::{Parsed, after, expect};
 use crate::expressions::parse_expr;
 use crate::refusal::Refusal;
-use crate::token::Token;
 use crate::traces::{parse_sequence, parse_trace};
 use lt_ast::{Braced, Part, Parts, Sign, Span, TraceExpr, Traces};
+use lt_lexer::Lexeme;
 use std::alloc::Global;
 
 /// What stands in braces, the place of the brace that ends it, and the tokens after that.
-pub(crate) type InBraces<'a> = Result<(Braced, Span, &'a [Token<'a>]), Refusal>;
+pub(crate) type InBraces<'a> = Result<(Braced, Span, &'a [Lexeme<'a>]), Refusal>;
 
 /// What stands in braces.
 #[cycle(parser)]
-pub(crate) fn parse_braced<'a>(alloc: Global, depth: u32, tokens: &'a [Token<'a>]) -> InBraces<'a>
+pub(crate) fn parse_braced<'a>(alloc: Global, depth: u32, tokens: &'a [Lexeme<'a>]) -> InBraces<'a>
     requires { depth ≤ most_levels }
     ensures reads { ReadsTo (λ x k. k (braced x.0) x.1) (λ x. lexemes x.2.now) (some_braced depth)
         (lexemes tokens.now) result }
@@ -48,7 +48,7 @@ fn parse_after_first<'a>(
     alloc: Global,
     depth: u32,
     first: TraceExpr,
-    tokens: &'a [Token<'a>],
+    tokens: &'a [Lexeme<'a>],
 ) -> InBraces<'a>
     requires { depth ≤ most_levels }
     ensures reads { ReadsTo (λ x k. k (braced x.0) x.1) (λ x. lexemes x.2.now)
@@ -72,7 +72,7 @@ fn parse_after_first<'a>(
 }
 
 // A trace alone, which is read, and the brace that ends it.
-fn parse_plain<'a>(alloc: Global, inside: TraceExpr, tokens: &'a [Token<'a>]) -> InBraces<'a>
+fn parse_plain<'a>(alloc: Global, inside: TraceExpr, tokens: &'a [Lexeme<'a>]) -> InBraces<'a>
     ensures reads { ReadsTo (λ x k. k (braced x.0) x.1) (λ x. lexemes x.2.now)
         (plain_after (trace inside)) (lexemes tokens.now) result }
     ensures shorter { IfOk result (λ x. length x.2.now < length tokens.now) }
@@ -81,14 +81,14 @@ fn parse_plain<'a>(alloc: Global, inside: TraceExpr, tokens: &'a [Token<'a>]) ->
     Ok((Braced::Plain(Box::new(alloc, inside)?), end, rest))
 }
 
-// The alternatives of a choice that come after others.
+// The alternatives of a choice that come after others. Most choices have two alternatives, for which there is room at once.
 #[cycle(parser)]
 fn parse_choice<'a>(
     alloc: Global,
     depth: u32,
     lead: bool,
     before: Vec<Part>,
-    tokens: &'a [Token<'a>],
+    tokens: &'a [Lexeme<'a>],
 ) -> InBraces<'a>
     requires { depth ≤ most_levels }
     ensures reads { ReadsTo (λ x k. k (braced x.0) x.1) (λ x. lexemes x.2.now)
@@ -97,6 +97,7 @@ fn parse_choice<'a>(
 {
     let (first, mut rest) = parse_alternative(alloc, depth, tokens)?;
     let mut items = before;
+    items.reserve_exact(2)?;
     items.push(first)?;
     while let Some((_, next)) = after(rest, Sign::Bar) {
         let (another, remaining) = parse_alternative(alloc, depth, next)?;
@@ -115,7 +116,7 @@ fn parse_priority<'a>(
     depth: u32,
     lead: bool,
     before: Vec<TraceExpr>,
-    tokens: &'a [Token<'a>],
+    tokens: &'a [Lexeme<'a>],
 ) -> InBraces<'a>
     requires { depth ≤ most_levels }
     ensures reads { ReadsTo (λ x k. k (braced x.0) x.1) (λ x. lexemes x.2.now)
@@ -133,7 +134,7 @@ fn parse_parallel<'a>(
     depth: u32,
     lead: bool,
     before: Vec<TraceExpr>,
-    tokens: &'a [Token<'a>],
+    tokens: &'a [Lexeme<'a>],
 ) -> InBraces<'a>
     requires { depth ≤ most_levels }
     ensures reads { ReadsTo (λ x k. k (braced x.0) x.1) (λ x. lexemes x.2.now)
@@ -144,15 +145,16 @@ fn parse_parallel<'a>(
     Ok((Braced::Parallel { lead, parts }, end, rest))
 }
 
-// The traces that come after others, with this sign between two, and the place of the brace that ends them.
+// The traces that come after others, with this sign between two, and the place of the brace that ends them. There is room
+// for two at once.
 #[cycle(parser)]
 fn parse_traces<'a>(
     alloc: Global,
     depth: u32,
     sign: Sign,
     before: Vec<TraceExpr>,
-    tokens: &'a [Token<'a>],
-) -> Result<(Traces, Span, &'a [Token<'a>]), Refusal>
+    tokens: &'a [Lexeme<'a>],
+) -> Result<(Traces, Span, &'a [Lexeme<'a>]), Refusal>
     requires open { depth ≤ most_levels }
     requires between { sign ≢ Sign.CloseBrace }
     ensures reads { ReadsTo (λ x k. k (traces_onto x.0.items.items syntax.no_traces) x.1)
@@ -161,6 +163,7 @@ fn parse_traces<'a>(
 {
     let (first, mut rest) = parse_trace(alloc, depth, tokens)?;
     let mut items = before;
+    items.reserve_exact(2)?;
     items.push(first)?;
     while let Some((_, next)) = after(rest, sign) {
         let (another, remaining) = parse_trace(alloc, depth, next)?;
@@ -173,7 +176,7 @@ fn parse_traces<'a>(
 
 // An alternative: an expression followed by a colon is its weight.
 #[cycle(parser)]
-fn parse_alternative<'a>(alloc: Global, depth: u32, tokens: &'a [Token<'a>]) -> Parsed<'a, Part>
+fn parse_alternative<'a>(alloc: Global, depth: u32, tokens: &'a [Lexeme<'a>]) -> Parsed<'a, Part>
     requires { depth ≤ most_levels }
     ensures reads { ReadsAs (λ x. weighed x.0.weight x.0.body) (λ x. lexemes x.1.now)
         (an_alternative depth) (lexemes tokens.now) result }
@@ -203,7 +206,7 @@ fn parse_alternative<'a>(alloc: Global, depth: u32, tokens: &'a [Token<'a>]) -> 
 }
 
 // Whether a trace begins here that begins with no expression.
-fn begins_item(tokens: &[Token<'_>]) -> bool
+fn begins_item(tokens: &[Lexeme<'_>]) -> bool
     ensures { BeginsItem result (lexemes tokens.now) }
 {
     match tokens.first() {

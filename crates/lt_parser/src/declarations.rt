@@ -11,13 +11,13 @@ ghost use Rattle.lt_parser.specs.inner.Reading.{a_list, node_goal};
 use crate::atoms::{Parsed, after, expect, parse_name, parse_names};
 use crate::groups::{parse_listed_groups, parse_macro};
 use crate::refusal::Refusal;
-use crate::token::Token;
 use crate::traces::parse_trace;
 use lt_ast::{Decl, Groups, NodeDecl, Program, Sign};
+use lt_lexer::Lexeme;
 use std::alloc::Global;
 
 /// Declarations up to the end of the tokens.
-pub(crate) fn parse_program<'a>(alloc: Global, tokens: &'a [Token<'a>]) -> Result<Program, Refusal>
+pub(crate) fn parse_program<'a>(alloc: Global, tokens: &'a [Lexeme<'a>]) -> Result<Program, Refusal>
     ensures { ProgramReadsAs (lexemes tokens.now) result }
 {
     let mut decls = Vec::new(alloc);
@@ -35,7 +35,7 @@ pub(crate) fn parse_program<'a>(alloc: Global, tokens: &'a [Token<'a>]) -> Resul
 }
 
 // A declaration that comes after others.
-fn parse_declaration<'a>(alloc: Global, tokens: &'a [Token<'a>]) -> Parsed<'a, Decl>
+fn parse_declaration<'a>(alloc: Global, tokens: &'a [Lexeme<'a>]) -> Parsed<'a, Decl>
     requires { 0 < length tokens.now }
     ensures reads { ReadsTo (λ x before. declarations_more before (view.declaration x.0))
         (λ x. lexemes x.1.now) declarations_after (lexemes tokens.now) result }
@@ -62,7 +62,7 @@ fn parse_declaration<'a>(alloc: Global, tokens: &'a [Token<'a>]) -> Parsed<'a, D
 }
 
 // What follows `node`.
-fn parse_node<'a>(alloc: Global, tokens: &'a [Token<'a>]) -> Parsed<'a, NodeDecl>
+fn parse_node<'a>(alloc: Global, tokens: &'a [Lexeme<'a>]) -> Parsed<'a, NodeDecl>
     ensures reads { ReadsAs (λ x. view.declaration (Decl.Node x.0)) (λ x. lexemes x.1.now) node_goal
         (lexemes tokens.now) result }
     ensures shorter { IfOk result (λ x. length x.1.now < length tokens.now) }
@@ -86,7 +86,7 @@ fn parse_node<'a>(alloc: Global, tokens: &'a [Token<'a>]) -> Parsed<'a, NodeDecl
 
 // Groups in parentheses.
 #[tactic(auto, using(crate::proofs::Steps::no_list))]
-fn parse_group_list<'a>(alloc: Global, tokens: &'a [Token<'a>]) -> Parsed<'a, Groups>
+fn parse_group_list<'a>(alloc: Global, tokens: &'a [Lexeme<'a>]) -> Parsed<'a, Groups>
     ensures reads { ReadsAs (λ x. groupings x.0) (λ x. lexemes x.1.now) (a_list 0)
         (lexemes tokens.now) result }
     ensures shorter { IfOk result (λ x. length x.1.now < length tokens.now) }

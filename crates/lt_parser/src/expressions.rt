@@ -14,8 +14,8 @@ use crate::atoms::{Parsed, after, deeper, expect, name_of, number_of, parse_name
 use crate::braces::parse_braced;
 use crate::precedence::{operator, rank, top};
 use crate::refusal::Refusal;
-use crate::token::Token;
 use lt_ast::{Arg, Args, BinOp, Expr, Name, Sign, Span, UnOp};
+use lt_lexer::Lexeme;
 use std::alloc::{AllocError, Global};
 
 /// An expression that binds at least so tightly.
@@ -24,7 +24,7 @@ pub(crate) fn parse_expr<'a>(
     alloc: Global,
     depth: u32,
     low: u32,
-    tokens: &'a [Token<'a>],
+    tokens: &'a [Lexeme<'a>],
 ) -> Parsed<'a, Expr>
     requires { depth ≤ most_levels }
     ensures reads { ReadsAs (λ x. exp x.0) (λ x. lexemes x.1.now) (an_exp depth low)
@@ -49,7 +49,7 @@ fn parse_boxed_expr<'a>(
     alloc: Global,
     depth: u32,
     low: u32,
-    tokens: &'a [Token<'a>],
+    tokens: &'a [Lexeme<'a>],
 ) -> Parsed<'a, Box<Expr>>
     requires { depth ≤ most_levels }
     ensures reads { ReadsAs (λ x. exp x.0.value) (λ x. lexemes x.1.now) (an_exp depth low)
@@ -61,7 +61,7 @@ fn parse_boxed_expr<'a>(
 }
 
 // An operator that binds at least so tightly, and the tokens after it.
-fn parse_operator<'a>(tokens: &'a [Token<'a>], low: u32) -> Option<(BinOp, &'a [Token<'a>])>
+fn parse_operator<'a>(tokens: &'a [Lexeme<'a>], low: u32) -> Option<(BinOp, &'a [Lexeme<'a>])>
     ensures found { MatchOption result (IsNotExtended low (lexemes tokens.now))
         (λ r. IsExtended low r.0 (lexemes tokens.now) (lexemes r.1.now)) }
     ensures shorter { MatchOption result (length tokens.now ≡ length tokens.now)
@@ -83,7 +83,7 @@ fn parse_right_operand<'a>(
     depth: u32,
     operator: BinOp,
     left: usize,
-    tokens: &'a [Token<'a>],
+    tokens: &'a [Lexeme<'a>],
 ) -> Parsed<'a, Expr>
     requires open { depth ≤ most_levels }
     requires left { left ≡ suc (length tokens.now) }
@@ -110,7 +110,7 @@ fn parse_right_operand<'a>(
 
 // The right side of a comparison: it begins with `not`, or is a sum.
 #[cycle(parser)]
-fn parse_compared<'a>(alloc: Global, depth: u32, tokens: &'a [Token<'a>]) -> Parsed<'a, Expr>
+fn parse_compared<'a>(alloc: Global, depth: u32, tokens: &'a [Lexeme<'a>]) -> Parsed<'a, Expr>
     requires { depth ≤ most_levels }
     ensures reads { ReadsAs (λ x. exp x.0) (λ x. lexemes x.1.now) (a_right_side depth)
         (lexemes tokens.now) result }
@@ -142,7 +142,7 @@ fn parse_first_operand<'a>(
     alloc: Global,
     depth: u32,
     low: u32,
-    tokens: &'a [Token<'a>],
+    tokens: &'a [Lexeme<'a>],
 ) -> Parsed<'a, Expr>
     requires { depth ≤ most_levels }
     ensures reads { ReadsTo (λ x k. more_exp depth low (exp x.0) k) (λ x. lexemes x.1.now)
@@ -197,7 +197,7 @@ fn parse_unary<'a>(
     inside: u32,
     operator: UnOp,
     start: Span,
-    tokens: &'a [Token<'a>],
+    tokens: &'a [Lexeme<'a>],
 ) -> Parsed<'a, Expr>
     requires { inside ≤ most_levels }
     ensures reads { ReadsAs (λ x. exp x.0) (λ x. lexemes x.1.now) (unary_goal inside operator start)
@@ -219,7 +219,7 @@ pub(crate) fn parse_paren<'a>(
     alloc: Global,
     inside: u32,
     start: Span,
-    tokens: &'a [Token<'a>],
+    tokens: &'a [Lexeme<'a>],
 ) -> Parsed<'a, Expr>
     requires { inside ≤ most_levels }
     ensures reads { ReadsAs (λ x. exp x.0) (λ x. lexemes x.1.now) (paren_goal inside start)
@@ -237,7 +237,7 @@ fn parse_conditional<'a>(
     alloc: Global,
     inside: u32,
     start: Span,
-    tokens: &'a [Token<'a>],
+    tokens: &'a [Lexeme<'a>],
 ) -> Parsed<'a, Expr>
     requires { inside ≤ most_levels }
     ensures reads { ReadsAs (λ x. exp x.0) (λ x. lexemes x.1.now) (if_goal inside start)
@@ -259,7 +259,7 @@ fn parse_named<'a>(
     alloc: Global,
     depth: u32,
     name: Name,
-    tokens: &'a [Token<'a>],
+    tokens: &'a [Lexeme<'a>],
 ) -> Parsed<'a, Expr>
     requires { depth ≤ most_levels }
     ensures reads { ReadsAs (λ x. exp x.0) (λ x. lexemes x.1.now) (after_name depth (word name))
@@ -278,7 +278,7 @@ fn parse_named<'a>(
 
 // Arguments, if any, and the parenthesis that ends them.
 #[cycle(parser)]
-fn parse_args<'a>(alloc: Global, depth: u32, tokens: &'a [Token<'a>]) -> Parsed<'a, Args>
+fn parse_args<'a>(alloc: Global, depth: u32, tokens: &'a [Lexeme<'a>]) -> Parsed<'a, Args>
     requires { depth ≤ most_levels }
     ensures reads { ReadsAs (λ x. arguments_onto x.0.items.items syntax.no_arguments)
         (λ x. lexemes x.1.now) (some_arguments depth) (lexemes tokens.now) result }
@@ -305,7 +305,7 @@ fn parse_args<'a>(alloc: Global, depth: u32, tokens: &'a [Token<'a>]) -> Parsed<
 
 // An argument: an expression, or a trace in braces.
 #[cycle(parser)]
-fn parse_arg<'a>(alloc: Global, depth: u32, tokens: &'a [Token<'a>]) -> Parsed<'a, Arg>
+fn parse_arg<'a>(alloc: Global, depth: u32, tokens: &'a [Lexeme<'a>]) -> Parsed<'a, Arg>
     requires { depth ≤ most_levels }
     ensures reads { ReadsAs (λ x. argument x.0) (λ x. lexemes x.1.now) (an_argument depth)
         (lexemes tokens.now) result }

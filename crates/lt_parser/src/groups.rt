@@ -14,9 +14,9 @@ use crate::atoms::{
 };
 use crate::expressions::parse_expr;
 use crate::refusal::Refusal;
-use crate::token::Token;
 use crate::traces::parse_trace;
 use lt_ast::{Body, Expr, Group, Groups, MacroDecl, Sign, TypeName};
+use lt_lexer::Lexeme;
 use std::alloc::Global;
 
 // A first value, where it is there.
@@ -24,7 +24,7 @@ use std::alloc::Global;
 fn parse_first_value<'a>(
     alloc: Global,
     depth: u32,
-    tokens: &'a [Token<'a>],
+    tokens: &'a [Lexeme<'a>],
 ) -> Parsed<'a, Option<Expr>>
     requires { depth ≤ most_levels }
     ensures reads { ReadsAs (λ x. maybe_exp x.0) (λ x. lexemes x.1.now) (a_first depth)
@@ -42,7 +42,7 @@ fn parse_first_value<'a>(
 
 // Names of one type.
 #[cycle(parser)]
-fn parse_group<'a>(alloc: Global, depth: u32, tokens: &'a [Token<'a>]) -> Parsed<'a, Group>
+fn parse_group<'a>(alloc: Global, depth: u32, tokens: &'a [Lexeme<'a>]) -> Parsed<'a, Group>
     requires { depth ≤ most_levels }
     ensures reads { ReadsAs (λ x. group_of x.0) (λ x. lexemes x.1.now) (a_group depth)
         (lexemes tokens.now) result }
@@ -72,7 +72,7 @@ pub(crate) fn parse_groups<'a>(
     alloc: Global,
     depth: u32,
     end: Sign,
-    tokens: &'a [Token<'a>],
+    tokens: &'a [Lexeme<'a>],
 ) -> Parsed<'a, Groups>
     requires { depth ≤ most_levels }
     ensures reads { ReadsAs (λ x. groupings x.0) (λ x. lexemes x.1.now) (reading.groups depth end)
@@ -95,7 +95,7 @@ pub(crate) fn parse_groups<'a>(
 pub(crate) fn parse_listed_groups<'a>(
     alloc: Global,
     inside: u32,
-    tokens: &'a [Token<'a>],
+    tokens: &'a [Lexeme<'a>],
 ) -> Parsed<'a, Groups>
     requires { inside ≤ most_levels }
     ensures reads { ReadsAs (λ x. groupings x.0) (λ x. lexemes x.1.now) (some_groups inside)
@@ -118,7 +118,7 @@ pub(crate) fn parse_listed_groups<'a>(
 fn parse_params<'a>(
     alloc: Global,
     depth: u32,
-    tokens: &'a [Token<'a>],
+    tokens: &'a [Lexeme<'a>],
 ) -> Parsed<'a, Option<Groups>>
     requires { depth ≤ most_levels }
     ensures reads { ReadsAs (λ x. parameters_of x.0) (λ x. lexemes x.1.now) (some_parameters depth)
@@ -139,7 +139,7 @@ fn parse_params<'a>(
 pub(crate) fn parse_macro<'a>(
     alloc: Global,
     depth: u32,
-    tokens: &'a [Token<'a>],
+    tokens: &'a [Lexeme<'a>],
 ) -> Parsed<'a, MacroDecl>
     requires { depth ≤ most_levels }
     ensures reads { ReadsAs (λ x. macro x.0) (λ x. lexemes x.1.now) (a_macro depth)
@@ -169,7 +169,7 @@ fn parse_body<'a>(
     alloc: Global,
     depth: u32,
     kind: TypeName,
-    tokens: &'a [Token<'a>],
+    tokens: &'a [Lexeme<'a>],
 ) -> Parsed<'a, Body>
     requires { depth ≤ most_levels }
     ensures reads { ReadsAs (λ x. meaning x.0) (λ x. lexemes x.1.now) (a_meaning depth kind)

@@ -18,7 +18,6 @@ mod laws;
 mod precedence;
 mod refusal;
 mod text;
-mod token;
 mod traces;
 
 pub use laws::{

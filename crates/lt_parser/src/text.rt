@@ -1,19 +1,17 @@
 //! From a text to its program.
 
-ghost use Rattle.std.specs.Prelude.{◌≡◌, ◌≤◌, ◌⊎◌, List, All, IfErr, IfOk, length};
+ghost use Rattle.std.specs.Prelude.{◌≡◌, ◌≤◌, ◌⊎◌, List, IfErr, IfOk, length};
 ghost use Rattle.lt_ast.specs.Syntax.{Declaration};
 ghost use Rattle.lt_ast.specs.View.{program};
-ghost use Rattle.lt_lexer.specs.Source.{IsTokenOf};
 ghost use Rattle.lt_parser.specs.inner.Tokens.{lexemes};
 ghost use Rattle.lt_parser.specs.inner.Placing.{IsPlaced, IsWithin, last_of};
-ghost use Rattle.lt_parser.specs.Text.{AnswersProgram, AnswersRefusal, AreLexemesOf, IsProgramOf, IsRefusal, start_of};
+ghost use Rattle.lt_parser.specs.Text.{AnswersProgram, AnswersRefusal, IsProgramOf, IsRefusal, start_of};
 ghost use Rattle.lt_parser.specs.declared.refusal.ParseRefusal.{ParseRefusal};
 
 use crate::declarations::parse_program;
 use crate::refusal::{ParseRefusal, Refusal};
-use crate::token::Token;
 use lt_ast::Program;
-use lt_lexer::lex;
+use lt_lexer::{Lexeme, lex};
 use std::alloc::Global;
 
 /// The program that a text spells.
@@ -43,39 +41,15 @@ fn program_of(alloc: Global, text: &[u8]) -> Result<Program, ParseRefusal>
     ensures refused { IfErr result
         (λ refusal. (refusal ≡ ParseRefusal.Memory) ⊎ IsRefusal text.now refusal) }
 {
-    let lexed = lex(alloc, text)?;
-    let tokens = tokens_of(alloc, text, &lexed)?;
-    drop(lexed);
+    let tokens = lex(alloc, text)?;
     match parse_program(alloc, &tokens) {
         Ok(program) => Ok(program),
         Err(refusal) => Err(placed(text, &tokens, refusal)),
     }
 }
 
-// The lexer's tokens as the grammar takes them.
-fn tokens_of<'a>(
-    alloc: Global,
-    text: &'a [u8],
-    lexed: &[lt_lexer::Token],
-) -> Result<Vec<Token<'a>>, ParseRefusal>
-    requires { All (IsTokenOf text.now) lexed.now }
-    ensures found { IfOk result (λ v. AreLexemesOf text.now lexed.now (lexemes v.items)) }
-    ensures refused { IfErr result (λ refusal. refusal ≡ ParseRefusal.Memory) }
-{
-    let mut tokens = Vec::with_capacity(alloc, lexed.len())?;
-    for token in lexed {
-        let found = Token {
-            sign: token.sign(text),
-            text: token.letters(text),
-            span: token.span,
-        };
-        tokens.push(found)?;
-    }
-    Ok(tokens)
-}
-
 // A refusal by its place in the text.
-fn placed(text: &[u8], tokens: &[Token<'_>], refusal: Refusal) -> ParseRefusal
+fn placed(text: &[u8], tokens: &[Lexeme<'_>], refusal: Refusal) -> ParseRefusal
     requires { IsWithin (lexemes tokens.now) refusal }
     ensures { IsPlaced text.now (lexemes tokens.now) refusal result }
 {
@@ -87,7 +61,7 @@ fn placed(text: &[u8], tokens: &[Token<'_>], refusal: Refusal) -> ParseRefusal
 }
 
 // Where the token stands from which on so many are left, or where the text ends.
-fn place(text: &[u8], tokens: &[Token<'_>], left: usize) -> usize
+fn place(text: &[u8], tokens: &[Lexeme<'_>], left: usize) -> usize
     requires { left ≤ length (lexemes tokens.now) }
     ensures { result ≡ start_of text.now (last_of (lexemes tokens.now) left) }
 {

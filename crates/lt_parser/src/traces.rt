@@ -16,8 +16,8 @@ use crate::braces::parse_braced;
 use crate::expressions::{parse_expr, parse_paren};
 use crate::groups::{parse_groups, parse_macro};
 use crate::refusal::Refusal;
-use crate::token::Token;
 use lt_ast::{Bounds, Expr, Sign, Span, TraceExpr, Traces};
+use lt_lexer::Lexeme;
 use std::alloc::Global;
 
 /// A trace: items with `fby` between them.
@@ -25,7 +25,7 @@ use std::alloc::Global;
 pub(crate) fn parse_trace<'a>(
     alloc: Global,
     depth: u32,
-    tokens: &'a [Token<'a>],
+    tokens: &'a [Lexeme<'a>],
 ) -> Parsed<'a, TraceExpr>
     requires { depth ≤ most_levels }
     ensures reads { ReadsAs (λ x. trace x.0) (λ x. lexemes x.1.now) (a_trace depth)
@@ -41,7 +41,7 @@ pub(crate) fn parse_trace<'a>(
 fn parse_boxed_trace<'a>(
     alloc: Global,
     depth: u32,
-    tokens: &'a [Token<'a>],
+    tokens: &'a [Lexeme<'a>],
 ) -> Parsed<'a, Box<TraceExpr>>
     requires { depth ≤ most_levels }
     ensures reads { ReadsAs (λ x. trace x.0.value) (λ x. lexemes x.1.now) (a_trace depth)
@@ -58,7 +58,7 @@ pub(crate) fn parse_sequence<'a>(
     alloc: Global,
     depth: u32,
     first: TraceExpr,
-    tokens: &'a [Token<'a>],
+    tokens: &'a [Lexeme<'a>],
 ) -> Parsed<'a, TraceExpr>
     requires { depth ≤ most_levels }
     ensures reads { ReadsAs (λ x. trace x.0) (λ x. lexemes x.1.now)
@@ -77,7 +77,7 @@ fn parse_more_items<'a>(
     alloc: Global,
     depth: u32,
     before: Vec<TraceExpr>,
-    tokens: &'a [Token<'a>],
+    tokens: &'a [Lexeme<'a>],
 ) -> Parsed<'a, TraceExpr>
     requires { depth ≤ most_levels }
     ensures reads { ReadsAs (λ x. trace x.0) (λ x. lexemes x.1.now) (items_after depth before.items)
@@ -97,7 +97,7 @@ fn parse_more_items<'a>(
 
 // An item of a sequence.
 #[cycle(parser)]
-fn parse_item<'a>(alloc: Global, depth: u32, tokens: &'a [Token<'a>]) -> Parsed<'a, TraceExpr>
+fn parse_item<'a>(alloc: Global, depth: u32, tokens: &'a [Lexeme<'a>]) -> Parsed<'a, TraceExpr>
     requires { depth ≤ most_levels }
     ensures reads { ReadsAs (λ x. trace x.0) (λ x. lexemes x.1.now) (an_item depth)
         (lexemes tokens.now) result }
@@ -123,7 +123,7 @@ fn parse_item<'a>(alloc: Global, depth: u32, tokens: &'a [Token<'a>]) -> Parsed<
 
 // An expression as an item.
 #[cycle(parser)]
-fn parse_value<'a>(alloc: Global, depth: u32, tokens: &'a [Token<'a>]) -> Parsed<'a, TraceExpr>
+fn parse_value<'a>(alloc: Global, depth: u32, tokens: &'a [Lexeme<'a>]) -> Parsed<'a, TraceExpr>
     requires { depth ≤ most_levels }
     ensures reads { ReadsAs (λ x. trace x.0) (λ x. lexemes x.1.now) (value_goal depth)
         (lexemes tokens.now) result }
@@ -139,7 +139,7 @@ fn parse_braces<'a>(
     alloc: Global,
     inside: u32,
     start: Span,
-    tokens: &'a [Token<'a>],
+    tokens: &'a [Lexeme<'a>],
 ) -> Parsed<'a, TraceExpr>
     requires { inside ≤ most_levels }
     ensures reads { ReadsAs (λ x. trace x.0) (λ x. lexemes x.1.now) (braces_goal inside start)
@@ -152,7 +152,7 @@ fn parse_braces<'a>(
 
 // What follows `loop`.
 #[cycle(parser)]
-fn parse_loop<'a>(alloc: Global, inside: u32, tokens: &'a [Token<'a>]) -> Parsed<'a, TraceExpr>
+fn parse_loop<'a>(alloc: Global, inside: u32, tokens: &'a [Lexeme<'a>]) -> Parsed<'a, TraceExpr>
     requires { inside ≤ most_levels }
     ensures reads { ReadsAs (λ x. trace x.0) (λ x. lexemes x.1.now) (loop_goal inside)
         (lexemes tokens.now) result }
@@ -164,7 +164,7 @@ fn parse_loop<'a>(alloc: Global, inside: u32, tokens: &'a [Token<'a>]) -> Parsed
 }
 
 // What follows `raise`.
-fn parse_raise<'a>(alloc: Global, tokens: &'a [Token<'a>]) -> Parsed<'a, TraceExpr>
+fn parse_raise<'a>(alloc: Global, tokens: &'a [Lexeme<'a>]) -> Parsed<'a, TraceExpr>
     ensures reads { ReadsAs (λ x. trace x.0) (λ x. lexemes x.1.now)
         (λ k. a_name (λ n. k (syntax.raise n))) (lexemes tokens.now) result }
     ensures shorter { IfOk result (λ x. length x.1.now < length tokens.now) }
@@ -178,7 +178,7 @@ fn parse_raise<'a>(alloc: Global, tokens: &'a [Token<'a>]) -> Parsed<'a, TraceEx
 fn parse_in_trace<'a>(
     alloc: Global,
     inside: u32,
-    tokens: &'a [Token<'a>],
+    tokens: &'a [Lexeme<'a>],
 ) -> Parsed<'a, Box<TraceExpr>>
     requires { inside ≤ most_levels }
     ensures reads { ReadsAs (λ x. trace x.0.value) (λ x. lexemes x.1.now) (reading.in_trace inside)
@@ -191,7 +191,7 @@ fn parse_in_trace<'a>(
 
 // What follows `assert`.
 #[cycle(parser)]
-fn parse_assert<'a>(alloc: Global, inside: u32, tokens: &'a [Token<'a>]) -> Parsed<'a, TraceExpr>
+fn parse_assert<'a>(alloc: Global, inside: u32, tokens: &'a [Lexeme<'a>]) -> Parsed<'a, TraceExpr>
     requires { inside ≤ most_levels }
     ensures reads { ReadsAs (λ x. trace x.0) (λ x. lexemes x.1.now) (assert_goal inside)
         (lexemes tokens.now) result }
@@ -204,7 +204,7 @@ fn parse_assert<'a>(alloc: Global, inside: u32, tokens: &'a [Token<'a>]) -> Pars
 
 // What follows `exist`.
 #[cycle(parser)]
-fn parse_exist<'a>(alloc: Global, inside: u32, tokens: &'a [Token<'a>]) -> Parsed<'a, TraceExpr>
+fn parse_exist<'a>(alloc: Global, inside: u32, tokens: &'a [Lexeme<'a>]) -> Parsed<'a, TraceExpr>
     requires { inside ≤ most_levels }
     ensures reads { ReadsAs (λ x. trace x.0) (λ x. lexemes x.1.now) (exist_goal inside)
         (lexemes tokens.now) result }
@@ -217,7 +217,7 @@ fn parse_exist<'a>(alloc: Global, inside: u32, tokens: &'a [Token<'a>]) -> Parse
 
 // What follows a `let` that has an `in`.
 #[cycle(parser)]
-fn parse_let<'a>(alloc: Global, inside: u32, tokens: &'a [Token<'a>]) -> Parsed<'a, TraceExpr>
+fn parse_let<'a>(alloc: Global, inside: u32, tokens: &'a [Lexeme<'a>]) -> Parsed<'a, TraceExpr>
     requires { inside ≤ most_levels }
     ensures reads { ReadsAs (λ x. trace x.0) (λ x. lexemes x.1.now) (define_goal inside)
         (lexemes tokens.now) result }
@@ -234,7 +234,7 @@ fn parse_let<'a>(alloc: Global, inside: u32, tokens: &'a [Token<'a>]) -> Parsed<
 fn parse_exceptions<'a>(
     alloc: Global,
     inside: u32,
-    tokens: &'a [Token<'a>],
+    tokens: &'a [Lexeme<'a>],
 ) -> Parsed<'a, TraceExpr>
     requires { inside ≤ most_levels }
     ensures reads { ReadsAs (λ x. trace x.0) (λ x. lexemes x.1.now) (exceptions_goal inside)
@@ -262,7 +262,7 @@ fn parse_guarded<'a>(
     alloc: Global,
     inside: u32,
     guard: Guard,
-    tokens: &'a [Token<'a>],
+    tokens: &'a [Lexeme<'a>],
 ) -> Parsed<'a, TraceExpr>
     requires { inside ≤ most_levels }
     ensures reads { ReadsAs (λ x. trace x.0) (λ x. lexemes x.1.now) (guard_goal inside guard)
@@ -280,7 +280,7 @@ fn parse_guarded<'a>(
 
 // What follows `try`.
 #[cycle(parser)]
-fn parse_try<'a>(alloc: Global, inside: u32, tokens: &'a [Token<'a>]) -> Parsed<'a, TraceExpr>
+fn parse_try<'a>(alloc: Global, inside: u32, tokens: &'a [Lexeme<'a>]) -> Parsed<'a, TraceExpr>
     requires { inside ≤ most_levels }
     ensures reads { ReadsAs (λ x. trace x.0) (λ x. lexemes x.1.now) (try_goal inside)
         (lexemes tokens.now) result }
@@ -296,7 +296,7 @@ fn parse_try<'a>(alloc: Global, inside: u32, tokens: &'a [Token<'a>]) -> Parsed<
 fn parse_handler<'a>(
     alloc: Global,
     inside: u32,
-    tokens: &'a [Token<'a>],
+    tokens: &'a [Lexeme<'a>],
 ) -> Parsed<'a, Option<Box<TraceExpr>>>
     requires { inside ≤ most_levels }
     ensures reads { ReadsAs (λ x. maybe_trace x.0) (λ x. lexemes x.1.now) (a_handler inside)
@@ -314,7 +314,7 @@ fn parse_handler<'a>(
 
 // The bounds of a loop, where they are there.
 #[cycle(parser)]
-fn parse_bounds<'a>(alloc: Global, inside: u32, tokens: &'a [Token<'a>]) -> Parsed<'a, Bounds>
+fn parse_bounds<'a>(alloc: Global, inside: u32, tokens: &'a [Lexeme<'a>]) -> Parsed<'a, Bounds>
     requires { inside ≤ most_levels }
     ensures reads { ReadsAs (λ x. limits x.0) (λ x. lexemes x.1.now) (some_limits inside)
         (lexemes tokens.now) result }
@@ -338,7 +338,7 @@ fn parse_bounds<'a>(alloc: Global, inside: u32, tokens: &'a [Token<'a>]) -> Pars
 
 // A number, a name without arguments, or an expression in parentheses.
 #[cycle(parser)]
-fn parse_bound<'a>(alloc: Global, depth: u32, tokens: &'a [Token<'a>]) -> Parsed<'a, Expr>
+fn parse_bound<'a>(alloc: Global, depth: u32, tokens: &'a [Lexeme<'a>]) -> Parsed<'a, Expr>
     requires { depth ≤ most_levels }
     ensures reads { ReadsAs (λ x. exp x.0) (λ x. lexemes x.1.now) (a_bound depth)
         (lexemes tokens.now) result }

@@ -1,11 +1,10 @@
 //! What is found of a text.
 
 ghost use Rattle.std.specs.Prelude.{◌≤◌};
-ghost use Rattle.lt_lexer.specs.Source.{IsTokenOf};
 
 use crate::rows::NODE;
 use lt_ast::{Body, Decl, Expr, Program, print};
-use lt_lexer::{LexRefusal, Token, lex};
+use lt_lexer::{LexRefusal, Lexeme, lex};
 use lt_parser::{ParseRefusal, parse};
 use lt_types::{TypeRefusal, check};
 use std::alloc::{AllocError, Global};
@@ -14,11 +13,11 @@ use std::test::Fail;
 /// What is asked of a text. A refusal is told as it is.
 #[derive(Clone, Copy)]
 pub enum Asked {
-    /// Its tokens, each with its kind and its place.
+    /// Its tokens, each with its sign and its place.
     Tokens,
 
-    /// Its tokens, each with its sign and its letters besides.
-    Signs,
+    /// Its tokens, each with its letters besides.
+    Letters,
 
     /// How many tokens it has, how many of them have the bytes of their letters, and how many are spelled as their sign is.
     Spelled,
@@ -49,7 +48,7 @@ pub enum Asked {
 pub fn found_of(alloc: Global, asked: Asked, text: &str) -> Result<String, Fail> {
     match asked {
         Asked::Tokens => Ok(tokens_of(alloc, text.as_bytes())?),
-        Asked::Signs => signs_of(alloc, text.as_bytes()),
+        Asked::Letters => letters_of(alloc, text.as_bytes()),
         Asked::Spelled => spelled_of(alloc, text.as_bytes()),
         Asked::Program => Ok(program_of(alloc, text)?),
         Asked::Operands => operands_of(alloc, text),
@@ -69,14 +68,14 @@ pub fn tokens_of(alloc: Global, text: &[u8]) -> Result<String, AllocError> {
 // Each token behind a blank, or the refusal.
 fn told_tokens(
     alloc: Global,
-    answer: &Result<Vec<Token>, LexRefusal>,
+    answer: &Result<Vec<Lexeme<'_>>, LexRefusal>,
 ) -> Result<String, AllocError> {
     let mut out = String::new(alloc);
     match answer {
         Ok(tokens) => {
             for token in tokens {
                 let span = token.span;
-                write!(out, " {:?} {}-{}", token.kind, span.start, span.end)?;
+                write!(out, " {:?} {}-{}", token.sign, span.start, span.end)?;
             }
         }
         Err(refusal) => write!(out, " {refusal:?}")?,
@@ -84,27 +83,15 @@ fn told_tokens(
     Ok(out)
 }
 
-// The tokens of a text, with their signs and letters.
-fn signs_of(alloc: Global, text: &[u8]) -> Result<String, Fail> {
+// The tokens of a text, with their letters.
+fn letters_of(alloc: Global, text: &[u8]) -> Result<String, Fail> {
     let tokens = lex(alloc, text)?;
     let mut out = String::new(alloc);
     for token in &tokens {
-        put_sign(&mut out, text, token)?;
+        let (sign, letters, span) = (token.sign, token.text, token.span);
+        write!(out, " {sign:?} {}-{} {letters}", span.start, span.end)?;
     }
     Ok(out)
-}
-
-// Puts a token behind what is found.
-fn put_sign(out: &mut String, text: &[u8], token: &Token) -> Result<(), AllocError>
-    requires { IsTokenOf text.now token.now }
-{
-    let (kind, span) = (token.kind, token.span);
-    let (sign, letters) = (token.sign(text), token.letters(text));
-    write!(
-        out,
-        " {kind:?} {}-{} {sign:?} {letters}",
-        span.start, span.end
-    )
 }
 
 // How many tokens a text has, and how many of them are what they are to be.
@@ -113,11 +100,10 @@ fn spelled_of(alloc: Global, text: &[u8]) -> Result<String, Fail> {
     let mut same = 0usize;
     let mut spelled = 0usize;
     for token in &tokens {
-        let letters = token.letters(text);
-        if token.bytes(text) == letters.as_bytes() {
+        if text.get(token.span.start..token.span.end) == Some(token.text.as_bytes()) {
             same = same.saturating_add(1);
         }
-        if token.sign(text).text() == letters {
+        if token.sign.text() == token.text {
             spelled = spelled.saturating_add(1);
         }
     }

@@ -1,4 +1,4 @@
-use Rattle.std.proofs.Common.{ℕ, Bool, List, Option, ap, sym, ◌∙◌, arith, false, true, refl}
+use Rattle.std.proofs.Common.{ℕ, Bool, List, [], ◌∷◌, ◌++◌, Option, ap, sym, ◌∙◌, arith, false, true, refl}
 use Rattle.lt_ast.specs.declared.group.TypeName.{TypeName}
 use Rattle.lt_ast.specs.declared.sign.Sign.TheVariants as t
 use Rattle.lt_ast.specs.declared.span.Span.{Span}
@@ -200,7 +200,7 @@ braces::parse_choice-loop-next-preserved given c = record {
 
 pub braces::parse_choice-loop-next-init : goal.braces::parse_choice-loop-next-init
 braces::parse_choice-loop-next-init given c = record {
-  reads = λ k. c.in_ok-first.ensures.reads (λ x. more_alternatives c.args.depth (λ l. k (alternatives_onto c.args.before.items (s.alternative x l)))) ∙ pushed_to (more_alternatives c.args.depth) (λ x. s.alternative (weighed x.weight x.body)) c.args.before.items _ c.in_ok-first.first c.in_ok-push.ensures.items k (lexemes c.in_ok-first.rest.now);
+  reads = λ k. c.in_ok-first.ensures.reads (λ x. more_alternatives c.args.depth (λ l. k (alternatives_onto c.args.before.items (s.alternative x l)))) ∙ pushed_to (more_alternatives c.args.depth) (λ x. s.alternative (weighed x.weight x.body)) c.args.before.items _ c.in_ok-first.first (c.in_ok-push.ensures.items ∙ ap (λ l. l ++ c.in_ok-first.first ∷ []) c.in_ok-reserve_exact.ensures.items) k (lexemes c.in_ok-first.rest.now);
   shorter = c.in_ok-first.ensures.shorter;
 }
 
@@ -251,7 +251,7 @@ braces::parse_traces-loop-next-preserved given c = record {
 
 pub braces::parse_traces-loop-next-init : goal.braces::parse_traces-loop-next-init
 braces::parse_traces-loop-next-init given c = record {
-  reads = λ k. c.in_ok-first.ensures.reads (λ x. more_traces c.args.depth c.args.sign (λ l. k (traces_onto c.args.before.items (s.one_trace x l)))) ∙ pushed_to (more_traces c.args.depth c.args.sign) (λ x. s.one_trace (trace x)) c.args.before.items _ c.in_ok-first.first c.in_ok-push.ensures.items k (lexemes c.in_ok-first.rest.now);
+  reads = λ k. c.in_ok-first.ensures.reads (λ x. more_traces c.args.depth c.args.sign (λ l. k (traces_onto c.args.before.items (s.one_trace x l)))) ∙ pushed_to (more_traces c.args.depth c.args.sign) (λ x. s.one_trace (trace x)) c.args.before.items _ c.in_ok-first.first (c.in_ok-push.ensures.items ∙ ap (λ l. l ++ c.in_ok-first.first ∷ []) c.in_ok-reserve_exact.ensures.items) k (lexemes c.in_ok-first.rest.now);
   shorter = c.in_ok-first.ensures.shorter;
 }
 

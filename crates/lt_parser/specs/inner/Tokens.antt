@@ -2,7 +2,7 @@
 use Rattle.std.specs.Prelude.{◌≡◌, ℕ, List, ◌∷◌, map}
 use Rattle.lt_ast.specs.declared.sign.Sign.{Sign}
 use Rattle.lt_ast.specs.declared.span.Span.{Span}
-use Rattle.lt_parser.specs.declared.token.Token.{Token}
+use Rattle.lt_lexer.specs.declared.lexeme.Lexeme.{Lexeme as Token}
 use Rattle.lt_parser.specs.Lexemes.{Lexeme, lexeme, Lexemes}
 
 -- a token

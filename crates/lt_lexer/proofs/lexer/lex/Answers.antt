@@ -1,5 +1,4 @@
 use Rattle.lt_lexer.proofs.Answering.{answers_tokens, answers_refusal}
-use Rattle.lt_lexer.proofs.Places.{inside_of}
 use Rattle.lt_lexer.proofs.lexer.lex.Goals as goal
 
 pub returns-clause-only : goal.returns-clause-only
@@ -7,6 +6,3 @@ returns-clause-only c = answers_tokens c.args.text.now c.tokens_of.result c.toke
 
 pub returns-clause-refuses : goal.returns-clause-refuses
 returns-clause-refuses c = answers_refusal c.args.text.now c.tokens_of.result c.tokens_of.ensures.found c.tokens_of.ensures.refused
-
-pub returns-clause-inside : goal.returns-clause-inside
-returns-clause-inside c = inside_of c.tokens_of.result c.args.text.now c.tokens_of.ensures.found

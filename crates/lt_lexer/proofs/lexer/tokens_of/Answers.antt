@@ -1,15 +1,16 @@
 use Rattle.std.proofs.Common.{◌<◌, ◌≤◌, length, arith, rules, inr, subst, sym, ap, ◌-◌, refl, List, ℕ, drop, length-drop, ◌∙◌}
 use Rattle.std.proofs.lemmas.List.{take_rest}
 use Rattle.std.proofs.lemmas.Result.{err_from_is_err_and}
-use Rattle.lt_lexer.specs.declared.token.Token.{Token}
-use Rattle.lt_lexer.proofs.Progress.{ReadSoFar, first_of, first-within, first-some, token_read, none_read, refusal_of}
+use Rattle.lt_lexer.specs.declared.lexeme.Lexeme.{Lexeme}
+use Rattle.lt_lexer.proofs.Progress.{first_of, first-within, first-some, refusal_of}
+use Rattle.lt_lexer.proofs.Lexemes.{LexemesSoFar, lexeme_read, blank_read, stands}
 use Rattle.lt_lexer.proofs.lexer.tokens_of.Goals as goal
 use Rattle.lt_lexer.proofs.lexer.tokens_of.Goals.{in-Some+in_ok-push, in_default}
 
 pub returns-in_err-piece-clause-refused : goal.returns-in_err-piece-clause-refused
 returns-in_err-piece-clause-refused c =
-    let p = err_from_is_err_and c.from_residual.result c.from_residual.ensures.1 in
-    rw (p.1, p.2) (inr (refusal_of c.args.text.now c.loop-rest.tokens.items c.loop-rest.rest.now (length c.args.text.now - length c.loop-rest.rest.now) c.in_err-piece.field-0.0 c.loop-rest.invariant.read refl c.in_err-piece.ensures))
+    let p = err_from_is_err_and c.from_residual-in_err-piece.result c.from_residual-in_err-piece.ensures.1 in
+    rw (p.1, p.2) (inr (refusal_of c.args.text.now c.loop-rest.invariant.read.tokens c.loop-rest.rest.now (length c.args.text.now - length c.loop-rest.rest.now) c.in_err-piece.field-0.0 c.loop-rest.invariant.read.read refl c.in_err-piece.ensures))
 
 pub overflow_add-end : goal.overflow_add-end
 overflow_add-end c =
@@ -34,15 +35,19 @@ loop-rest-smaller c =
 pub loop-rest-preserved : goal.loop-rest-preserved
 loop-rest-preserved c =
     let place = length c.args.text.now - length c.loop-rest.rest.now in
-    let P : List ℕ → Type 0 = λ l. ReadSoFar c.args.text.now c.match-piece.tokens.items l in
-    let Q : List Token → Type 0 = λ l. ReadSoFar c.args.text.now l (drop c.in_ok-piece.piece.len c.loop-rest.rest.now) in
+    let P : List ℕ → Type 0 = λ l. LexemesSoFar c.args.text.now c.match-piece.tokens.items l in
+    let Q : List Lexeme → Type 0 = λ l. LexemesSoFar c.args.text.now l (drop c.in_ok-piece.piece.len c.loop-rest.rest.now) in
     record {
       short = omega (arith, ap length (take_rest c.loop-rest.rest.now c.in_ok-piece.piece.len), length-drop c.in_ok-piece.piece.len c.loop-rest.rest.now, c.loop-rest.invariant.short);
       read = subst P (sym (take_rest c.loop-rest.rest.now c.in_ok-piece.piece.len))
           (elim c.match-piece.branch [
             | in-Some+in_ok-push w ↦ subst Q (sym (ap (λ v. v.items) w.tokens-is ∙ w.in_ok-push.ensures.items))
-                (token_read c.args.text.now c.loop-rest.tokens.items c.loop-rest.rest.now c.in_ok-piece.piece w.in-Some.kind place c.loop-rest.invariant.read refl c.in_ok-piece.ensures w.in-Some.is)
+                (lexeme_read c.args.text.now c.loop-rest.tokens.items c.loop-rest.rest.now c.in_ok-piece.piece w.in-Some.kind place w.lexeme.result c.loop-rest.invariant.read refl c.in_ok-piece.ensures w.in-Some.is w.lexeme.ensures)
             | in_default w ↦ subst Q (sym (ap (λ v. v.items) w.tokens-is))
-                (none_read c.args.text.now c.loop-rest.tokens.items c.loop-rest.rest.now c.in_ok-piece.piece place c.loop-rest.invariant.read refl c.in_ok-piece.ensures w.in_default.is)
+                (blank_read c.args.text.now c.loop-rest.tokens.items c.loop-rest.rest.now c.in_ok-piece.piece place c.loop-rest.invariant.read refl c.in_ok-piece.ensures w.in_default.is)
           ]);
     }
+
+pub lexeme-requires : goal.lexeme-requires
+lexeme-requires c =
+    stands c.args.text.now c.loop-rest.invariant.read.tokens c.loop-rest.rest.now c.in_ok-piece.piece c.in-Some.kind (length c.args.text.now - length c.loop-rest.rest.now) c.loop-rest.invariant.read.read refl c.in_ok-piece.ensures c.in-Some.is

@@ -2,27 +2,24 @@ use Rattle.std.proofs.Common.{Err, Ok, subst, sym}
 use Rattle.lt_parser.specs.inner.Parsing.{ProgramReadsAs}
 use Rattle.lt_parser.specs.inner.Tokens.{lexemes}
 use Rattle.lt_parser.specs.inner.Placing.{IsPlaced, IsWithin}
-use Rattle.lt_parser.specs.Text.{AreLexemesOf}
-use Rattle.lt_parser.proofs.Placed.{placed_refusal, read_program, refused_within}
+use Rattle.lt_parser.proofs.Placed.{has_lexemes, placed_refusal, read_program, refused_within}
 use Rattle.lt_parser.proofs.text.program_of.Goals as goal
 
 pub returns-in-Ok-clause-found : goal.returns-in-Ok-clause-found
 returns-in-Ok-clause-found c =
     let text = c.args.text.now in
     let tokens = c.in_ok-tokens.tokens.items in
-    let are = subst (λ ts. AreLexemesOf text ts (lexemes tokens)) c.deref.ensures.value c.in_ok-tokens.ensures.found in
-    read_program text (lexemes tokens) c.in-Ok.program (c.in_ok-lexed.lexed.items, c.in_ok-lexed.ensures.found, are) (subst (λ ts. ProgramReadsAs (lexemes ts) (Ok c.in-Ok.program)) c.deref-2.ensures.value c.in-Ok.ensures)
+    read_program text (lexemes tokens) c.in-Ok.program (has_lexemes text tokens c.in_ok-tokens.ensures.found) (subst (λ ts. ProgramReadsAs (lexemes ts) (Ok c.in-Ok.program)) c.deref.ensures.value c.in-Ok.ensures)
 
 pub placed-requires : goal.placed-requires
 placed-requires c =
-    let reads = subst (λ ts. ProgramReadsAs (lexemes ts) (Err c.in-Err.refusal)) c.deref-2.ensures.value c.in-Err.ensures in
+    let reads = subst (λ ts. ProgramReadsAs (lexemes ts) (Err c.in-Err.refusal)) c.deref.ensures.value c.in-Err.ensures in
     subst (λ ts. IsWithin (lexemes ts) c.in-Err.refusal) (sym c.deref-in-Err.ensures.value) (refused_within (lexemes c.in_ok-tokens.tokens.items) c.in-Err.refusal reads)
 
 pub returns-clause-refused : goal.returns-clause-refused
 returns-clause-refused c =
     let text = c.args.text.now in
     let tokens = c.in_ok-tokens.tokens.items in
-    let are = subst (λ ts. AreLexemesOf text ts (lexemes tokens)) c.deref.ensures.value c.in_ok-tokens.ensures.found in
-    let reads = subst (λ ts. ProgramReadsAs (lexemes ts) (Err c.in-Err.refusal)) c.deref-2.ensures.value c.in-Err.ensures in
+    let reads = subst (λ ts. ProgramReadsAs (lexemes ts) (Err c.in-Err.refusal)) c.deref.ensures.value c.in-Err.ensures in
     let placed = subst (λ ts. IsPlaced text (lexemes ts) c.in-Err.refusal c.placed.result) c.deref-in-Err.ensures.value c.placed.ensures in
-    placed_refusal text (lexemes tokens) c.in-Err.refusal c.placed.result (c.in_ok-lexed.lexed.items, c.in_ok-lexed.ensures.found, are) reads placed
+    placed_refusal text (lexemes tokens) c.in-Err.refusal c.placed.result (has_lexemes text tokens c.in_ok-tokens.ensures.found) reads placed

@@ -1,4 +1,4 @@
-//! Tokens as the parser takes them.
+//! Tokens as they are read.
 
 ghost use Rattle.std.specs.Prelude.{◌≡◌};
 ghost use Rattle.lt_ast.specs.declared.sign.Sign.TheVariants.{Number};
@@ -6,16 +6,16 @@ ghost use Rattle.lt_num.specs.Literal.{IsNumber};
 
 use lt_ast::{Sign, Span};
 
-/// A token. The letters of a number are one.
+/// A token as a grammar takes it. The letters of a number are one.
 #[derive(Clone, Copy)]
-pub struct Token<'a> {
-    /// What it is.
+pub struct Lexeme<'a> {
+    /// Which sign it is.
     pub sign: Sign,
 
     /// Its letters.
     pub text: &'a str,
 
-    /// Its place.
+    /// Where it stands.
     pub span: Span,
 
     pub ghost number: { sign ≡ Number → IsNumber text.now },
