@@ -1,5 +1,5 @@
 -- What holds of what the code of an instant works with.
-use Rattle.std.specs.Prelude.{◌≤◌, ◌+◌, IsTrue, length, vec_capacity}
+use Rattle.std.specs.Prelude.{◌≤◌, IsTrue, length, vec_capacity}
 use Rattle.lt_place.specs.Room.{IsRoomFor}
 use Rattle.lt_term.specs.SceneView.{numbers_of}
 use Rattle.lt_term.specs.Within.{passes}
@@ -25,8 +25,6 @@ pub record IsPastOf (s : Scenario) (p : Past) : Type 0 where
 pub record IsRoomOf (s : Scenario) (r : Room) : Type 0 where
   pub inputs : length s.inputs.items ≤ vec_capacity r.earlier.inputs
   pub outputs : length s.outputs.items ≤ vec_capacity r.earlier.outputs
-  pub targets : length s.outputs.items + length s.locals.items ≤ vec_capacity r.targets
-  pub down : length s.outputs.items + length s.locals.items ≤ vec_capacity r.down
   pub locals : length s.locals.items ≤ vec_capacity r.locals
 
 -- An explorer goes through the body of a scenario, and has room for all that it finds there. Each visit rests on this and leaves

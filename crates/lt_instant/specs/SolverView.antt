@@ -9,9 +9,11 @@ use Rattle.lt_solver.specs.WorkspaceView.{workspace_gates, workspace_ranges, wor
 use Rattle.lt_term.specs.Configuration.{scene_kinds}
 use Rattle.lt_term.specs.SceneView.{scene}
 use Rattle.lt_term.specs.declared.scenario.Scenario.{Scenario}
+use Rattle.lt_instant.specs.AimsView.{AreAimsOf}
 use Rattle.lt_instant.specs.Steady.{IsSteady, nothing_known}
 use Rattle.lt_instant.specs.Solved.{drawn_ranges}
 use Rattle.lt_instant.specs.declared.solver.Solver.{Solver}
+use Rattle.lt_instant.specs.inner.Literals.{AreKnown}
 
 -- the raw numbers of the last solution that it found
 abbrev pub solver_values : Solver → List ℤ
@@ -35,8 +37,11 @@ pub record IsSolverOf (s : Scenario) (solver : Solver) : Type 0 where
   pub searched : workspace_ranges solver.workspace ≡ drawn_ranges (scene s)
   pub gates : space_gates solver.space ≤ workspace_gates solver.workspace
   pub scope : length s.outputs.items + length s.locals.items ≤ vec_capacity solver.scope
+  pub aims : AreAimsOf (drawn_ranges (scene s)) solver.aims
+  pub known : AreKnown s.table (drawn_ranges (scene s)) solver.known.items
   pub literals : solver_most solver ≤ vec_capacity solver.literals
   pub values : length s.outputs.items + length s.locals.items ≤ vec_capacity solver.values
+  pub unnamed : length s.outputs.items + length s.locals.items ≤ vec_capacity solver.unnamed
   -- what it takes for steady is so, and then its space has the formula that its constraints have where nothing is known but the
   -- decimals of a real number
   pub steady : solver.is_steady ≡ true → IsSteady s.table

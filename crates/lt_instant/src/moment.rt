@@ -4,9 +4,7 @@ ghost use Rattle.std.specs.Prelude.{◌≡◌, ◌≤◌};
 ghost use Rattle.lt_num.specs.Bounds.{most_decimals};
 ghost use Rattle.lt_term.specs.Configuration.{earlier_inputs, earlier_outputs};
 ghost use Rattle.lt_term.specs.SceneView.{scene};
-ghost use Rattle.lt_instant.specs.Instant.{words_of};
-ghost use Rattle.lt_instant.specs.Solved.{directions_of, targets_of};
-ghost use Rattle.lt_instant.specs.StandingView.{configuration_behind, previous_of};
+ghost use Rattle.lt_instant.specs.StandingView.{previous_of};
 
 use crate::earlier::Earlier;
 use crate::past::Past;
@@ -36,12 +34,6 @@ pub struct Moment<'a> {
     /// The rule by which the run draws.
     pub draw: Draw,
 
-    /// The targets of the outputs, and then of the locals.
-    pub targets: &'a [i64],
-
-    /// Their directions: whether each goes downward from its target.
-    pub down: &'a [bool],
-
     /// The greatest need that a search may have.
     pub budget: u64,
 
@@ -50,12 +42,6 @@ pub struct Moment<'a> {
     ghost earlier_outputs_are: { earlier.now.outputs.items ≡
         earlier_outputs (scene scenario.now) (previous_of past.now) },
     ghost step_is: { words.now.step ≡ past.now.step },
-    ghost targets_are: { targets.now ≡
-        targets_of (scene scenario.now)
-        (words_of words.now.seed (configuration_behind past.now)) },
-    ghost down_is: { down.now ≡
-        directions_of (scene scenario.now) draw
-        (words_of words.now.seed (configuration_behind past.now)) },
 }
 
 impl Moment<'_> {

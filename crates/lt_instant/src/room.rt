@@ -14,12 +14,6 @@ pub struct Room {
     /// What inputs and outputs were in the instant before.
     pub earlier: Earlier,
 
-    /// The targets of the outputs, and then of the locals.
-    pub targets: Vec<i64>,
-
-    /// Their directions.
-    pub down: Vec<bool>,
-
     /// The values of the locals.
     pub locals: Vec<Value>,
 }
@@ -29,11 +23,8 @@ impl Room {
     pub fn make(alloc: Global, scenario: &Scenario) -> Result<Room, AllocError>
         ensures { IfOk result (IsRoomOf scenario.now) }
     {
-        let drawn = scenario.outputs.len() + scenario.locals.len();
         Ok(Room {
             earlier: Earlier::make(alloc, scenario)?,
-            targets: Vec::with_capacity(alloc, drawn)?,
-            down: Vec::with_capacity(alloc, drawn)?,
             locals: Vec::with_capacity(alloc, scenario.locals.len())?,
         })
     }

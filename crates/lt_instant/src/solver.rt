@@ -1,6 +1,6 @@
 //! The solver of a scenario.
 
-ghost use Rattle.std.specs.Prelude.{◌≡◌, ◌≤◌, ◌+◌, ◌*◌, ◌++◌, true, IfOk, IfSome, OnOk, IsTrue, length, map, nat_lt};
+ghost use Rattle.std.specs.Prelude.{◌≡◌, ◌≤◌, ◌+◌, ◌*◌, ◌++◌, true, All, IfOk, IfSome, OnOk, IsTrue, length, map, nat_lt};
 ghost use Rattle.std.specs.List.{list_all};
 ghost use Rattle.lt_formula.specs.Limits.{most_variables};
 ghost use Rattle.lt_formula.specs.View.{table_len};
@@ -8,8 +8,9 @@ ghost use Rattle.lt_term.specs.SceneView.{scene, variable};
 ghost use Rattle.lt_instant.specs.Solved.{drawn_ranges, ranges_of_all};
 ghost use Rattle.lt_instant.specs.inner.Found.{finding_for};
 
+use crate::aims::Aims;
 use crate::finding::Finding;
-use crate::literals::{Literal, find_literals, put_values};
+use crate::literals::{Literal, are_met, find_literals, literals_of, put_truths, put_values};
 use crate::moment::Moment;
 use crate::scopes::find_scope;
 use crate::steady::is_steady;
@@ -27,9 +28,17 @@ pub struct Solver {
     ranges: Vec<Range>,
     scope: Vec<bool>,
 
-    // The literals of an instant that has nothing else, and its values.
+    // Where a search begins.
+    aims: Aims,
+
+    // The literal that each expression of the table is, if it is one.
+    known: Vec<Option<Literal>>,
+
+    // The literals of an instant that has nothing else, its values, and a mark for each variable: whether it is in scope
+    // and named by no literal.
     literals: Vec<Literal>,
     values: Vec<i64>,
+    unnamed: Vec<bool>,
 
     // Whether the last solution is that of literals, and else that of a search.
     is_of_literals: bool,
@@ -50,6 +59,7 @@ impl Solver {
     ghost use Rattle.lt_term.specs.Tree.{Lasts};
     ghost use Rattle.lt_instant.specs.Solved.{directions_of, holds_of, scope_of, targets_of};
     ghost use Rattle.lt_instant.specs.inner.Found.{finding, found_by, found_in};
+    ghost use Rattle.lt_instant.specs.inner.Literals.{IsAmong, firsts_in, with_literals};
     ghost use Rattle.lt_instant.specs.inner.MomentView.{meaning_of, scene_of, valuation_with, word_of, worth_of};
 
     /// A solver of a scenario, with room for at most so many constraints at once, which are 2^31 or fewer.
@@ -73,23 +83,22 @@ impl Solver {
         };
         let literals = Vec::with_capacity(alloc, most)?;
         let values = Vec::with_capacity(alloc, drawn)?;
+        let unnamed = Vec::with_capacity(alloc, drawn)?;
+        let aims = Aims::make(alloc, drawn)?;
+        let known = literals_of(alloc, &scenario.table, &ranges)?;
         Ok(Solver {
             space,
             workspace,
             ranges,
             scope,
+            aims,
+            known,
             literals,
             values,
+            unnamed,
             is_of_literals: false,
             is_steady: is_steady(&scenario.table),
         })
-    }
-
-    /// The ranges of the outputs, and then of the locals.
-    pub fn ranges(&self) -> &[Range]
-        ensures { (s : Scenario) → IsSolverOf s self.now → result.now ≡ drawn_ranges (scene s) }
-    {
-        &self.ranges
     }
 
     /// The raw numbers of the last solution: of the outputs, and then of the locals. They stand until
@@ -142,6 +151,7 @@ impl Solver {
         requires within { IsTrue (list_all (λ c.
             nat_lt c (table_len moment.now.scenario.now.table)) constraints.now) }
         requires room { length constraints.now ≤ solver_most self.old }
+        requires scope { length self.old.scope.items ≡ length (drawn_ranges (scene_of moment.now)) }
         ensures finds { IfSome result (λ found. (ls : Lasts) →
             self.old.scope.items ≡ scope_of (scene_of moment.now) ls →
             finding (solver_values self.new) found ≡
@@ -156,26 +166,46 @@ impl Solver {
         if most_need(self.ranges.len()) > moment.budget {
             return None;
         }
-        let table = &moment.scenario.table;
-        if !find_literals(
-            &mut self.literals,
-            table,
-            constraints,
-            &self.scope,
-            &self.ranges,
-        ) {
+        if !find_literals(&mut self.literals, &self.known, constraints, &self.scope) {
             return None;
         }
-        if !put_values(
-            &mut self.values,
-            &self.scope,
-            moment.targets,
-            &self.literals,
-        ) {
+        self.put_firsts(moment);
+        if !are_met(&self.values, &self.literals) {
             return Some(Finding::Passed);
         }
         self.is_of_literals = true;
         Some(Finding::Solved)
+    }
+
+    // Puts the raw numbers that come first, with the truths that the literals at hand say. Targets are asked for only
+    // where some variable in scope is named by no literal.
+    fn put_firsts(&mut self, moment: &Moment<'_>)
+        requires solver { IsSolverOf moment.now.scenario.now self.old }
+        requires scope { length self.old.scope.items ≡ length (drawn_ranges (scene_of moment.now)) }
+        requires among { All (IsAmong (length self.old.scope.items)) self.old.literals.items }
+        ensures values { self.new.values.items ≡
+            with_literals (firsts_in self.old.scope.items
+            (targets_of (scene_of moment.now) (word_of moment.now))) self.old.literals.items }
+        ensures solver { IsSolverOf moment.now.scenario.now self.new }
+        ensures most { solver_most self.new ≡ solver_most self.old }
+        ensures scope { self.new.scope ≡ self.old.scope }
+        ensures literals { self.new.literals ≡ self.old.literals }
+    {
+        if put_truths(
+            &mut self.values,
+            &mut self.unnamed,
+            &self.scope,
+            &self.literals,
+        ) {
+            return;
+        }
+        self.aims.draw(moment.words, moment.draw, &self.ranges);
+        put_values(
+            &mut self.values,
+            &self.scope,
+            &self.aims.targets,
+            &self.literals,
+        );
     }
 
     // Loads constraints, where locals were this in the instant before; but not where that would change nothing.
@@ -232,11 +262,12 @@ impl Solver {
         ensures most { solver_most self.new ≡ solver_most self.old }
     {
         self.is_of_literals = false;
+        self.aims.draw(moment.words, moment.draw, &self.ranges);
         let answer = self.workspace.first_from(
             &self.space,
             &self.scope,
-            moment.targets,
-            moment.down,
+            &self.aims.targets,
+            &self.aims.down,
             moment.budget,
         );
         finding_for(answer)

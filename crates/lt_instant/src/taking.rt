@@ -22,7 +22,6 @@ use crate::moment::Moment;
 use crate::reacting::react;
 use crate::room::Room;
 use crate::standing::Standing;
-use crate::targets::{find_directions, find_targets};
 use lt_draw::{Draw, StepWords};
 use lt_join::trees_agree;
 use lt_num::{Arith, Value};
@@ -123,9 +122,6 @@ fn find_leaf(
     ensures room { IsRoomOf scenario.now room.new }
 {
     room.earlier.find(scenario, &standing.past);
-    let ranges = standing.explorer.solver.ranges();
-    find_targets(&mut room.targets, words, ranges);
-    find_directions(&mut room.down, draw, words, ranges.len());
     let moment = Moment {
         scenario,
         past: &standing.past,
@@ -133,8 +129,6 @@ fn find_leaf(
         earlier: &room.earlier,
         words,
         draw,
-        targets: &room.targets,
-        down: &room.down,
         budget,
     };
     draw_leaf(&mut standing.explorer, &moment)

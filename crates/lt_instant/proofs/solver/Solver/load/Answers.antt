@@ -33,8 +33,11 @@ returns-clause-solver c =
       searched = c.requires.solver.searched;
       gates = omega (arith, c.load.ensures.gates, c.requires.solver.gates);
       scope = c.requires.solver.scope;
+      aims = c.requires.solver.aims;
+      known = c.requires.solver.known;
       literals = omega (arith, c.load.ensures.most_stays, c.requires.solver.literals);
       values = c.requires.solver.values;
+      unnamed = c.requires.solver.unnamed;
       steady = c.requires.solver.steady;
       meaning = λ e. load_means s c.load.new.self (c.requires.solver.steady e) (valuation_with m c.args.locals.now) refl refl (sym (c.load.ensures.decimals ∙ ap (λ v. v.decimals) known)) c.args.constraints.now c.requires.within c.load.result loads
           c.load.ensures.wanted c.load.ensures.none c.load.ensures.empty;

@@ -5,6 +5,9 @@ use Rattle.lt_instant.proofs.Lengths.{scope_len}
 use Rattle.lt_instant.proofs.Solves.{fault_found, formula_solved}
 use Rattle.lt_instant.proofs.solver.Solver.solve.Goals as goal
 
+pub solve_literals-requires-clause-scope : goal.solve_literals-requires-clause-scope
+solve_literals-requires-clause-scope c = ap length c.find_scope.ensures.items ∙ scope_len (scene_of c.args.moment.now) c.args.lasts.now
+
 pub search-requires-clause-scope : goal.search-requires-clause-scope
 search-requires-clause-scope c =
     ap length (ap (λ v. v.items) (c.load.ensures.scope ∙ c.solve_literals.ensures.scope) ∙ c.find_scope.ensures.items) ∙ scope_len (scene_of c.args.moment.now) c.args.lasts.now
