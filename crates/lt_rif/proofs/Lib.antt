@@ -3,6 +3,7 @@ pub mod DraftLemmas
 pub mod EnoughLemmas
 pub mod GrowingLemmas
 pub mod NumberLemmas
+pub mod NumberingLemmas
 pub mod ReadBackLemmas
 pub mod ReadingLemmas
 pub mod RealLemmas

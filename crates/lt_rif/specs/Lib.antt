@@ -19,6 +19,8 @@ pub mod Cutting
 pub mod Growing
 -- the text of a trace
 pub mod Trace
+-- the line of a step's number
+pub mod Numbering
 -- room in which texts are written
 pub mod Room
 pub mod Enough

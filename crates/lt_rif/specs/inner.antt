@@ -8,5 +8,7 @@ pub mod Decimal
 pub mod Draft
 -- a reader by its draft
 pub mod Open
+-- what the lines of steps begin with
+pub mod Head
 -- words with spaces
 pub mod Spaced

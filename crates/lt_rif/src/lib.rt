@@ -14,6 +14,7 @@ mod fault;
 mod judgement;
 mod laws;
 mod number;
+mod numbering;
 mod reader;
 mod slot;
 mod trace;
@@ -31,7 +32,8 @@ pub use laws::{
     cuts_change_nothing, next_reply_is_at_hand, replies_grow, room_is_enough, spelling_is_read,
     step_reads_back, trace_reads_back,
 };
+pub use numbering::StepHead;
 pub use reader::{Closing, Fed, Reader};
 pub use slot::Slot;
-pub use trace::{room_for, write_header, write_line, write_step};
+pub use trace::{room_for, write_header, write_line, write_step, write_step_values};
 pub use values::values_are_sized;

@@ -5,7 +5,7 @@ ghost use Rattle.std.specs.List.{flat_map};
 ghost use Rattle.std.specs.Option.{option_copied, option_map};
 ghost use Rattle.lt_num.specs.Bounds.{most_decimals};
 ghost use Rattle.lt_rif.specs.Room.{AddsText, HasRoom, room_for};
-ghost use Rattle.lt_rif.specs.Trace.{declared_variable, declared_text, draw_header, header_text, kind_text, line, line_text, locals_header, locals_part, step_text};
+ghost use Rattle.lt_rif.specs.Trace.{declared_variable, declared_text, draw_header, header_text, kind_text, line, line_text, locals_header, locals_part, spaced, step_text, step_words};
 ghost use Rattle.lt_rif.specs.inner.Spaced.{after_space, step_layout};
 
 use crate::declared::Declared;
@@ -132,6 +132,24 @@ pub fn write_step(
     append(into, b"#step ");
     append_number(into, step);
     append_byte(into, b'\n');
+    write_step_values(into, x, y, locals, kinds, decimals);
+}
+
+/// Appends the second line of a step alone, where the line of its number was written.
+pub fn write_step_values(
+    into: &mut Vec<u8>,
+    x: &[Value],
+    y: &[Value],
+    locals: Option<&[Option<Value>]>,
+    kinds: &[Kind],
+    decimals: u32,
+)
+    requires decimals { decimals ≤ most_decimals }
+    requires room { HasRoom into.old
+        (line (spaced (step_words decimals kinds.now x.now y.now (option_copied locals)))) }
+    ensures { AddsText into.old into.new
+        (line (spaced (step_words decimals kinds.now x.now y.now (option_copied locals.entry)))) }
+{
     append_step_values(into, x, y, locals, kinds, decimals);
 }
 
