@@ -11,6 +11,7 @@ use Rattle.lt_loop.specs.Machine.{Instant, values, over, Rules, MayStep, StepTel
 use Rattle.lt_loop.specs.Plan.{Plan, outputs_line, step_line, traced_step, closing_text, opening_text, reply_slots}
 use Rattle.lt_loop.specs.Play.{Play, piece_then, ended, play_of, instant_made, made_by, controller_asked, play_from}
 use Rattle.lt_loop.specs.Scene.{first_inputs, verdict_slots}
+use Rattle.lt_loop.specs.Stands.{Stands}
 use Rattle.lt_loop.specs.Side.{SideState, Rest, coming, side_answer, side_stream, unless_closed, IsBetween}
 use Rattle.lt_loop.specs.CoreState.{CoreState, play_once_answered, play_once_made, from_here, play_once_judged, resume, resume_in, PutsOut}
 use Rattle.lt_loop.specs.declared.event.PieceKind.TheVariants as piece_kind
@@ -41,12 +42,21 @@ new_stream s rest place kept open_now = λ i. record { place = place i; bytes = 
 pub may_step : (made : Option ℕ) (k left : ℕ) → made ≡ Some k → k + left ≤ most_steps → 0 < left → MayStep made
 may_step made k left is few some = rw is (omega (arith, few, some))
 
+-- one more step was put out, and one fewer may begin
+pub stands_on : (k left : ℕ) (c o : Reading) → 0 < left → Stands phase.Ready k left c o → Stands phase.Ready (k + 1) (left - 1) c o
+stands_on k left c o some s = (s.0, ((omega (arith, s.1.0.0), omega (arith, s.1.0.1)), omega (arith, some, s.1.1)))
+
 module _ {State : Type 0} where
   -- the oracle is told a step
   pub asks_oracle : (s : CoreState State) (text : List ℕ) → s.plan.has_oracle ≡ true → IsBetween s.oracle → s.oracle.reading.begun.decimals ≡ s.plan.scene.decimals → s.oracle.reading.slots ≡ verdict_slots
       → text ≡ step_line s.plan (s.rules.outputs s.machine) s.inputs
       → PutsOut (play_once_answered s s.inputs) (Some piece_kind.Question) text (record s { phase = phase.Oracle })
   asks_oracle s text has at decimals slots written = λ c o. rw (written, has, asked_reply s.oracle o s.plan.scene.decimals verdict_slots at decimals slots) refl
+
+  -- nobody is asked about an instant: its step is put out
+  pub nobody_asked : (s : CoreState State) (c o : Rest) → s.plan.controller ≡ talk.Nobody → s.plan.has_oracle ≡ false
+      → play_once_made s c o ≡ play_once_judged (record s { written = s.written + 1; inputs = [] }) true c o
+  nobody_asked s c o nobody none = rw (nobody, none) refl
 
   -- the controller is told the outputs
   pub asks_controller : (s : CoreState State) (text : List ℕ) → s.plan.controller ≡ talk.Live → IsBetween s.controller → s.controller.reading.begun.decimals ≡ s.plan.scene.decimals → s.controller.reading.slots ≡ reply_slots s.plan.controller s.plan.scene

@@ -348,6 +348,11 @@ impl<M: Machine> Core<M> {
         match self.machine.step(&self.inputs) {
             Outcome::Values => {
                 self.left -= 1;
+                if asks_nobody(&self.setup) {
+                    self.inputs.clear();
+                    self.written += 1;
+                    return self.put_step(true);
+                }
                 self.phase = Phase::Made;
                 self.ask_controller()
             }
@@ -557,6 +562,14 @@ impl<M: Machine> Core<M> {
         self.phase = Phase::Over(end);
         Some(PieceKind::EndLine)
     }
+}
+
+// Whether nobody is asked about an instant: there is neither a controller nor an oracle.
+fn asks_nobody(setup: &Setup) -> bool
+    ensures controller { result ≡ true → setup.now.controller ≡ Talk.Nobody }
+    ensures oracle { result ≡ true → setup.now.oracle ≡ false }
+{
+    matches!(setup.controller, Talk::Nobody) && !setup.oracle
 }
 
 // What a verdict says.
