@@ -2,6 +2,7 @@
 
 ghost use Rattle.std.specs.Prelude.{◌≡◌, ◌≤◌};
 ghost use Rattle.lt_num.specs.Bounds.{most_decimals};
+ghost use Rattle.lt_num.specs.Text.{text_of};
 ghost use Rattle.lt_rif.specs.Enough.{AreSized, IsSized};
 ghost use Rattle.lt_rif.specs.Room.{AddsText, HasRoom};
 ghost use Rattle.lt_rif.specs.Trace.{decimals_of, local_text, local_words, spaced, value_text, value_words};
@@ -104,12 +105,20 @@ fn append_value(into: &mut Vec<u8>, value: Value, kind: Kind, decimals: u32)
     match value {
         Value::Bool(true) => append_byte(into, b't'),
         Value::Bool(false) => append_byte(into, b'f'),
-        Value::Num(raw) => {
-            let mut text = [0; 24];
-            let length = print(Fixed { raw }, decimals_of(decimals, kind), &mut text);
-            append(into, &text[..length]);
-        }
+        Value::Num(raw) => append_raw(into, raw, decimals_of(decimals, kind)),
     }
+}
+
+// Appends a raw number with so many decimals. It stands apart, since a truth needs nothing of what it does.
+#[inline(never)]
+fn append_raw(into: &mut Vec<u8>, raw: i64, decimals: u32)
+    requires decimals { decimals ≤ most_decimals }
+    requires room { HasRoom into.old (text_of decimals raw) }
+    ensures { AddsText into.old into.new (text_of decimals raw) }
+{
+    let mut text = [0; 24];
+    let length = print(Fixed { raw }, decimals, &mut text);
+    append(into, &text[..length]);
 }
 
 // How many decimals a number of a kind has, where a real has so many.
