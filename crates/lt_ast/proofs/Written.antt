@@ -1,5 +1,5 @@
 -- The tokens of a tree's list are those of the list that the code has.
-use Rattle.std.proofs.Common.{◌≡◌, List, [], ◌∷◌, ◌++◌, Option, Some, None, Vec, Global, Result, Ok, Err, String, ℕ, OnOk, string_bytes, append_assoc, map, refl, ap, subst, ◌∙◌}
+use Rattle.std.proofs.Common.{◌≡◌, List, [], ◌∷◌, ◌++◌, Option, Some, None, Vec, Box, Global, Result, Ok, Err, String, ℕ, OnOk, string_bytes, append_assoc, map, refl, ap, subst, ◌∙◌}
 use Rattle.std.specs.List.{flat_map}
 use Rattle.std.proofs.lemmas.Grind.{common_steps}
 use Rattle.lt_ast.specs.declared.sign.Sign.{Sign}
@@ -66,9 +66,9 @@ groups-list (x ∷ xs) = ap (λ ts. tokens_of_group x ++ ts) (more_groups-list x
 pub traces_written : (sign : Sign) (v : Vec TraceExpr Global) → traces_tokens sign (trace_row (hidden-the_row-TraceExpr-1 v)) ≡ separated sign tokens_of_trace v.items
 traces_written sign v = ap (traces_tokens sign) (traces_list v) ∙ traces-list sign v.items
 
-pub call_written : (n : Name) (o : Option Args) → exp_tokens (named_exp n (back-Expr-Named-1 o)) ≡ name_token (word n) ∷ call_tokens o
+pub call_written : (n : Name) (o : Option (Box Args Global)) → exp_tokens (named_exp n (back-Expr-Named-1 o)) ≡ name_token (word n) ∷ call_tokens o
 call_written n None = refl
-call_written n (Some args) = ap (λ ts. name_token (word n) ∷ in_parentheses ts) (ap arguments_tokens (arguments_list args.items) ∙ arguments-list args.items.items)
+call_written n (Some args) = ap (λ ts. name_token (word n) ∷ in_parentheses ts) (ap arguments_tokens (arguments_list args.value.items) ∙ arguments-list args.value.items.items)
 
 pub parts_written : (p : Parts) → alternatives_tokens (alternatives p) ≡ separated Bar tokens_of_part (out-Parts p).items.items
 parts_written p = ap alternatives_tokens (alternatives_list p) ∙ parts-list (out-Parts p).items.items

@@ -1,5 +1,7 @@
 -- syntax trees, without pointers
 pub mod Syntax
+-- the letters of names and numbers
+pub mod Letters
 -- the tree that a value of the code stands for
 pub mod View
 -- places in a text

@@ -1,5 +1,6 @@
 -- The syntax that a value of the code stands for.
-use Rattle.std.specs.Prelude.{List, Option, Some, None, map, string_bytes}
+use Rattle.std.specs.Prelude.{List, Option, Some, None, map}
+use Rattle.lt_ast.specs.Letters.{letters}
 use Rattle.lt_ast.specs.Syntax as s
 use Rattle.lt_ast.specs.Syntax.{Word, Figure, WrittenRange, Exp, Argument, Arguments, Limits, Braces, Alternative, Alternatives, Trace, Traces, Grouping, Groupings, MaybeExp, MaybeTrace, Parameters, Meaning, Macro, Declaration}
 use Rattle.lt_ast.specs.declared.name.Name.{Name}
@@ -27,7 +28,7 @@ use Rattle.lt_ast.specs.declared.program.Program.{Program}
 
 -- a name
 abbrev pub word : Name → Word
-word n = record { text = string_bytes n.text; span = n.span }
+word n = record { text = letters n.text; span = n.span }
 
 -- names
 abbrev pub words : Names → List Word
@@ -35,7 +36,7 @@ words ns = map word ns.items.items
 
 -- a number
 abbrev pub figure : Literal → Figure
-figure l = record { minus = l.minus; text = string_bytes l.text; span = l.span }
+figure l = record { minus = l.minus; text = letters l.text; span = l.span }
 
 -- a step, where there is one
 abbrev pub written_step : Option Literal → Option Figure
@@ -56,13 +57,13 @@ abbrev mutual
   exp (Pre n at) = s.pre (word n) at
   exp (Paren' p e at) = s.paren (exp e) at
   exp (Unary' op p e at) = s.unary op (exp e) at
-  exp (Binary' op p a q b at) = s.binary op (exp a) (exp b) at
+  exp (Binary' op p a b at) = s.binary op (exp a) (exp b) at
   exp (If' p a q b r c at) = s.choose (exp a) (exp b) (exp c) at
 
   -- a name, with its arguments where it has a list of them
   pub named_exp : Name → Held-Expr-Named-1 → Exp
   named_exp n Expr-Named-1-None' = s.named (word n)
-  named_exp n (Expr-Named-1-Some' shape args) = s.called (word n) (argument_row args)
+  named_exp n (Expr-Named-1-Some' p shape args) = s.called (word n) (argument_row args)
 
   -- arguments
   pub argument_row : {m : _} → Row_of-Arg m → Arguments

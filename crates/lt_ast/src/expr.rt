@@ -154,7 +154,7 @@ pub enum Expr {
     Flag(bool, Span),
 
     /// A name, and the arguments where it has a list of them.
-    Named(Name, Option<Args>),
+    Named(Name, Option<Box<Args>>),
 
     /// `pre` and a name.
     Pre(Name, Span),
@@ -166,7 +166,7 @@ pub enum Expr {
     Unary(UnOp, Box<Expr>, Span),
 
     /// An operator between its operands.
-    Binary(BinOp, Box<Expr>, Box<Expr>, Span),
+    Binary(BinOp, Box<Operands>, Span),
 
     /// `if`, `then` and `else`.
     If(Box<Expr>, Box<Expr>, Box<Expr>, Span),
@@ -187,7 +187,7 @@ impl Expr {
             | Expr::Pre(_, span)
             | Expr::Paren(_, span)
             | Expr::Unary(_, _, span)
-            | Expr::Binary(_, _, _, span)
+            | Expr::Binary(_, _, span)
             | Expr::If(_, _, _, span) => *span,
         }
     }
@@ -199,7 +199,7 @@ impl Drop for Expr {
     fn drop(mut self) {
         loop {
             match self {
-                Expr::Binary(_, left, _, _) => self = Box::into_inner(left),
+                Expr::Binary(_, sides, _) => self = Box::into_inner(sides).left,
                 Expr::Number(_)
                 | Expr::Flag(_, _)
                 | Expr::Named(_, _)
@@ -210,6 +210,17 @@ impl Drop for Expr {
             }
         }
     }
+}
+
+/// What stands on both sides of an operator.
+#[cycle(ast)]
+#[derive(Drop)]
+pub struct Operands {
+    /// The expression before it.
+    pub left: Expr,
+
+    /// The expression after it.
+    pub right: Expr,
 }
 
 /// Arguments, in order.

@@ -7,6 +7,7 @@
 
 mod expr;
 mod group;
+mod letters;
 mod name;
 mod printer;
 mod program;
@@ -14,8 +15,9 @@ mod sign;
 mod span;
 mod trace;
 
-pub use expr::{Arg, Args, BinOp, Expr, OperatorClass, UnOp};
+pub use expr::{Arg, Args, BinOp, Expr, Operands, OperatorClass, UnOp};
 pub use group::{Group, Groups, Range, TypeName};
+pub use letters::Letters;
 pub use name::{Literal, Name, Names};
 pub use printer::print;
 pub use program::{Decl, NodeDecl, Program};

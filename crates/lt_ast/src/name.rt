@@ -1,9 +1,10 @@
 //! Names and literals.
 
-ghost use Rattle.std.specs.Prelude.{string_bytes};
+ghost use Rattle.lt_ast.specs.Letters.{letters};
 ghost use Rattle.lt_num.specs.Literal.{IsNumber};
 
 use crate::group::TypeName;
+use crate::letters::Letters;
 use crate::span::Span;
 use std::alloc::{AllocError, Global};
 
@@ -11,7 +12,7 @@ use std::alloc::{AllocError, Global};
 #[derive(Drop)]
 pub struct Name {
     /// Its letters, digits and `_`.
-    pub text: String,
+    pub text: Letters,
 
     /// Its place.
     pub span: Span,
@@ -31,23 +32,24 @@ pub struct Literal {
     pub minus: bool,
 
     /// Its digits, and its point if it has one.
-    pub text: String,
+    pub text: Letters,
 
     /// Its place, with the minus.
     pub span: Span,
-    pub ghost number: { IsNumber (string_bytes text) },
+    pub ghost number: { IsNumber (letters text) },
 }
 
 impl Literal {
     ghost use Rattle.std.specs.Prelude.{◌≡◌, IfOk, string_bytes};
+    ghost use Rattle.lt_ast.specs.Letters.{letters};
     ghost use Rattle.lt_ast.specs.Literals.{figure_text, figure_type};
     ghost use Rattle.lt_ast.specs.View.{figure};
     ghost use Rattle.lt_num.specs.Literal.{IsLiteral, IsNumber};
 
     /// A number of this text, after a minus or not.
-    pub fn new(minus: bool, text: String, span: Span) -> Literal
-        requires { IsNumber (string_bytes text) }
-        ensures { figure result ≡ record { minus = minus; text = string_bytes text; span = span } }
+    pub fn new(minus: bool, text: Letters, span: Span) -> Literal
+        requires { IsNumber (letters text) }
+        ensures { figure result ≡ record { minus = minus; text = letters text; span = span } }
     {
         Literal { minus, text, span }
     }
@@ -56,7 +58,7 @@ impl Literal {
     pub fn type_name(&self) -> TypeName
         ensures { result ≡ figure_type (figure self.now) }
     {
-        if self.text.as_bytes().contains(&b'.') {
+        if self.text.as_str().as_bytes().contains(&b'.') {
             return TypeName::Real;
         }
         TypeName::Int
@@ -76,7 +78,7 @@ impl Literal {
         if self.minus {
             text.push_str("-")?;
         }
-        text.push_str(&self.text)?;
+        text.push_str(self.text.as_str())?;
         Ok(text)
     }
 }

@@ -42,7 +42,7 @@ fn put_sign_if(out: &mut String, stands: bool, sign: Sign) -> Result<(), AllocEr
 fn put_name(out: &mut String, name: &Name) -> Result<(), AllocError>
     ensures { Writes result out.old out.new (tokens_of_name name.now) }
 {
-    put(out, &name.text)
+    put(out, name.text.as_str())
 }
 
 #[tactic(auto, using(crate::proofs::Written::written))]
@@ -72,7 +72,7 @@ fn put_literal(out: &mut String, literal: &Literal) -> Result<(), AllocError>
     ensures { Writes result out.old out.new (figure_tokens (figure literal.now)) }
 {
     put_sign_if(out, literal.minus, Sign::Minus)?;
-    put(out, &literal.text)
+    put(out, literal.text.as_str())
 }
 
 fn put_step(out: &mut String, step: &Option<Literal>) -> Result<(), AllocError>
@@ -110,10 +110,9 @@ fn put_expr(alloc: Global, out: &mut String, expr: &Expr) -> Result<(), AllocErr
 {
     let mut sides = Vec::new(alloc);
     let mut left = expr;
-    while let Expr::Binary(operator, inner, right, _) = left {
-        let right: &Expr = right;
-        sides.push((*operator, right))?;
-        left = inner;
+    while let Expr::Binary(operator, both, _) = left {
+        sides.push((*operator, &both.right))?;
+        left = &both.left;
     }
     put_operand(alloc, out, left)?;
     while let Some((operator, right)) = sides.pop() {
@@ -148,7 +147,7 @@ fn put_operand(alloc: Global, out: &mut String, expr: &Expr) -> Result<(), Alloc
             put_sign(out, operator.sign())?;
             put_expr(alloc, out, inner)
         }
-        Expr::Binary(_, _, _, _) => unreachable!(),
+        Expr::Binary(_, _, _) => unreachable!(),
         Expr::If(condition, holds, otherwise, _) => {
             put_sign(out, Sign::If)?;
             put_expr(alloc, out, condition)?;
@@ -161,7 +160,7 @@ fn put_operand(alloc: Global, out: &mut String, expr: &Expr) -> Result<(), Alloc
 }
 
 #[cycle(print)]
-fn put_call(alloc: Global, out: &mut String, args: &Option<Args>) -> Result<(), AllocError>
+fn put_call(alloc: Global, out: &mut String, args: &Option<Box<Args>>) -> Result<(), AllocError>
     ensures { Writes result out.old out.new (call_tokens args.now) }
 {
     match args {

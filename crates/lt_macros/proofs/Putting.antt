@@ -1,6 +1,7 @@
 -- Entries that are put for parameters, arguments, exceptions and macros.
-use Rattle.std.proofs.Common.{◌≡◌, ◌≤◌, ◌<◌, ℕ, suc, ◌+◌, List, [], ◌∷◌, length, get_or, map, drop, string_bytes, Option, ap, sym, ◌∙◌, arith}
+use Rattle.std.proofs.Common.{◌≡◌, ◌≤◌, ◌<◌, ℕ, suc, ◌+◌, List, [], ◌∷◌, length, get_or, map, drop, Option, ap, sym, ◌∙◌, arith}
 use Rattle.std.specs.Borrow.{Bor}
+use Rattle.lt_ast.specs.Letters.{letters}
 use Rattle.lt_ast.specs.View.{argument, macro as macro_view, word}
 use Rattle.lt_ast.specs.declared.expr.Arg.{Arg}
 use Rattle.lt_ast.specs.declared.name.Name.{Name}
@@ -73,10 +74,10 @@ put_more names place n terms env next all h is next_is all_is =
 
 -- the environment of a macro's entry
 pub declared_as : {S : Type 0} (r : Reading S) (old rows newest : List Entry) (e : Entry) (declared : Bor MacroDecl) (h : Option Handed) (number : ℕ) → rows ≡ old → newest ≡ e ∷ rows → number ≡ length rows + 1
-    → e.name.now ≡ string_bytes (out-MacroDecl declared.now).name.text → e.binding ≡ Macro declared h
+    → e.name.now ≡ letters (out-MacroDecl declared.now).name.text → e.binding ≡ Macro declared h
     → environment r newest number ≡ with_macro r (macro_view declared.now) (environment r old e.outer)
 declared_as r old rows newest e declared h number old_is newest_is n name_is binding_is =
-    let name : string_bytes (out-MacroDecl declared.now).name.text ≡ macro_name (macro_view declared.now) = sym (ap macro_name (macro_parts declared.now)) in
+    let name : letters (out-MacroDecl declared.now).name.text ≡ macro_name (macro_view declared.now) = sym (ap macro_name (macro_parts declared.now)) in
     made_newest r rows newest e number newest_is n
     ∙ (λ i. added r (environment r (old_is i)) (name_is i) e.outer (binding_is i))
     ∙ ap (λ name. with_name name (macro (r.macro_denotation (environment r old e.outer) (macro_view declared.now))) (environment r old e.outer)) name

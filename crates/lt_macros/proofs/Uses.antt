@@ -1,5 +1,5 @@
 -- A name with its arguments, as the code has them, is a use.
-use Rattle.std.proofs.Common.{◌≡◌, ℕ, List, [], ◌∷◌, Option, None, Some, map, refl, ap, sym, subst, ◌∙◌, arith}
+use Rattle.std.proofs.Common.{◌≡◌, ℕ, List, [], ◌∷◌, Box, Global, Option, None, Some, map, refl, ap, sym, subst, ◌∙◌, arith}
 use Rattle.std.specs.List.{sum_by}
 use Rattle.std.proofs.lemmas.List.Sums.{sum_by-cons}
 use Rattle.lt_ast.specs.declared.name.Name.{Name}
@@ -29,18 +29,18 @@ sizes_same : (args : List Argument) → arguments_size (arguments_of args) ≡ s
 sizes_same [] = refl
 sizes_same (a ∷ rest) = omega (arith, sizes_same rest, sum_by-cons argument_size a rest)
 
-pub named_use : (n : Name) (o : Option Args) → IsUse (value (named_exp n (back-Expr-Named-1 o))) (word n) (map argument (given o))
+pub named_use : (n : Name) (o : Option (Box Args Global)) → IsUse (value (named_exp n (back-Expr-Named-1 o))) (word n) (map argument (given o))
 named_use n None = record { denotation = λ env. refl; work = λ env. omega arith; size = omega arith }
 named_use n (Some args) =
-    let row = arguments_list args.items in
-    let list = map argument args.items.items in
+    let row = arguments_list args.value.items in
+    let list = map argument args.value.items.items in
     record {
       denotation = λ env. ap (λ r. standing_for (word n).span (found env.names (word n).text) (argument_denotations env r)) row ∙ ap (standing_for (word n).span (found env.names (word n).text)) (denotations_same env list);
       work = λ env. omega (arith, ap (λ r. used (found env.names (word n).text) (argument_works env r)) row ∙ ap (used (found env.names (word n).text)) (works_same env list));
       size = omega (arith, ap arguments_size row ∙ sizes_same list);
     }
 
-pub named_is : (e : Expr) (n : Name) (o : Option Args) (args : List Arg) → e ≡ Named n o → args ≡ given o → IsUse (value (exp e)) (word n) (map argument args)
+pub named_is : (e : Expr) (n : Name) (o : Option (Box Args Global)) (args : List Arg) → e ≡ Named n o → args ≡ given o → IsUse (value (exp e)) (word n) (map argument args)
 named_is e n o args is same =
     subst (λ e. IsUse (value (exp e)) (word n) (map argument args)) (sym is)
     (subst (λ args. IsUse (value (named_exp n (back-Expr-Named-1 o))) (word n) (map argument args)) (sym same) (named_use n o))

@@ -83,7 +83,7 @@ pub(crate) fn build_node<'a>(
         (groupings node.now.inputs) (groupings node.now.outputs) (trace_view node.now.body)) }
 {
     let mut builder = builder;
-    let name = node.name.text.clone()?;
+    let name = String::from_str(builder.alloc, node.name.text.as_str())?;
     let inputs = declare_groups(&mut builder, Role::Input, 0, environment, &node.inputs)?;
     let inside = inputs.environment;
     let outputs = declare_groups(&mut builder, Role::Output, 0, inside, &node.outputs)?;
@@ -146,7 +146,7 @@ fn build_trace_form<'a>(
             build_choice(builder, numbers, environment, parts)
         }
         HeadNormalForm::Raise(name, environment) => {
-            let exception = builder.scope.exception(environment, &name.text);
+            let exception = builder.scope.exception(environment, name.text.as_str());
             let raised = put_raise(builder.alloc, exception)?;
             put_alone(raised, numbers)
         }
@@ -238,7 +238,7 @@ fn build_catch<'a>(
     let two = build_two(builder, numbers, environment, body, handler)?;
     put_catch(
         builder.alloc,
-        builder.scope.exception(environment, &name.text),
+        builder.scope.exception(environment, name.text.as_str()),
         two,
     )
 }

@@ -35,10 +35,10 @@ fn expr_at(environment: usize, expr: &Expr) -> HeadNormalForm<'_>
         Expr::Number(literal) => HeadNormalForm::Number(literal),
         Expr::Flag(flag, at) => HeadNormalForm::Flag(*flag, *at),
         Expr::Unary(op, part, at) => HeadNormalForm::Unary(*op, part, *at, environment),
-        Expr::Binary(op, left, right, at) => HeadNormalForm::Binary(
+        Expr::Binary(op, both, at) => HeadNormalForm::Binary(
             *op,
-            left,
-            right,
+            &both.left,
+            &both.right,
             *at,
             environment,
         ),

@@ -98,7 +98,7 @@ pub(crate) fn bind<'a>(
             return Ok(environment);
         };
         environment = scope.push(Entry {
-            name: &param.text,
+            name: param.text.as_str(),
             outer: environment,
             binding: Binding::Argument(phrase_of_argument(arg), written),
         })?;
@@ -133,7 +133,7 @@ fn put_parameters<'a>(
     for param in params {
         let number = scope.len();
         environment = scope.push(Entry {
-            name: &param.text,
+            name: param.text.as_str(),
             outer: environment,
             binding: Binding::Parameter(number),
         })?;
@@ -164,7 +164,7 @@ pub(crate) fn put_exception<'a>(
     ensures right { OnOk result (AreRight (rows scope.new)) }
 {
     Ok(scope.push(Entry {
-        name: &name.text,
+        name: name.text.as_str(),
         outer,
         binding: Binding::Exception(name.span.start, before),
     })?)
@@ -293,7 +293,7 @@ pub(crate) fn declare<'a>(
     let handed = handed_by(scope, led, before, params.len());
     scope.truncate(before);
     Ok(scope.push(Entry {
-        name: &declared.name.text,
+        name: declared.name.text.as_str(),
         outer: environment,
         binding: Binding::Macro(declared, handed),
     })?)

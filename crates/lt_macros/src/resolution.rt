@@ -46,7 +46,7 @@ pub(crate) fn reached_by(scope: &Scope<'_>, environment: usize, used: NameUse<'_
     ensures { IsUsed (rows scope.now) environment (word used.entry.name.now)
         (length used.entry.args.now) result }
 {
-    let number = scope.number(environment, &used.name.text);
+    let number = scope.number(environment, used.name.text.as_str());
     let here = Reached {
         environment: number,
         at: used.name.span,

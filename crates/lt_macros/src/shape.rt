@@ -94,13 +94,13 @@ fn shape_of_expr(expr: &Expr) -> Shape<'_>
         Expr::Number(_)
         | Expr::Flag(_, _)
         | Expr::Unary(_, _, _)
-        | Expr::Binary(_, _, _, _)
+        | Expr::Binary(_, _, _)
         | Expr::If(_, _, _, _) => Shape::HeadNormalForm,
     }
 }
 
 // Arguments, where there is a list of them.
-fn given(args: &Option<Args>) -> &[Arg]
+fn given(args: &Option<Box<Args>>) -> &[Arg]
     ensures { result.now ≡ given args.now }
 {
     match args {

@@ -120,7 +120,7 @@ fn declare_name<'a>(
         declared_view d ≡ declares role (names_at builder.old environment) group.now
         (word name.now)) }
 {
-    let text = name.text.clone()?;
+    let text = String::from_str(builder.alloc, name.text.as_str())?;
     let kind = kind_of(group.kind);
     let range = range_of(builder.alloc, builder.decimals, role, kind, &group.range)?;
     let first = build_first(builder, environment, &group.first)?;
@@ -205,7 +205,7 @@ pub(crate) fn show_name<'a>(
     ensures right { OnOk result (AreRight (rows scope.new)) }
 {
     let number = scope.push(Entry {
-        name: &name.text,
+        name: name.text.as_str(),
         outer,
         binding: Binding::Variable(role, place),
     })?;

@@ -1,5 +1,5 @@
 -- How reading continues.
-use Rattle.std.proofs.Common.{rules, ◌≡◌, ℕ, suc, List, [], ◌∷◌, ◌++◌, length, map, refl, sym, ◌∙◌, ap, subst, Bool, true, false, if◌then◌else◌, nat_le, Result, Ok, Err, Some}
+use Rattle.std.proofs.Common.{rules, ◌≡◌, ℕ, suc, List, [], ◌∷◌, ◌++◌, length, map, refl, sym, ◌∙◌, ap, subst, Bool, true, false, if◌then◌else◌, nat_le, Result, Ok, Err, Some, Box, Global}
 use Rattle.std.proofs.lemmas.Grind.{common_steps}
 use Rattle.std.specs.Result.{IsErrAnd}
 use Rattle.lt_ast.specs.declared.sign.Sign.{Sign}
@@ -158,8 +158,8 @@ arguments_onto-none : (xs : List Arg) → arguments_of (map argument xs) ≡ ont
 arguments_onto-none [] = refl
 arguments_onto-none (x ∷ xs) = ap (s.argument (argument x)) (arguments_onto-none xs)
 
-pub exp_called : (n : Name) (args : Args) → exp (Named n (Some args)) ≡ s.called (word n) (onto (λ x. s.argument (argument x)) args.items.items s.no_arguments)
-exp_called n args = ap (s.called (word n)) (arguments_list args.items ∙ arguments_onto-none args.items.items)
+pub exp_called : (n : Name) (b : Box Args Global) (args : Args) → b.value ≡ args → exp (Named n (Some b)) ≡ s.called (word n) (onto (λ x. s.argument (argument x)) args.items.items s.no_arguments)
+exp_called n b args e = ap (s.called (word n)) (arguments_list b.value.items ∙ arguments_onto-none b.value.items.items ∙ ap (λ xs. onto (λ x. s.argument (argument x)) xs.items.items s.no_arguments) e)
 
 -- one more part of a list
 pub pushed : {X L : Type 0} (more : (L → Goal) → Goal) (f : X → L → L) (xs ys : List X) (x : X) → ys ≡ xs ++ x ∷ [] → (k : L → Goal) (ts : Lexemes) → outcome most_levels (more (λ l. k (onto f xs (f x l)))) ts ≡ outcome most_levels (more (λ l. k (onto f ys l))) ts

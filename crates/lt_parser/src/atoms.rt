@@ -10,7 +10,7 @@ ghost use Rattle.lt_parser.specs.inner.Reading.{Goal, a_digits, a_figure, a_name
 ghost use Rattle.lt_parser.specs.inner.Reading as reading;
 
 use crate::refusal::Refusal;
-use lt_ast::{Literal, Name, Names, Range, Sign, Span, TypeName};
+use lt_ast::{Letters, Literal, Name, Names, Range, Sign, Span, TypeName};
 use lt_lexer::Lexeme;
 use std::alloc::{AllocError, Global};
 
@@ -26,7 +26,7 @@ pub(crate) fn name_of(alloc: Global, token: &Lexeme<'_>) -> Result<Name, AllocEr
         (λ n. word n ≡ record { text = token.now.text.now; span = token.now.span }) }
 {
     Ok(Name {
-        text: String::from_str(alloc, token.text)?,
+        text: Letters::new(alloc, token.text)?,
         span: token.span,
     })
 }
@@ -42,7 +42,7 @@ pub(crate) fn number_of(
     ensures { IfOk result
         (λ l. figure l ≡ record { minus = minus; text = token.now.text.now; span = span }) }
 {
-    let text = String::from_str(alloc, token.text)?;
+    let text = Letters::new(alloc, token.text)?;
     Ok(Literal::new(minus, text, span))
 }
 

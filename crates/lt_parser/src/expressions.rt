@@ -14,7 +14,7 @@ use crate::atoms::{Parsed, after, deeper, expect, name_of, number_of, parse_name
 use crate::braces::parse_braced;
 use crate::precedence::{operator, rank, top};
 use crate::refusal::Refusal;
-use lt_ast::{Arg, Args, BinOp, Expr, Name, Sign, Span, UnOp};
+use lt_ast::{Arg, Args, BinOp, Expr, Name, Operands, Sign, Span, UnOp};
 use lt_lexer::Lexeme;
 use std::alloc::{AllocError, Global};
 
@@ -128,12 +128,7 @@ fn joined(alloc: Global, operator: BinOp, left: Expr, right: Expr) -> Result<Exp
         (across (span_of (exp left)) (span_of (exp right)))) }
 {
     let span = left.span().to(right.span());
-    Ok(Expr::Binary(
-        operator,
-        Box::new(alloc, left)?,
-        Box::new(alloc, right)?,
-        span,
-    ))
+    Ok(Expr::Binary(operator, Box::new(alloc, Operands { left, right })?, span))
 }
 
 // The first operand, with the operator before it.
@@ -271,7 +266,7 @@ fn parse_named<'a>(
         Some((_, rest)) => {
             let inside = deeper(depth, tokens.len())?;
             let (args, rest) = parse_args(alloc, inside, rest)?;
-            Ok((Expr::Named(name, Some(args)), rest))
+            Ok((Expr::Named(name, Some(Box::new(alloc, args)?)), rest))
         }
     }
 }

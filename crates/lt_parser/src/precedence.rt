@@ -52,14 +52,10 @@ pub fn top(expr: &Expr) -> u32
 {
     match expr {
         Expr::If(_, _, _, _) => 0,
-        Expr::Binary(BinOp::Implies, _, _, _) => 0,
-        Expr::Binary(
-            BinOp::Eq | BinOp::Ne | BinOp::Lt | BinOp::Le | BinOp::Gt | BinOp::Ge,
-            _,
-            _,
-            _,
-        ) => 3,
-        Expr::Binary(operator, _, _, _) => rank(*operator),
+        Expr::Binary(BinOp::Implies, _, _) => 0,
+        Expr::Binary(BinOp::Eq | BinOp::Ne | BinOp::Lt | BinOp::Le | BinOp::Gt | BinOp::Ge, _, _) =>
+            3,
+        Expr::Binary(operator, _, _) => rank(*operator),
         Expr::Unary(UnOp::Not, _, _) => 3,
         _ => 7,
     }

@@ -138,9 +138,9 @@ fn operands_of(alloc: Global, text: &str) -> Result<String, Fail> {
 // The operator that the first declaration stands for, where it is such a macro.
 fn told_operands(alloc: Global, program: &Program) -> Result<String, AllocError> {
     if let Some(Decl::Macro(declared)) = program.decls.first()
-        && let Body::Value(Expr::Binary(operator, left, right, _)) = &declared.body
+        && let Body::Value(Expr::Binary(operator, operands, _)) = &declared.body
     {
-        let (left, right) = (left.span(), right.span());
+        let (left, right) = (operands.left.span(), operands.right.span());
         return format!(in alloc;
             " {operator:?} {}-{} {}-{}",
             left.start, left.end, right.start, right.end

@@ -1,5 +1,5 @@
 -- Names that are used, and their arguments.
-use Rattle.std.proofs.Common.{◌≡◌, ◌≢◌, ◌<◌, ◌≤◌, suc, true, false, List, [], ◌∷◌, Option, Some, None, map, length, refl, ap, arith}
+use Rattle.std.proofs.Common.{◌≡◌, ◌≢◌, ◌<◌, ◌≤◌, suc, true, false, List, [], ◌∷◌, Box, Global, Option, Some, None, map, length, refl, ap, arith}
 use Rattle.lt_ast.specs.declared.group.TypeName.{TypeName}
 use Rattle.lt_ast.specs.declared.group.TypeName.TheVariants as t
 use Rattle.lt_ast.specs.declared.name.Name.{Name}
@@ -21,9 +21,9 @@ use Rattle.lt_types.specs.declared.entry.Param.{Param}
 use Rattle.lt_types.specs.declared.refusal.TypeRefusal.TheVariants.{Arity}
 
 -- a name with its arguments, as the code has them
-pub named_used : (n : Name) (o : Option Args) → named_exp n (back-Expr-Named-1 o) ≡ used (word n) o
+pub named_used : (n : Name) (o : Option (Box Args Global)) → named_exp n (back-Expr-Named-1 o) ≡ used (word n) o
 named_used n None = refl
-named_used n (Some args) = ap (s.called (word n)) (arguments_list args.items)
+named_used n (Some args) = ap (s.called (word n)) (arguments_list args.value.items)
 
 -- as many arguments as parameters
 pub as_many_same : (args : List Arg) (params : List Param) → length args ≡ length params → as_many (arguments_of (map argument args)) (map param_view params) ≡ true

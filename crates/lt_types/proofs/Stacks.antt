@@ -1,11 +1,12 @@
 -- Names from the newest to the oldest, where the code has them the other way round.
-use Rattle.std.proofs.Common.{◌≡◌, ℕ, suc, Bool, true, false, not, string_bytes, ◌||◌, is_some, ◌+◌, ◌-◌, ◌<◌, ◌≤◌, List, [], ◌∷◌, ◌++◌, map, reverse, take, drop, length, get_or, bytes_eq, if◌then◌else◌, Some, None, Option, nat_le, ◌⊎◌, inl, inr, zero, refl, ap, sym, ◌∙◌, subst, arith, length-append}
+use Rattle.std.proofs.Common.{◌≡◌, ℕ, suc, Bool, true, false, not, ◌||◌, is_some, ◌+◌, ◌-◌, ◌<◌, ◌≤◌, List, [], ◌∷◌, ◌++◌, map, reverse, take, drop, length, get_or, bytes_eq, if◌then◌else◌, Some, None, Option, nat_le, ◌⊎◌, inl, inr, zero, refl, ap, sym, ◌∙◌, subst, arith, length-append}
 use Rattle.std.proofs.lemmas.List.{reverse-append, length-reverse, length-take-le, length-map, get_or-reverse, get_or-map, take-append-drop, drop_at, map_more, map_push, drop_more, take-map, length-drop}
 use Rattle.std.proofs.lemmas.Bool.Decides.{nat_tests}
 use Rattle.std.proofs.lemmas.Bool.{cases_lt}
 use Rattle.lt_types.specs.Environment as e
 use Rattle.lt_types.specs.Environment.{Binding, is_among, found}
 use Rattle.lt_ast.specs.declared.name.Name.{Name}
+use Rattle.lt_ast.specs.Letters.{letters}
 use Rattle.lt_ast.specs.View.{word}
 use Rattle.lt_types.specs.Answer.{Leads, first}
 use Rattle.lt_types.specs.Refusals.{new_names, unless}
@@ -232,17 +233,17 @@ pub drop_next : {X : Type 0} (xs : List X) (i : ℕ) (x : X) → i < length xs �
 drop_next xs i x h is = drop_more xs i x h ∙ ap (λ y. y ∷ drop (i + 1) xs) (sym is)
 
 -- one that is taken is refused first
-pub new_taken : (taken : List (List ℕ)) (items : List Name) (i : ℕ) (x : Name) → i < length items → x ≡ get_or items i x → is_among (string_bytes x.text) taken ≡ true
+pub new_taken : (taken : List (List ℕ)) (items : List Name) (i : ℕ) (x : Name) → i < length items → x ≡ get_or items i x → is_among (letters x.text) taken ≡ true
     → Leads (Twice x.span) (new_names taken (map word (drop i items)))
 new_taken taken items i x h is e =
-    let among : new_names taken (map word (x ∷ drop (i + 1) items)) ≡ Twice x.span ∷ new_names (string_bytes x.text ∷ taken) (map word (drop (i + 1) items)) = ap (λ b. unless (not b) (Twice x.span) ++ new_names (string_bytes x.text ∷ taken) (map word (drop (i + 1) items))) e in
+    let among : new_names taken (map word (x ∷ drop (i + 1) items)) ≡ Twice x.span ∷ new_names (letters x.text ∷ taken) (map word (drop (i + 1) items)) = ap (λ b. unless (not b) (Twice x.span) ++ new_names (letters x.text ∷ taken) (map word (drop (i + 1) items))) e in
     subst (λ rs. Leads (Twice x.span) rs) (sym (ap (λ l. new_names taken (map word l)) (drop_next items i x h is) ∙ among)) (first (Twice x.span) _)
 
 -- one that is not counts among the taken ones from there on
-pub new_free : (taken : List (List ℕ)) (items : List Name) (i : ℕ) (x : Name) → i < length items → x ≡ get_or items i x → is_among (string_bytes x.text) taken ≡ false
-    → new_names taken (map word (drop i items)) ≡ new_names (string_bytes x.text ∷ taken) (map word (drop (i + 1) items))
+pub new_free : (taken : List (List ℕ)) (items : List Name) (i : ℕ) (x : Name) → i < length items → x ≡ get_or items i x → is_among (letters x.text) taken ≡ false
+    → new_names taken (map word (drop i items)) ≡ new_names (letters x.text ∷ taken) (map word (drop (i + 1) items))
 new_free taken items i x h is e =
     ap (λ l. new_names taken (map word l)) (drop_next items i x h is)
-    ∙ ap (λ b. unless (not b) (Twice x.span) ++ new_names (string_bytes x.text ∷ taken) (map word (drop (i + 1) items))) e
+    ∙ ap (λ b. unless (not b) (Twice x.span) ++ new_names (letters x.text ∷ taken) (map word (drop (i + 1) items))) e
 
 pub ruleset new_steps = (new_taken, new_free, since_more, oldest_more, oldest_all)

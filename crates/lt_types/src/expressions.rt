@@ -36,10 +36,9 @@ pub(crate) fn check_expr(
 {
     let mut sides = Vec::new(alloc);
     let mut left = expr;
-    while let Expr::Binary(operator, inner, right, at) = left {
-        let right: &Expr = right;
-        sides.push((*operator, right, *at))?;
-        left = inner;
+    while let Expr::Binary(operator, both, at) = left {
+        sides.push((*operator, &both.right, *at))?;
+        left = &both.left;
     }
     let mut kind = check_operand(alloc, scope, left)?;
     while let Some((operator, right, at)) = sides.pop() {
@@ -67,7 +66,7 @@ fn check_operand(alloc: Global, scope: &mut Scope, expr: &Expr) -> Result<TypeNa
             let kind = check_expr(alloc, scope, inner)?;
             check_unary(*operator, kind, *at)
         }
-        Expr::Binary(_, _, _, _) => unreachable!(),
+        Expr::Binary(_, _, _) => unreachable!(),
         Expr::If(condition, left, right, at) => {
             let tested = check_expr(alloc, scope, condition)?;
             let kind = check_expr(alloc, scope, left)?;
@@ -83,7 +82,7 @@ fn check_use(
     alloc: Global,
     scope: &mut Scope,
     name: &Name,
-    args: &Option<Args>,
+    args: &Option<Box<Args>>,
 ) -> Result<TypeName, TypeRefusal>
     ensures answered { Answers result (exp_refusals scope.old (used (word name.now) args.now))
         (type_of scope.old (used (word name.now) args.now)) }
@@ -108,7 +107,7 @@ fn check_call(
         (type_of scope.old (called (word name.now) (arguments_of (map argument args.now)))) }
     ensures kept { OnOk result (scope.new ≡ scope.old) }
 {
-    if scope.lookup(&name.text).is_none() {
+    if scope.lookup(name.text.as_str()).is_none() {
         return Err(TypeRefusal::Unknown(name.span));
     }
     let kinds = check_args(alloc, scope, args)?;

@@ -225,7 +225,10 @@ pub(crate) fn declare_macro(
     ensures memory { Checks result [] }
 {
     let params = params_of(alloc, &declared.params)?;
-    scope.declare(&declared.name.text, Entry::Macro(params, declared.result))
+    scope.declare(
+        declared.name.text.as_str(),
+        Entry::Macro(params, declared.result),
+    )
 }
 
 // The parameters of a macro: one without a list of them has none.

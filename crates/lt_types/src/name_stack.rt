@@ -142,7 +142,7 @@ impl NameStack {
         ensures memory { Checks result [] }
     {
         for name in &names.items {
-            self.push(&name.text)?;
+            self.push(name.text.as_str())?;
         }
         Ok(())
     }
@@ -168,10 +168,10 @@ impl NameStack {
         ensures kept { oldest (length self.old) self.new ≡ self.old }
     {
         for name in &names.items {
-            if self.is_since(from, &name.text) {
+            if self.is_since(from, name.text.as_str()) {
                 return Err(TypeRefusal::Twice(name.span));
             }
-            self.push(&name.text)?;
+            self.push(name.text.as_str())?;
         }
         Ok(())
     }

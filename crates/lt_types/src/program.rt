@@ -148,7 +148,7 @@ fn check_node(alloc: Global, scope: &mut Scope, declared: &NodeDecl) -> Result<(
 fn check_new_macro(scope: &Scope, declared: &MacroDecl) -> Result<(), TypeRefusal>
     ensures { Checks result (new_macro scope.now (macro declared.now)) }
 {
-    if scope.lookup(&declared.name.text).is_some() {
+    if scope.lookup(declared.name.text.as_str()).is_some() {
         return Err(TypeRefusal::Twice(declared.name.span));
     }
     Ok(())

@@ -1,6 +1,7 @@
 //! What is visible at a place of a text.
 
-ghost use Rattle.std.specs.Prelude.{◌≡◌, ◌≤◌, [], ◌∷◌, length, option_map, string_bytes, IfOk, OnOk};
+ghost use Rattle.std.specs.Prelude.{◌≡◌, ◌≤◌, [], ◌∷◌, length, option_map, IfOk, OnOk};
+ghost use Rattle.lt_ast.specs.Letters.{letters};
 ghost use Rattle.lt_ast.specs.View.{word, words};
 ghost use Rattle.lt_num.specs.Bounds.{most_decimals};
 ghost use Rattle.lt_types.specs.inner.Checks.{Checks};
@@ -138,7 +139,7 @@ impl Scope {
         ensures memory { Checks result [] }
     {
         for name in &names.items {
-            self.declare(&name.text, Entry::of_group(role, kind, by_ref))?;
+            self.declare(name.text.as_str(), Entry::of_group(role, kind, by_ref))?;
         }
         Ok(())
     }
@@ -195,7 +196,7 @@ impl Scope {
         ensures ok { OnOk result (self.new ≡ with_exceptions self.old (word name.now ∷ [])) }
         ensures memory { Checks result [] }
     {
-        self.exceptions.push(&name.text)
+        self.exceptions.push(name.text.as_str())
     }
 
     // Forgets the newest exceptions, so that so many are left.
@@ -211,7 +212,7 @@ impl Scope {
     pub(crate) fn check_new_node(&self, name: &Name) -> Result<(), TypeRefusal>
         ensures { Checks result (new_names self.now.nodes (word name.now ∷ [])) }
     {
-        if self.nodes.newest(&name.text).is_some() {
+        if self.nodes.newest(name.text.as_str()).is_some() {
             return Err(TypeRefusal::Twice(name.span));
         }
         Ok(())
@@ -220,9 +221,9 @@ impl Scope {
     // A node.
     pub(crate) fn declare_node(&mut self, name: &Name) -> Result<(), TypeRefusal>
         ensures ok { OnOk result (self.new ≡
-            record self.old { nodes = string_bytes name.now.text ∷ self.old.nodes }) }
+            record self.old { nodes = letters name.now.text ∷ self.old.nodes }) }
         ensures memory { Checks result [] }
     {
-        self.nodes.push(&name.text)
+        self.nodes.push(name.text.as_str())
     }
 }

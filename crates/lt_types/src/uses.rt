@@ -1,6 +1,7 @@
 //! Names that are used, and the arguments that they are given.
 
-ghost use Rattle.std.specs.Prelude.{◌≡◌, IsSome, map, option_map, string_bytes};
+ghost use Rattle.std.specs.Prelude.{◌≡◌, IsSome, map, option_map};
+ghost use Rattle.lt_ast.specs.Letters.{letters};
 ghost use Rattle.lt_ast.specs.inner.Lists.{arguments_of};
 ghost use Rattle.lt_ast.specs.Syntax.{called, named, pre};
 ghost use Rattle.lt_ast.specs.View.{argument, exp, word};
@@ -24,7 +25,7 @@ pub(crate) fn check_alone(scope: &Scope, name: &Name) -> Result<TypeName, TypeRe
     ensures { Answers result (exp_refusals scope.now (named (word name.now)))
         (type_of scope.now (named (word name.now))) }
 {
-    match scope.lookup(&name.text) {
+    match scope.lookup(name.text.as_str()) {
         None => Err(TypeRefusal::Unknown(name.span)),
         Some(entry) => check_entry_alone(name, entry),
     }
@@ -54,7 +55,7 @@ pub(crate) fn check_behind_pre(
     ensures { Answers result (exp_refusals scope.now (pre (word name.now) at))
         (type_of scope.now (pre (word name.now) at)) }
 {
-    match scope.lookup(&name.text) {
+    match scope.lookup(name.text.as_str()) {
         None => Err(TypeRefusal::Unknown(name.span)),
         Some(Entry::Variable(kind)) => Ok(*kind),
         Some(Entry::Parameter(_)) => Err(TypeRefusal::PreOfExpression(name.span)),
@@ -67,7 +68,7 @@ pub(crate) fn check_behind_pre(
 pub(crate) fn check_exception(scope: &Scope, name: &Name) -> Result<(), TypeRefusal>
     ensures { Checks result (known_exception scope.now (word name.now)) }
 {
-    if scope.is_exception(&name.text) {
+    if scope.is_exception(name.text.as_str()) {
         return Ok(());
     }
     Err(TypeRefusal::Unknown(name.span))
@@ -92,14 +93,14 @@ pub(crate) fn check_applied(
     args: &[Arg],
     kinds: &[TypeName],
 ) -> Result<TypeName, TypeRefusal>
-    requires known { IsSome (found scope.now.names (string_bytes name.now.text)) }
+    requires known { IsSome (found scope.now.names (letters name.now.text)) }
     requires kinds { map Some kinds.now ≡ map (argument_type scope.now) (map argument args.now) }
     ensures { Answers result
         (applied scope.now (word name.now) (arguments_of (map argument args.now))
-        (found scope.now.names (string_bytes name.now.text)))
-        (option_map entry_type (found scope.now.names (string_bytes name.now.text))) }
+        (found scope.now.names (letters name.now.text)))
+        (option_map entry_type (found scope.now.names (letters name.now.text))) }
 {
-    match scope.lookup(&name.text) {
+    match scope.lookup(name.text.as_str()) {
         None => unreachable!(),
         Some(entry) => check_entry_applied(scope, name, args, kinds, entry),
     }
@@ -200,18 +201,18 @@ fn is_variable(scope: &Scope, expr: &Expr, kind: TypeName) -> bool
         | Expr::Pre(_, _)
         | Expr::Paren(_, _)
         | Expr::Unary(_, _, _)
-        | Expr::Binary(_, _, _, _)
+        | Expr::Binary(_, _, _)
         | Expr::If(_, _, _, _) => false,
     }
 }
 
 // Whether a name, which must have no arguments, is that of a variable of this type.
-fn names_variable(scope: &Scope, name: &Name, args: &Option<Args>, kind: TypeName) -> bool
+fn names_variable(scope: &Scope, name: &Name, args: &Option<Box<Args>>, kind: TypeName) -> bool
     ensures { result ≡ is_a_variable scope.now (used (word name.now) args.now) kind }
 {
     match args {
         Some(_) => false,
-        None => match scope.lookup(&name.text) {
+        None => match scope.lookup(name.text.as_str()) {
             Some(entry) => is_variable_entry(entry, kind),
             None => false,
         },

@@ -79,9 +79,9 @@ abbrev pub tokens_of_group : Group → List Written
 tokens_of_group g = grouping_tokens (group_of g)
 
 -- a list of arguments in its parentheses, where there is one
-abbrev pub call_tokens : Option Args → List Written
+abbrev pub call_tokens : Option (Box Args Global) → List Written
 call_tokens None = []
-call_tokens (Some args) = in_parentheses (separated Comma tokens_of_argument args.items.items)
+call_tokens (Some args) = in_parentheses (separated Comma tokens_of_argument args.value.items.items)
 
 -- a list of parameters in its parentheses, where there is one
 abbrev pub params_tokens : Option Groups → List Written

@@ -1,10 +1,11 @@
 -- Parameters and their arguments.
-use Rattle.std.specs.Prelude.{◌≡◌, ℕ, List, map, string_bytes}
+use Rattle.std.specs.Prelude.{◌≡◌, ℕ, List, map}
 use Rattle.std.specs.Borrow.{Bor}
 use Rattle.std.specs.declared.option.Option.{Option}
 use Rattle.std.specs.declared.option.Option.TheVariants.{None, Some}
 use Rattle.lt_ast.specs.Syntax as s
 use Rattle.lt_ast.specs.Syntax.{Argument, Parameters}
+use Rattle.lt_ast.specs.Letters.{letters}
 use Rattle.lt_ast.specs.View.{groupings}
 use Rattle.lt_ast.specs.declared.group.Groups.{Groups}
 use Rattle.lt_ast.specs.declared.name.Name.{Name}
@@ -15,7 +16,7 @@ use Rattle.lt_macros.specs.declared.scope.Entry.{Entry}
 
 -- the text of a name
 abbrev pub name_text : Bor Name → List ℕ
-name_text n = string_bytes n.now.text
+name_text n = letters n.now.text
 
 -- the parameters of a macro, where it has a list of them
 abbrev pub parameters_view : Option Groups → Parameters

@@ -66,14 +66,14 @@ expressions::parse_conditional-returns-in_err-otherwise-clause-reads given c =
     (λ k. c.in_ok-condition.ensures.reads (if_then c.args.inside c.args.start k) ∙ c.in_ok-rest.ensures.reads (λ p. if_holds c.args.inside c.args.start k (exp c.in_ok-condition.condition.value)) ∙ c.in_ok-holds.ensures.reads (if_else c.args.inside c.args.start k (exp c.in_ok-condition.condition.value)) ∙ c.in_ok-rest-2.ensures.reads (λ q. if_otherwise c.args.inside c.args.start k (exp c.in_ok-condition.condition.value) (exp c.in_ok-holds.holds.value)))
     c.in_err-otherwise.ensures.reads c.from_residual-in_err-otherwise.ensures.1
 
-pub expressions::parse_named-returns-in_ok-args-in-Some-clause-reads : goal.expressions::parse_named-returns-in_ok-args-in-Some-clause-reads
-expressions::parse_named-returns-in_ok-args-in-Some-clause-reads given c = λ k.
+pub expressions::parse_named-returns-in_ok-new-in-Some-clause-reads : goal.expressions::parse_named-returns-in_ok-new-in-Some-clause-reads
+expressions::parse_named-returns-in_ok-new-in-Some-clause-reads given c = λ k.
     let name = word c.args.name in
     let deep = c.in_ok-inside-in-Some.ensures.deep in
     ap (outcome most_levels (after_name c.args.depth name k)) c.in-Some.ensures.found.1
     ∙ entered (λ n. some_arguments n (λ args. k (called name args))) c.args.depth c.in_ok-inside-in-Some.inside (lexemes c.in-Some.rest.now) deep.0 deep.2
     ∙ c.in_ok-args-in-Some.ensures.reads (λ args. k (called name args))
-    ∙ ap (λ e. outcome most_levels (k e) (lexemes c.in_ok-args-in-Some.rest.now)) (sym (exp_called c.args.name c.in_ok-args-in-Some.args))
+    ∙ ap (λ e. outcome most_levels (k e) (lexemes c.in_ok-args-in-Some.rest.now)) (sym (exp_called c.args.name c.in_ok-new-in-Some.field-0 c.in_ok-args-in-Some.args c.in_ok-new-in-Some.ensures.ok))
 
 pub expressions::parse_named-returns-in-None-clause-reads : goal.expressions::parse_named-returns-in-None-clause-reads
 expressions::parse_named-returns-in-None-clause-reads given c = grind (arith, no_call)

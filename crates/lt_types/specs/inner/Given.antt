@@ -2,6 +2,8 @@
 use Rattle.std.specs.Prelude.{List, [], map}
 use Rattle.std.specs.declared.option.Option.{Option}
 use Rattle.std.specs.declared.option.Option.TheVariants.{None, Some}
+use Rattle.std.specs.declared.boxed.Box.{Box}
+use Rattle.std.specs.declared.alloc.Global.{Global}
 use Rattle.lt_ast.specs.declared.group.TypeName.{TypeName}
 use Rattle.lt_ast.specs.declared.group.TypeName.TheVariants as t
 use Rattle.lt_ast.specs.declared.expr.Args.{Args}
@@ -19,9 +21,9 @@ use Rattle.lt_ast.specs.Places.{span_of}
 use Rattle.lt_types.specs.Refusals.{type_of, typed}
 
 -- a name, with its arguments where it has a list of them
-abbrev pub used : Word → Option Args → Exp
+abbrev pub used : Word → Option (Box Args Global) → Exp
 used w None = s.named w
-used w (Some args) = s.called w (arguments_of (map argument args.items.items))
+used w (Some args) = s.called w (arguments_of (map argument args.value.items.items))
 
 -- the type of an argument, where it has one
 abbrev pub argument_type : Environment → Argument → Option TypeName

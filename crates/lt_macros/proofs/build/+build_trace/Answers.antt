@@ -148,14 +148,14 @@ build_trace_form-returns-in-Nothing t c =
 pub build_trace_form-returns-in_ok-raised-in-Raise : goal.build_trace_form-returns-in_ok-raised-in-Raise
 build_trace_form-returns-in_ok-raised-in-Raise t c =
     builds _ _ c.put_alone-in-Raise.result _ (kept_none _)
-    (raise_built c.args.builder.now.decimals (rows c.args.builder.now.scope) c.args.form c.in-Raise.name c.in-Raise.environment (numbers_view c.args.numbers) c.exception-exception.result c.deref.result.now c.in_ok-raised-in-Raise.raised c.put_alone-in-Raise.result
-    c.in-Raise.is c.deref.ensures (c.exception-exception.ensures (meant c.args.builder.now.decimals)) (c.in_ok-raised-in-Raise.ensures c.args.builder.now.decimals) c.put_alone-in-Raise.ensures)
+    (raise_built c.args.builder.now.decimals (rows c.args.builder.now.scope) c.args.form c.in-Raise.name c.in-Raise.environment (numbers_view c.args.numbers) c.exception-exception.result c.as_str.result.now c.in_ok-raised-in-Raise.raised c.put_alone-in-Raise.result
+    c.in-Raise.is c.as_str.ensures (c.exception-exception.ensures (meant c.args.builder.now.decimals)) (c.in_ok-raised-in-Raise.ensures c.args.builder.now.decimals) c.put_alone-in-Raise.ensures)
 
 pub build_catch-returns : goal.build_catch-returns
 build_catch-returns t c =
     builds _ _ c.put_catch.result _ c.in_ok-two.ensures.kept
-    (catch_built c.args.builder.now.decimals (rows c.args.builder.now.scope) (rows c.build_two.new.builder.scope) (Catch c.args.name c.args.body c.args.handler c.args.environment) c.args.name c.args.body c.args.handler c.args.environment (numbers_view c.args.numbers) c.exception.result c.deref.result.now c.in_ok-two.two
-    c.put_catch.result refl c.deref.ensures c.in_ok-two.ensures.kept.names (c.exception.ensures (meant c.args.builder.now.decimals)) c.in_ok-two.ensures.made c.put_catch.ensures)
+    (catch_built c.args.builder.now.decimals (rows c.args.builder.now.scope) (rows c.build_two.new.builder.scope) (Catch c.args.name c.args.body c.args.handler c.args.environment) c.args.name c.args.body c.args.handler c.args.environment (numbers_view c.args.numbers) c.exception.result c.as_str.result.now c.in_ok-two.two
+    c.put_catch.result refl c.as_str.ensures c.in_ok-two.ensures.kept.names (c.exception.ensures (meant c.args.builder.now.decimals)) c.in_ok-two.ensures.made c.put_catch.ensures)
 
 pub build_joined-returns : goal.build_joined-returns
 build_joined-returns t c =

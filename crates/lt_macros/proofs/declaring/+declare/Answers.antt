@@ -23,15 +23,15 @@ led_to-loop-inner-init t c = record { on = leads_none (rows c.args.scope.now) c.
 
 pub declare-returns-clause-denotation : goal.declare-returns-clause-denotation
 declare-returns-clause-denotation t c = λ r.
-    let e : Entry = record { name = c.deref-2.result; outer = c.args.environment; binding = CodeMacro c.args.declared c.handed_by-handed.result } in
+    let e : Entry = record { name = c.as_str.result; outer = c.args.environment; binding = CodeMacro c.args.declared c.handed_by-handed.result } in
     declared_as r (rows c.args.scope.now) (rows c.truncate.new.self) (rows c.push.new.self) e c.args.declared c.handed_by-handed.result c.in_ok-push.field-0
-    (all_back _ _ _ _ c.truncate.ensures.rows c.len-before.ensures (adds_both _ _ _ c.in_ok-inner.ensures.adds c.in_ok-led.ensures.adds)) c.in_ok-push.ensures.rows c.in_ok-push.ensures.number c.deref-2.ensures refl
+    (all_back _ _ _ _ c.truncate.ensures.rows c.len-before.ensures (adds_both _ _ _ c.in_ok-inner.ensures.adds c.in_ok-led.ensures.adds)) c.in_ok-push.ensures.rows c.in_ok-push.ensures.number c.as_str.ensures refl
 
 pub declare-returns-clause-work : goal.declare-returns-clause-work
 declare-returns-clause-work t c = λ r.
-    let e : Entry = record { name = c.deref-2.result; outer = c.args.environment; binding = CodeMacro c.args.declared c.handed_by-handed.result } in
+    let e : Entry = record { name = c.as_str.result; outer = c.args.environment; binding = CodeMacro c.args.declared c.handed_by-handed.result } in
     declared_as r (rows c.args.scope.now) (rows c.truncate.new.self) (rows c.push.new.self) e c.args.declared c.handed_by-handed.result c.in_ok-push.field-0
-    (all_back _ _ _ _ c.truncate.ensures.rows c.len-before.ensures (adds_both _ _ _ c.in_ok-inner.ensures.adds c.in_ok-led.ensures.adds)) c.in_ok-push.ensures.rows c.in_ok-push.ensures.number c.deref-2.ensures refl
+    (all_back _ _ _ _ c.truncate.ensures.rows c.len-before.ensures (adds_both _ _ _ c.in_ok-inner.ensures.adds c.in_ok-led.ensures.adds)) c.in_ok-push.ensures.rows c.in_ok-push.ensures.number c.as_str.ensures refl
 
 pub declare-returns-clause-adds : goal.declare-returns-clause-adds
 declare-returns-clause-adds t c =
@@ -41,7 +41,7 @@ declare-returns-clause-adds t c =
 pub declare-returns-clause-right : goal.declare-returns-clause-right
 declare-returns-clause-right t c =
     let back = all_back _ _ _ _ c.truncate.ensures.rows c.len-before.ensures (adds_both _ _ _ c.in_ok-inner.ensures.adds c.in_ok-led.ensures.adds) in
-    let e : Entry = record { name = c.deref-2.result; outer = c.args.environment; binding = CodeMacro c.args.declared c.handed_by-handed.result } in
+    let e : Entry = record { name = c.as_str.result; outer = c.args.environment; binding = CodeMacro c.args.declared c.handed_by-handed.result } in
     let right : IsRight (rows c.args.scope.now) e =
     declared_right (rows c.args.scope.now) (rows c.put_parameters.new.scope) (rows c.led_to.new.scope) c.args.environment c.in_ok-inner.inner c.in_ok-led.led c.args.declared (phrase_view c.phrase_of_body.result) (map name_text c.deref.result.now) c.len-before.result c.len.result c.handed_by-handed.result
     c.args.scope.now.linked c.in_ok-inner.ensures.adds c.in_ok-led.ensures.adds (adds_both _ _ _ c.in_ok-inner.ensures.adds c.in_ok-led.ensures.adds)

@@ -10,18 +10,18 @@ use Rattle.lt_macros.proofs.declaring.bind.Goals as goal
 
 pub loop-param-preserved : goal.loop-param-preserved
 loop-param-preserved c =
-    let e : Entry = record { name = c.deref.result; outer = c.loop-param.environment; binding = Argument c.phrase_of_argument.result c.args.written } in
+    let e : Entry = record { name = c.as_str.result; outer = c.loop-param.environment; binding = Argument c.phrase_of_argument.result c.args.written } in
     let more : c.loop-param.param-index < length c.args.params.now = omega (arith, c.loop-param-test.true, c.loop-param.auto.param-index-end) in
     record {
       denotation = λ r.
           bound_rest r (rows c.args.scope.now) (rows c.loop-param.scope) (rows c.push.new.self) e c.phrase_of_argument.result c.args.written c.in_ok-environment.environment c.loop-param.param-index
           c.args.params.now c.param-item.result c.loop-param.args.now c.in-Some.arg.now c.in-Some.others.now _
-          more c.param-item.is c.in-Some.ensures.cases.0 c.deref.ensures c.phrase_of_argument.ensures refl
+          more c.param-item.is c.in-Some.ensures.cases.0 c.as_str.ensures c.phrase_of_argument.ensures refl
           c.in_ok-environment.ensures.rows c.in_ok-environment.ensures.number c.loop-param.invariant.adds c.requires.written (c.loop-param.invariant.denotation r);
       work = λ r.
           bound_rest r (rows c.args.scope.now) (rows c.loop-param.scope) (rows c.push.new.self) e c.phrase_of_argument.result c.args.written c.in_ok-environment.environment c.loop-param.param-index
           c.args.params.now c.param-item.result c.loop-param.args.now c.in-Some.arg.now c.in-Some.others.now _
-          more c.param-item.is c.in-Some.ensures.cases.0 c.deref.ensures c.phrase_of_argument.ensures refl
+          more c.param-item.is c.in-Some.ensures.cases.0 c.as_str.ensures c.phrase_of_argument.ensures refl
           c.in_ok-environment.ensures.rows c.in_ok-environment.ensures.number c.loop-param.invariant.adds c.requires.written (c.loop-param.invariant.work r);
       within = omega (arith, ap length c.in_ok-environment.ensures.rows, c.in_ok-environment.ensures.number);
       adds = subst (AddsTo (rows c.args.scope.now)) (sym c.in_ok-environment.ensures.rows) (adds_one e _ _ c.loop-param.invariant.adds);

@@ -10,15 +10,15 @@ use Rattle.lt_macros.proofs.declaring.put_parameters.Goals as goal
 
 pub loop-param-preserved : goal.loop-param-preserved
 loop-param-preserved c =
-    let e : Entry = record { name = c.deref.result; outer = c.loop-param.environment; binding = Parameter c.len-number.result } in
+    let e : Entry = record { name = c.as_str.result; outer = c.loop-param.environment; binding = Parameter c.len-number.result } in
     let more : c.loop-param.param-index < length c.args.params.now = omega (arith, c.loop-param-test.true, c.loop-param.auto.param-index-end) in
     record {
       denotation = λ r.
           put_next r (rows c.loop-param.scope) (rows c.push.new.self) e c.in_ok-environment.environment c.loop-param.param-index c.args.params.now c.param-item.result _ more c.param-item.is c.in_ok-environment.ensures.rows
-          c.in_ok-environment.ensures.number c.deref.ensures (ap Parameter c.len-number.ensures) (c.loop-param.invariant.denotation r);
+          c.in_ok-environment.ensures.number c.as_str.ensures (ap Parameter c.len-number.ensures) (c.loop-param.invariant.denotation r);
       work = λ r.
           put_next r (rows c.loop-param.scope) (rows c.push.new.self) e c.in_ok-environment.environment c.loop-param.param-index c.args.params.now c.param-item.result _ more c.param-item.is c.in_ok-environment.ensures.rows
-          c.in_ok-environment.ensures.number c.deref.ensures (ap Parameter c.len-number.ensures) (c.loop-param.invariant.work r);
+          c.in_ok-environment.ensures.number c.as_str.ensures (ap Parameter c.len-number.ensures) (c.loop-param.invariant.work r);
       within = omega (arith, ap length c.in_ok-environment.ensures.rows, c.in_ok-environment.ensures.number);
       adds = subst (AddsTo (rows c.args.scope.now)) (sym c.in_ok-environment.ensures.rows) (adds_one e _ _ c.loop-param.invariant.adds);
       right = subst AreRight (sym c.in_ok-environment.ensures.rows) (tt, c.loop-param.invariant.right);

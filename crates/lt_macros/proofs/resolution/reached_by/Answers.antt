@@ -12,6 +12,6 @@ returns-in-Outer c =
     let P : List ℕ → Type 0 = λ n. (r : Reading Denotation) → IsFound r (rows c.args.scope.now) c.args.environment n c.number-number.result in
     let Q : List ℕ → Type 0 = λ n. (r : Reading ℕ) → IsFound r (rows c.args.scope.now) c.args.environment n c.number-number.result in
     used_outer (rows c.args.scope.now) c.args.environment (word c.args.used.name.now) (length c.args.used.args.now) c.number-number.result c.in-Some.entry c.in-Outer.reached
-    (subst P c.deref.ensures c.number-number.ensures.denotation) (subst Q c.deref.ensures c.number-number.ensures.work)
+    (subst P c.as_str.ensures c.number-number.ensures.denotation) (subst Q c.as_str.ensures c.number-number.ensures.work)
     c.in-Some.ensures.denotation c.in-Some.ensures.work c.in-Some.ensures.linked (c.in-Some.ensures.right c.requires.right)
     (subst (HasTarget c.in-Some.entry.binding (length c.args.used.args.now)) c.in-Outer.is c.in-Some-target_of.ensures)

@@ -11,6 +11,6 @@ returns c =
     let all = decimals_same (meant c.args.builder.now.decimals) (rows c.args.builder.now.scope) c.args.environment in
     let range = c.in_ok-range.ensures ∙ (λ i. range_of (sym all i) c.args.role (c.kind_of-kind.ensures i) (written_range c.args.group.now.range)) in
     record {
-      made = λ i. record { name = c.in_ok-text.ensures.cases i; kind = c.kind_of-kind.ensures i; range = range i; first = c.in_ok-first.ensures.made i };
+      made = λ i. record { name = (c.in_ok-text.ensures.ok ∙ c.as_str.ensures) i; kind = c.kind_of-kind.ensures i; range = range i; first = c.in_ok-first.ensures.made i };
       kept = c.in_ok-first.ensures.kept;
     }

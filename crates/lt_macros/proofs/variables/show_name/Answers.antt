@@ -11,16 +11,16 @@ use Rattle.lt_macros.proofs.variables.show_name.Goals as goal
 
 pub returns-clause-visible : goal.returns-clause-visible
 returns-clause-visible c =
-    let e : Entry = record { name = c.deref.result; outer = c.args.outer; binding = Variable c.args.role c.args.place } in
+    let e : Entry = record { name = c.as_str.result; outer = c.args.outer; binding = Variable c.args.role c.args.place } in
     λ d.
     made_newest (meant d) (rows c.args.scope.now) (rows c.push.new.self) e c.in_ok-number.number c.in_ok-number.ensures.rows c.in_ok-number.ensures.number
-    ∙ ap (λ name. with_name name (variable c.args.role c.args.place) (environment (meant d) (rows c.args.scope.now) c.args.outer)) c.deref.ensures
+    ∙ ap (λ name. with_name name (variable c.args.role c.args.place) (environment (meant d) (rows c.args.scope.now) c.args.outer)) c.as_str.ensures
 
 pub returns-clause-work : goal.returns-clause-work
 returns-clause-work c =
-    let e : Entry = record { name = c.deref.result; outer = c.args.outer; binding = Variable c.args.role c.args.place } in
+    let e : Entry = record { name = c.as_str.result; outer = c.args.outer; binding = Variable c.args.role c.args.place } in
     made_newest worked (rows c.args.scope.now) (rows c.push.new.self) e c.in_ok-number.number c.in_ok-number.ensures.rows c.in_ok-number.ensures.number
-    ∙ ap (λ name. with_name name (parameter 1) (environment worked (rows c.args.scope.now) c.args.outer)) c.deref.ensures
+    ∙ ap (λ name. with_name name (parameter 1) (environment worked (rows c.args.scope.now) c.args.outer)) c.as_str.ensures
 
 pub returns-clause-right : goal.returns-clause-right
 returns-clause-right c = subst AreRight (sym c.in_ok-number.ensures.rows) (tt, c.requires.right)
