@@ -79,7 +79,7 @@ groups_are (s.one_group (s.grouping ws type ref range first) gs) env body n =
 pub exist_built : (env inner : Environment Denotation) (gs : Groupings) (t : Trace) (n inside : Numbers) (items : List Tree) (next : ℕ) (tree : x.Expanded) (b : code.Numbered)
     → map declared items ≡ groups_variables Local n.local env gs → inner ≡ with_groups Local n.local gs env → next ≡ n.local + length items
     → inside ≡ record { term = n.term + (next - n.local); local = next; counter = n.counter } → numbered b ≡ as_trace (trace_denotation inner t) inside
-    → tree ≡ in_all (next - length items) (map declared items) (expanded b.expanded)
+    → tree ≡ in_all (next - length items) (map declared items) (expanded b.expanded.value)
     → record { expanded = tree; after = numbers_view b.after } ≡ in_groups env gs (λ e. as_trace (trace_denotation e t)) n
 exist_built env inner gs t n inside items next tree b made shown counted is built whole =
     let ds : List Declared = groups_variables Local n.local env gs in
@@ -99,16 +99,16 @@ all-push i j [] d inside h = ap (λ k. x.exist k d inside) (omega (arith, h))
 all-push i j (e ∷ ds) d inside h = ap (x.exist i e) (all-push (suc i) j ds d inside (omega (arith, h)))
 
 -- the last local that is left is put around the trace
-pub local_put : (number less : ℕ) (items left : List Tree) (local : Tree) (inside : TraceTree) (box : Box TraceTree Global) (all : x.Expanded) → items ≡ left ++ local ∷ [] → length items ≤ number → less + 1 ≡ number → box.value ≡ inside
-    → in_all (number - length items) (map declared items) (expanded inside) ≡ all
-    → in_all (less - length left) (map declared left) (x.exist less (declared local) (expanded box.value)) ≡ all
+pub local_put : (number less : ℕ) (items left : List Tree) (local : Tree) (inside box : Box TraceTree Global) (all : x.Expanded) → items ≡ left ++ local ∷ [] → length items ≤ number → less + 1 ≡ number → expanded box.value ≡ x.exist less (declared local) (expanded inside.value)
+    → in_all (number - length items) (map declared items) (expanded inside.value) ≡ all
+    → in_all (less - length left) (map declared left) (expanded box.value) ≡ all
 local_put number less items left local inside box all is few next boxed so_far =
     let count : length items ≡ length left + 1 = ap length is ∙ length-append left (local ∷ []) in
     let first : less - length left ≡ number - length items = omega arith in
     let here : less ≡ number - length items + length (map declared left) = omega (arith, length-map left declared) in
-    (λ i. in_all (first i) (map declared left) (x.exist less (declared local) (expanded (boxed i))))
-    ∙ sym (all-push (number - length items) less (map declared left) (declared local) (expanded inside) here)
-    ∙ sym (ap (λ ds. in_all (number - length items) ds (expanded inside)) (ap (map declared) is ∙ map-append declared left (local ∷ [])))
+    (λ i. in_all (first i) (map declared left) (boxed i))
+    ∙ sym (all-push (number - length items) less (map declared left) (declared local) (expanded inside.value) here)
+    ∙ sym (ap (λ ds. in_all (number - length items) ds (expanded inside.value)) (ap (map declared) is ∙ map-append declared left (local ∷ [])))
     ∙ so_far
 
 -- what is inside is less work

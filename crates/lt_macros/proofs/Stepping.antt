@@ -177,6 +177,17 @@ pub steps_cover : (position : Position) (rows : List Entry) (k : ℕ) (q : Phras
 steps_cover position rows k q inner is within =
     record { denotation = λ d. ap (seen position) (sym (is.denotation (environment (meant d) rows k))); work = is.work (environment worked rows k); within = within }
 
+-- a step from what stands for the same as a phrase, and is no more, is one from the phrase
+pub steps_under : (position : Position) (rows new : List Entry) (k : ℕ) (p q : Phrase) (result : Result Step Memory) → ((env : Environment Denotation) → phrase_denotation env p ≡ phrase_denotation env q) → ((env : Environment ℕ) → phrase_work env q ≤ phrase_work env p)
+    → IfOk result (StepsTo position new (phrase_meant rows k q) (phrase_worked rows k q)) → IfOk result (StepsTo position new (phrase_meant rows k p) (phrase_worked rows k p))
+steps_under position rows new k p q (Ok step) reads less to =
+    record {
+      denotation = λ d. to.denotation d ∙ ap (seen position) (sym (reads (environment (meant d) rows k)));
+      work = more_less new step _ _ (less (environment worked rows k)) to.work;
+      within = to.within;
+    }
+steps_under position rows new k p q (Err m) reads less to = tt
+
 pub steps_use : (position : Position) (rows new : List Entry) (k : ℕ) (q : Phrase) (w : Word) (args : List Argument) (result : Result Step Memory) → IsUse q w args
     → IfOk result (StepsTo position new (use_meant rows k w args) (suc (use_worked rows k w args))) → IfOk result (StepsTo position new (phrase_meant rows k q) (phrase_worked rows k q))
 steps_use position rows new k q w args (Ok step) is to =

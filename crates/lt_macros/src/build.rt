@@ -10,7 +10,7 @@ ghost use Rattle.lt_macros.specs.Expanded as x;
 ghost use Rattle.lt_macros.specs.Expansion.{node_of};
 ghost use Rattle.lt_macros.specs.Denotation.{alone, as_expression, as_trace, behind_term, bounds_of as limits_bounds, braces_denotation, caught_as, chosen, parts_of, raised_as as raised_tree, traces_denotation, weight_of};
 ghost use Rattle.lt_macros.specs.inner.Builder.{Builds, IsReady, IsReadyFor, form_denotation, names_at, phrase_at, trace_at, value_at};
-ghost use Rattle.lt_macros.specs.inner.Built.{AreBuilt, behind_turns, boxed, in_all, in_two, looped, numbered, numbered_parts};
+ghost use Rattle.lt_macros.specs.inner.Built.{AreBuilt, behind_turns, in_all, in_two, looped, numbered, numbered_parts};
 ghost use Rattle.lt_macros.specs.inner.Numbers.{numbers_view};
 ghost use Rattle.lt_macros.specs.inner.Phrase.{joined_by};
 ghost use Rattle.lt_macros.specs.inner.Reading.{meant, raised_by};
@@ -32,21 +32,14 @@ use lt_ast::{
 use lt_formula::{Memory, Role};
 use std::alloc::Global;
 
-/// A trace, and what stands before the place behind it.
+/// A trace in a box, and what stands before the place behind it.
 #[derive(Drop)]
 pub(crate) struct Numbered {
     /// The trace.
-    pub(crate) expanded: Expanded,
+    pub(crate) expanded: Box<Expanded>,
 
     /// What stands before the place behind it.
     pub(crate) after: Numbers,
-}
-
-/// A trace in a box, and what stands before the place behind it.
-#[derive(Drop)]
-struct Boxed {
-    trace: Box<Expanded>,
-    after: Numbers,
 }
 
 /// Alternatives, and what stands before the place behind them.
@@ -93,7 +86,7 @@ pub(crate) fn build_node<'a>(
         name,
         inputs: inputs.declared,
         outputs: outputs.declared,
-        body: body.expanded,
+        body: Box::into_inner(body.expanded),
     })
 }
 
@@ -135,7 +128,7 @@ fn build_trace_form<'a>(
         numbered b ≡ as_trace (form_denotation builder.old form.entry) (numbers_view numbers)) }
 {
     match form {
-        HeadNormalForm::Nothing => put_alone(Expanded::Eps, numbers),
+        HeadNormalForm::Nothing => build_nothing(builder.alloc, numbers),
         HeadNormalForm::Joined(join, first, rest, environment) => {
             build_joined(builder, numbers, environment, join, first, rest)
         }
@@ -147,8 +140,7 @@ fn build_trace_form<'a>(
         }
         HeadNormalForm::Raise(name, environment) => {
             let exception = builder.scope.exception(environment, name.text.as_str());
-            let raised = put_raise(builder.alloc, exception)?;
-            put_alone(raised, numbers)
+            build_raise(builder.alloc, numbers, exception)
         }
         HeadNormalForm::Assert(always, body, environment) => {
             build_assert(builder, numbers, environment, always, body)
@@ -192,9 +184,39 @@ fn build_joined<'a>(
         (s.one_trace (trace_view first.now) (traces_of (map trace_view rest.now))))
         (numbers_view numbers)) }
 {
-    let (first, rest) = (Phrase::Trace(first), Phrase::Joined(join, rest));
-    let two = build_two(builder, numbers, environment, first, rest)?;
-    Ok(put_joined(join, two))
+    let inside = numbers.behind_term()?;
+    let before = build_trace(builder, inside, environment, Phrase::Trace(first))?;
+    let behind = build_behind(builder, before.after, environment, join, rest)?;
+    let two = Two {
+        first: before.expanded,
+        second: behind.expanded,
+        after: behind.after,
+    };
+    put_joined(builder.alloc, join, two)
+}
+
+// Traces that are joined, behind others.
+#[cycle(build_trace)]
+fn build_behind<'a>(
+    builder: &mut Builder<'a>,
+    numbers: Numbers,
+    environment: usize,
+    join: Join,
+    traces: &'a [TraceExpr],
+) -> Result<Numbered, Memory>
+    requires { IsReady builder.old environment }
+    ensures { Builds builder.old builder.new result (λ b.
+        numbered b ≡ as_trace (phrase_at builder.old environment (Phrase.Joined join traces.entry))
+        (numbers_view numbers)) }
+{
+    let Some((first, rest)) = traces.split_first() else {
+        return build_nothing(builder.alloc, numbers);
+    };
+    if rest.is_empty() {
+        build_trace(builder, numbers, environment, Phrase::Trace(first))
+    } else {
+        build_joined(builder, numbers, environment, join, first, rest)
+    }
 }
 
 // One of several traces.
@@ -214,7 +236,7 @@ fn build_choice<'a>(
 {
     let (inside, parts) = (numbers.behind_term()?, &written.items);
     let chosen = build_parts(builder, inside, environment, parts)?;
-    Ok(put_choice(chosen))
+    put_choice(builder.alloc, chosen)
 }
 
 // A trace, and what follows where an exception is raised.
@@ -260,7 +282,7 @@ fn build_try<'a>(
 {
     let (body, handler) = (Phrase::Trace(body), Phrase::Handler(handler));
     let two = build_two(builder, numbers, environment, body, handler)?;
-    Ok(put_try(two))
+    put_try(builder.alloc, two)
 }
 
 // A constraint on one instant.
@@ -276,7 +298,30 @@ fn build_constraint<'a>(
         (numbers_view numbers)) }
 {
     let condition = build_expr_form(builder, form)?;
-    put_alone(Expanded::Con(condition), numbers)
+    put_alone(builder.alloc, Expanded::Con(condition), numbers)
+}
+
+// A trace of no instant.
+#[inline(never)]
+fn build_nothing(alloc: Global, numbers: Numbers) -> Result<Numbered, Memory>
+    ensures { IfOk result (λ b. numbered b ≡ alone x.eps (numbers_view numbers)) }
+{
+    put_alone(alloc, Expanded::Eps, numbers)
+}
+
+// An exception that is raised; `Deadlock` is a deadlock.
+#[inline(never)]
+fn build_raise(
+    alloc: Global,
+    numbers: Numbers,
+    raised: Option<Raised<'_>>,
+) -> Result<Numbered, Memory>
+    ensures { IfOk result (λ b. (decimals : ℕ) →
+        numbered b ≡ alone (raised_tree (raised_by (meant decimals) raised.entry))
+        (numbers_view numbers)) }
+{
+    let raised = put_raise(alloc, raised)?;
+    put_alone(alloc, raised, numbers)
 }
 
 // Two traces, the first of which stands behind one more term.
@@ -296,33 +341,13 @@ fn build_two<'a>(
         (as_trace (phrase_at builder.old environment second.entry))) }
 {
     let inside = numbers.behind_term()?;
-    let before = build_boxed(builder, inside, environment, first)?;
-    let behind = build_boxed(builder, before.after, environment, second)?;
+    let before = build_trace(builder, inside, environment, first)?;
+    let behind = build_trace(builder, before.after, environment, second)?;
     Ok(Two {
-        first: before.trace,
-        second: behind.trace,
+        first: before.expanded,
+        second: behind.expanded,
         after: behind.after,
     })
-}
-
-// A trace in a box.
-#[cycle(build_trace)]
-#[inline(never)]
-fn build_boxed<'a>(
-    builder: &mut Builder<'a>,
-    numbers: Numbers,
-    environment: usize,
-    phrase: Phrase<'a>,
-) -> Result<Boxed, Memory>
-    requires { IsReady builder.old environment }
-    ensures { Builds builder.old builder.new result (λ b.
-        boxed b ≡ as_trace (phrase_at builder.old environment phrase.entry)
-        (numbers_view numbers)) }
-{
-    let built = build_trace(builder, numbers, environment, phrase)?;
-    let after = built.after;
-    let trace = Box::new(builder.alloc, built.expanded)?;
-    Ok(Boxed { trace, after })
 }
 
 // A loop.
@@ -341,9 +366,9 @@ fn build_loop<'a>(
         (s.loop (limits written.now) (trace_view body.now)) (numbers_view numbers)) }
 {
     let (inside, phrase) = (behind_loop(numbers, written)?, Phrase::Trace(body));
-    let turn = build_boxed(builder, inside, environment, phrase)?;
+    let turn = build_trace(builder, inside, environment, phrase)?;
     let bounds = build_bounds(builder, environment, written)?;
-    Ok(put_loop(numbers.counter, bounds, turn.trace, turn.after))
+    put_loop(builder.alloc, numbers.counter, bounds, turn)
 }
 
 // Behind one more loop, which may have a counter.
@@ -359,17 +384,24 @@ fn behind_loop(numbers: Numbers, written: &Limits) -> Result<Numbers, Memory>
 
 // A trace over and over: without end, or as often as the counter of this number says.
 #[inline(never)]
-fn put_loop(counter: u32, turns: Option<Bounds>, body: Box<Expanded>, after: Numbers) -> Numbered
-    ensures { numbered result ≡ record {
-      expanded = looped (option_map bounds_view turns) counter (expanded_view body.value);
-      after = numbers_view after;
-    } }
+fn put_loop(
+    alloc: Global,
+    counter: u32,
+    turns: Option<Bounds>,
+    body: Numbered,
+) -> Result<Numbered, Memory>
+    ensures { IfOk result (λ b.
+        numbered b ≡ record {
+          expanded = looped (option_map bounds_view turns) counter
+              (expanded_view body.expanded.value);
+          after = numbers_view body.after;
+        }) }
 {
     let expanded = match turns {
-        None => Expanded::Loop(body),
-        Some(bounds) => Expanded::Count(counter, bounds, body),
+        None => Expanded::Loop(body.expanded),
+        Some(bounds) => Expanded::Count(counter, bounds, body.expanded),
     };
-    Numbered { expanded, after }
+    put(alloc, expanded, body.after)
 }
 
 // The bounds of a loop, where it has some.
@@ -435,7 +467,7 @@ fn build_parts<'a>(
         let weight = build_weight(builder, environment, part)?;
         let phrase = Phrase::Trace(&part.body);
         let built = build_trace(builder, numbers, environment, phrase)?;
-        let body = built.expanded;
+        let body = Box::into_inner(built.expanded);
         items.push(Part { weight, body })?;
         numbers = built.after;
     }
@@ -476,11 +508,10 @@ fn build_assert<'a>(
         (s.assert (exp always.now) (trace_view body.now)) (numbers_view numbers)) }
 {
     let (inside, phrase) = (numbers.behind_term()?, Phrase::Trace(body));
-    let inner = build_boxed(builder, inside, environment, phrase)?;
+    let inner = build_trace(builder, inside, environment, phrase)?;
     let constraint = build_expr(builder, environment, Phrase::Value(always))?;
-    let after = inner.after;
-    let expanded = Expanded::Assert(constraint, inner.trace);
-    Ok(Numbered { expanded, after })
+    let expanded = Expanded::Assert(constraint, inner.expanded);
+    put(builder.alloc, expanded, inner.after)
 }
 
 // A trace with locals, each of which sees the groups before its own.
@@ -518,7 +549,7 @@ fn put_locals(
     ensures { IfOk result (λ b.
         numbered b ≡ record {
           expanded = in_all (next - length declared.items) (map declared_view declared.items)
-              (expanded_view body.expanded);
+              (expanded_view body.expanded.value);
           after = numbers_view body.after;
         }) }
 {
@@ -528,43 +559,51 @@ fn put_locals(
     let mut expanded = body.expanded;
     while let Some(local) = left.pop() {
         number -= 1;
-        expanded = Expanded::Exist(number, local, Box::new(alloc, expanded)?);
+        expanded = Box::new(alloc, Expanded::Exist(number, local, expanded))?;
     }
     Ok(Numbered { expanded, after })
 }
 
 // A term without parts.
 #[inline(never)]
-fn put_alone(expanded: Expanded, numbers: Numbers) -> Result<Numbered, Memory>
+fn put_alone(alloc: Global, expanded: Expanded, numbers: Numbers) -> Result<Numbered, Memory>
     ensures { IfOk result (λ b.
         numbered b ≡ alone (expanded_view expanded) (numbers_view numbers)) }
 {
-    let after = numbers.behind_term()?;
+    put(alloc, expanded, numbers.behind_term()?)
+}
+
+// A term, and what stands before the place behind it.
+fn put(alloc: Global, expanded: Expanded, after: Numbers) -> Result<Numbered, Memory>
+    ensures { IfOk result (λ b.
+        numbered b ≡ record {
+          expanded = expanded_view expanded;
+          after = numbers_view after;
+        }) }
+{
+    let expanded = Box::new(alloc, expanded)?;
     Ok(Numbered { expanded, after })
 }
 
 // Traces that are joined, out of the first and those behind it.
 #[inline(never)]
-fn put_joined(join: Join, two: Two) -> Numbered
-    ensures { numbered result ≡ in_two (joined_by join) two }
+fn put_joined(alloc: Global, join: Join, two: Two) -> Result<Numbered, Memory>
+    ensures { IfOk result (λ b. numbered b ≡ in_two (joined_by join) two) }
 {
     let expanded = match join {
         Join::Seq => Expanded::Seq(two.first, two.second),
         Join::Pri => Expanded::Pri(two.first, two.second),
         Join::Par => Expanded::Par(two.first, two.second),
     };
-    let after = two.after;
-    Numbered { expanded, after }
+    put(alloc, expanded, two.after)
 }
 
 // A trace and what follows where nothing can be done.
 #[inline(never)]
-fn put_try(two: Two) -> Numbered
-    ensures { numbered result ≡ in_two x.try two }
+fn put_try(alloc: Global, two: Two) -> Result<Numbered, Memory>
+    ensures { IfOk result (λ b. numbered b ≡ in_two x.try two) }
 {
-    let expanded = Expanded::Try(two.first, two.second);
-    let after = two.after;
-    Numbered { expanded, after }
+    put(alloc, Expanded::Try(two.first, two.second), two.after)
 }
 
 // A trace and what follows where an exception is raised; `Deadlock` is caught where nothing can be done.
@@ -574,12 +613,11 @@ fn put_catch(alloc: Global, caught: Option<Raised<'_>>, two: Two) -> Result<Numb
         numbered b ≡ in_two (caught_as (raised_by (meant decimals) caught.entry)) two) }
 {
     match caught {
-        None => Ok(put_try(two)),
+        None => put_try(alloc, two),
         Some(raised) => {
             let exception = put_exception(alloc, raised)?;
             let expanded = Expanded::Catch(exception, two.first, two.second);
-            let after = two.after;
-            Ok(Numbered { expanded, after })
+            put(alloc, expanded, two.after)
         }
     }
 }
@@ -619,10 +657,8 @@ fn put_exception(alloc: Global, raised: Raised<'_>) -> Result<Exception, Memory>
 
 // One of these.
 #[inline(never)]
-fn put_choice(chosen_parts: NumberedParts) -> Numbered
-    ensures { numbered result ≡ chosen (numbered_parts chosen_parts) }
+fn put_choice(alloc: Global, chosen_parts: NumberedParts) -> Result<Numbered, Memory>
+    ensures { IfOk result (λ b. numbered b ≡ chosen (numbered_parts chosen_parts)) }
 {
-    let expanded = Expanded::Any(chosen_parts.parts);
-    let after = chosen_parts.after;
-    Numbered { expanded, after }
+    put(alloc, Expanded::Any(chosen_parts.parts), chosen_parts.after)
 }

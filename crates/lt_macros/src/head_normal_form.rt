@@ -20,7 +20,7 @@ use crate::declaring::{bind, declare, parameters_of, put_exception, put_exceptio
 use crate::position::Position;
 use crate::resolution::{handed_on, reached_by};
 use crate::scope::{Before, Binding, Entry, Join, Phrase, Scope};
-use crate::shape::{NameUse, Shape, phrase_of_argument, phrase_of_body, shape_of};
+use crate::shape::{NameUse, Shape, inside_cover, phrase_of_argument, phrase_of_body, shape_of};
 use lt_ast::{
     Arg, BinOp, Bounds, Expr, Groups, Literal, MacroDecl, Name, Names, Parts, Span, TraceExpr, UnOp,
 };
@@ -187,6 +187,7 @@ fn step_from_entry<'a>(
 }
 
 // One step from the use of a name.
+#[inline(never)]
 fn step_from_use<'a>(
     scope: &mut Scope<'a>,
     position: Position,
@@ -276,7 +277,8 @@ fn step_from_trap<'a>(
     }
 }
 
-// One step from a phrase.
+// One step from a phrase; a cover around it is no step of its own.
+#[inline(always)]
 fn take_step<'a>(
     scope: &mut Scope<'a>,
     position: Position,
@@ -291,7 +293,8 @@ fn take_step<'a>(
     ensures adds { OnOk result (AddsTo (rows scope.old) (rows scope.new)) }
     ensures right { OnOk result (AreRight (rows scope.new)) }
 {
-    match shape_of(phrase) {
+    let bare = inside_cover(phrase);
+    match shape_of(bare) {
         Shape::Cover(inner) => Ok(Step::Further(inner, environment)),
         Shape::Use(used) => step_from_use(scope, position, environment, used),
         Shape::Pre(name, at) => Ok(Step::Previous(name, at, environment)),
@@ -305,7 +308,7 @@ fn take_step<'a>(
         Shape::Trap(name, body, handler) => {
             step_from_trap(scope, position, environment, name, body, handler)
         }
-        Shape::HeadNormalForm => Ok(Step::Done(form_at(environment, phrase))),
+        Shape::HeadNormalForm => Ok(Step::Done(form_at(environment, bare))),
     }
 }
 
@@ -335,6 +338,7 @@ fn before_form(form: HeadNormalForm<'_>, at: Span) -> HeadNormalForm<'_>
 }
 
 // What the name of a variable was in the instant before.
+#[inline(never)]
 fn previous<'a>(
     scope: &mut Scope<'a>,
     environment: usize,
@@ -411,6 +415,7 @@ fn fitting(position: Position, form: HeadNormalForm<'_>) -> HeadNormalForm<'_>
 }
 
 // One step from a phrase in a position. Entries are added for what it needs.
+#[inline(never)]
 pub(crate) fn step_in<'a>(
     scope: &mut Scope<'a>,
     position: Position,

@@ -1,13 +1,16 @@
 //! The shape of a phrase: what is seen of it without going into it.
 
-ghost use Rattle.std.specs.Prelude.{◌≡◌, IfSome, map};
+ghost use Rattle.std.specs.Prelude.{◌≡◌, ◌≤◌, ℕ, IfSome, map};
 ghost use Rattle.lt_ast.specs.inner.Lists.{traces_of};
 ghost use Rattle.lt_ast.specs.inner.Rows.{maybe_trace};
 ghost use Rattle.lt_ast.specs.View.{argument, braced, exp, meaning, trace};
+ghost use Rattle.lt_macros.specs.Denotation.{Denotation};
+ghost use Rattle.lt_macros.specs.Environment.{Environment};
 ghost use Rattle.lt_macros.specs.inner.Shape.{HasShape};
-ghost use Rattle.lt_macros.specs.inner.Phrase.{argument_phrase, braces, handler, joined, meaning_phrase, trace as trace_phrase, value};
+ghost use Rattle.lt_macros.specs.inner.Phrase.{argument_phrase, braces, handler, joined, meaning_phrase, phrase_denotation, trace as trace_phrase, value};
 ghost use Rattle.lt_macros.specs.inner.Reading.{phrase_view};
 ghost use Rattle.lt_macros.specs.inner.Uses.{given};
+ghost use Rattle.lt_macros.specs.inner.Work.{phrase_work};
 
 use crate::scope::{Join, Phrase};
 use lt_ast::{Arg, Args, Body, Braced, Expr, MacroDecl, Name, Names, Span, TraceExpr};
@@ -68,6 +71,7 @@ pub(crate) fn phrase_of_body(body: &Body) -> Phrase<'_>
 }
 
 // The shape of a phrase.
+#[inline(always)]
 pub(crate) fn shape_of(phrase: Phrase<'_>) -> Shape<'_>
     ensures { HasShape result (phrase_view phrase.entry) }
 {
@@ -77,6 +81,26 @@ pub(crate) fn shape_of(phrase: Phrase<'_>) -> Shape<'_>
         Phrase::Braces(inside) => shape_of_braces(inside),
         Phrase::Joined(join, traces) => shape_of_joined(join, traces),
         Phrase::Handler(body) => shape_of_handler(body),
+    }
+}
+
+// The phrase inside a cover, and what is no cover as it is. What it stands for is the same.
+#[inline(always)]
+pub(crate) fn inside_cover(phrase: Phrase<'_>) -> Phrase<'_>
+    ensures denotation { (env : Environment Denotation) →
+        phrase_denotation env (phrase_view phrase.entry)
+        ≡ phrase_denotation env (phrase_view result) }
+    ensures work { (env : Environment ℕ) →
+        phrase_work env (phrase_view result) ≤ phrase_work env (phrase_view phrase.entry) }
+{
+    match shape_of(phrase) {
+        Shape::Cover(inner) => inner,
+        Shape::Use(_)
+        | Shape::Pre(_, _)
+        | Shape::Let(_, _)
+        | Shape::Exceptions(_, _)
+        | Shape::Trap(_, _, _)
+        | Shape::HeadNormalForm => phrase,
     }
 }
 

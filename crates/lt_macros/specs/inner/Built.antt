@@ -7,7 +7,6 @@ use Rattle.lt_macros.specs.Expanded.{Bounds, Declared, Expanded, Parts}
 use Rattle.lt_macros.specs.Denotation.{Numbers, Numbered, NumberedParts, behind_counter, behind_term}
 use Rattle.lt_macros.specs.inner.Numbers.{numbers_view}
 use Rattle.lt_macros.specs.Tree.{expanded, parts, placed}
-use Rattle.lt_macros.specs.declared.build.Boxed.{Boxed}
 use Rattle.lt_macros.specs.declared.build.Numbered as code
 use Rattle.lt_macros.specs.declared.build.NumberedParts as code_parts
 use Rattle.lt_macros.specs.declared.build.Two.{Two}
@@ -15,11 +14,7 @@ use Rattle.lt_macros.specs.declared.tree.Part.{Part}
 
 -- a trace, and the numbers behind it
 abbrev pub numbered : code.Numbered → Numbered
-numbered b = record { expanded = expanded b.expanded; after = numbers_view b.after }
-
--- a trace in a box, and the numbers behind it
-abbrev pub boxed : Boxed → Numbered
-boxed b = record { expanded = expanded b.trace.value; after = numbers_view b.after }
+numbered b = record { expanded = expanded b.expanded.value; after = numbers_view b.after }
 
 -- alternatives, and the numbers behind them
 abbrev pub numbered_parts : code_parts.NumberedParts → NumberedParts

@@ -24,9 +24,6 @@ decreases-build_trace_form l = 5 * form_reads worked (rows l.builder.now.scope) 
 abbrev pub decreases-build_two : goal.decreases-build_two
 decreases-build_two l = 5 * (worked.phrase (work_at l.builder.now l.environment) (phrase_view l.first) + worked.phrase (work_at l.builder.now l.environment) (phrase_view l.second)) + 5
 
-abbrev pub decreases-build_boxed : goal.decreases-build_boxed
-decreases-build_boxed l = 5 * worked.phrase (work_at l.builder.now l.environment) (phrase_view l.phrase) + 4
-
 abbrev pub decreases-build_loop : goal.decreases-build_loop
 decreases-build_loop l = 5 * worked.phrase (work_at l.builder.now l.environment) (trace (s.loop (limits l.written.now) (trace_view l.body.now)))
 
@@ -41,6 +38,9 @@ decreases-build_parts l = 5 * alternatives_work (work_at l.builder.now l.environ
 
 abbrev pub decreases-build_joined : goal.decreases-build_joined
 decreases-build_joined l = 5 * worked.phrase (work_at l.builder.now l.environment) (joined l.join (s.one_trace (trace_view l.first.now) (traces_of (map trace_view l.rest.now)))) + 1
+
+abbrev pub decreases-build_behind : goal.decreases-build_behind
+decreases-build_behind l = 5 * worked.phrase (work_at l.builder.now l.environment) (joined l.join (traces_of (map trace_view l.traces.now))) + 2
 
 abbrev pub decreases-build_choice : goal.decreases-build_choice
 decreases-build_choice l = 5 * worked.phrase (work_at l.builder.now l.environment) (braces (s.choice false (alternatives l.written.now))) + 1

@@ -8,7 +8,7 @@ loop-local-preserved c =
     let some : length c.loop-local.left.items ≡ length c.pop.new.self.items + 1 = ap length is ∙ length-append c.pop.new.self.items (c.in-Some.local ∷ []) in
     record {
       tree =
-          local_put c.loop-local.number (c.loop-local.number - 1) c.loop-local.left.items c.pop.new.self.items c.in-Some.local c.loop-local.expanded c.in_ok-new.field-0 _ is c.loop-local.invariant.few (omega (arith, some, c.loop-local.invariant.few)) (search rules)
+          local_put c.loop-local.number (c.loop-local.number - 1) c.loop-local.left.items c.pop.new.self.items c.in-Some.local c.loop-local.expanded c.in_ok-expanded.expanded _ is c.loop-local.invariant.few (omega (arith, some, c.loop-local.invariant.few)) (search rules)
           c.loop-local.invariant.tree;
       few = omega (arith, some, c.loop-local.invariant.few);
     }

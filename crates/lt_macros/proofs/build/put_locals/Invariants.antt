@@ -7,7 +7,7 @@ use Rattle.lt_macros.proofs.build.put_locals.Given as goal
 abbrev pub invariant-loop-local : goal.invariant-loop-local
 invariant-loop-local l =
     record {
-      tree : in_all (l.number - length l.left.items) (map declared l.left.items) (expanded l.expanded) ≡ in_all (l.fn.next - length l.fn.declared.items) (map declared l.fn.declared.items) (expanded l.fn.body.expanded);
+      tree : in_all (l.number - length l.left.items) (map declared l.left.items) (expanded l.expanded.value) ≡ in_all (l.fn.next - length l.fn.declared.items) (map declared l.fn.declared.items) (expanded l.fn.body.expanded.value);
       few : length l.left.items ≤ l.number;
     }
 
