@@ -461,7 +461,7 @@ fn build_parts<'a>(
         numbered_parts b ≡ parts_of (names_at builder.old environment)
         (alternatives_of (map part_of written.now)) (numbers_view before)) }
 {
-    let mut items = Vec::new(builder.alloc);
+    let mut items = Vec::with_capacity(builder.alloc, written.len())?;
     let mut numbers = before;
     for part in written {
         let weight = build_weight(builder, environment, part)?;

@@ -13,6 +13,7 @@ use crate::scope::{Join, Phrase};
 use lt_ast::{Braced, Expr, TraceExpr};
 
 // The head normal form that a phrase is in an environment, if it is one already.
+#[inline(always)]
 pub(crate) fn form_at(environment: usize, phrase: Phrase<'_>) -> HeadNormalForm<'_>
     ensures { IsTrue (is_head_normal (phrase_view phrase.entry)) →
         Shows environment result (phrase_view phrase.entry) }
@@ -27,6 +28,7 @@ pub(crate) fn form_at(environment: usize, phrase: Phrase<'_>) -> HeadNormalForm<
 }
 
 // The head normal form that an expression is, if it is one already.
+#[inline(always)]
 fn expr_at(environment: usize, expr: &Expr) -> HeadNormalForm<'_>
     ensures { IsTrue (is_head_normal (value (exp expr.now))) →
         Shows environment result (value (exp expr.now)) }
@@ -48,6 +50,7 @@ fn expr_at(environment: usize, expr: &Expr) -> HeadNormalForm<'_>
 }
 
 // The head normal form that a trace is, if it is one already.
+#[inline(always)]
 fn trace_at(environment: usize, written: &TraceExpr) -> HeadNormalForm<'_>
     ensures { IsTrue (is_head_normal (trace_phrase (trace written.now))) →
         Shows environment result (trace_phrase (trace written.now)) }
@@ -74,6 +77,7 @@ fn trace_at(environment: usize, written: &TraceExpr) -> HeadNormalForm<'_>
 }
 
 // The head normal form that stands in braces, if it is one already.
+#[inline(always)]
 fn braces_at(environment: usize, inside: &Braced) -> HeadNormalForm<'_>
     ensures { IsTrue (is_head_normal (braces (braced inside.now))) →
         Shows environment result (braces (braced inside.now)) }
@@ -87,6 +91,7 @@ fn braces_at(environment: usize, inside: &Braced) -> HeadNormalForm<'_>
 
 // The head normal form that traces are which are joined so, if they are one already.
 #[tactic(auto, using(crate::proofs::Plain::lists))]
+#[inline(always)]
 fn joined_at(environment: usize, join: Join, traces: &[TraceExpr]) -> HeadNormalForm<'_>
     ensures { IsTrue (is_head_normal (joined join (traces_of (map trace traces.now)))) →
         Shows environment result (joined join (traces_of (map trace traces.now))) }

@@ -415,7 +415,7 @@ fn fitting(position: Position, form: HeadNormalForm<'_>) -> HeadNormalForm<'_>
 }
 
 // One step from a phrase in a position. Entries are added for what it needs.
-#[inline(never)]
+#[inline(always)]
 pub(crate) fn step_in<'a>(
     scope: &mut Scope<'a>,
     position: Position,

@@ -92,6 +92,7 @@ impl<'a> Index<'a> {
     }
 
     // Takes the newest keys back, so that so many are left.
+    #[inline(never)]
     pub(crate) fn truncate(&mut self, len: usize)
         requires { len ≤ length (keys self.old) }
         ensures { keys self.new ≡ take len (keys self.old) }

@@ -297,8 +297,8 @@ impl<'a> Scope<'a> {
         None
     }
 
-    // Takes the newest entries back, so that so many are left.
-    #[inline(never)]
+    // Takes the newest entries back, so that so many are left. Mostly there are no more.
+    #[inline(always)]
     pub(crate) fn truncate(&mut self, len: usize)
         requires { len ≤ length (rows self.old) }
         ensures rows { rows self.new ≡ drop (length (rows self.old) - len) (rows self.old) }
@@ -306,8 +306,10 @@ impl<'a> Scope<'a> {
         ensures len { length (rows self.new) ≡ len }
         ensures right { AreRight (rows self.old) → AreRight (rows self.new) }
     {
-        self.entries.truncate(len);
-        self.index.truncate(len);
+        if len < self.entries.len() {
+            self.entries.truncate(len);
+            self.index.truncate(len);
+        }
     }
 }
 

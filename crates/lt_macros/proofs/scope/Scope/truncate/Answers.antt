@@ -9,24 +9,21 @@ use Rattle.lt_macros.proofs.Environments.{linked_front, taken_back}
 use Rattle.lt_macros.proofs.Indexes.{keyed_take}
 use Rattle.lt_macros.proofs.scope.Scope.truncate.Goals as goal
 
-pub truncate-requires-2 : goal.truncate-requires-2
-truncate-requires-2 c = omega (arith, c.args.self.now.keyed.size, c.requires, length-reverse c.args.self.now.entries.items)
-
 pub invariant_of-self : goal.invariant_of-self
 invariant_of-self c =
     record {
-      keyed = keyed_take c.args.len c.args.self.now.entries.items _ (keys c.args.self.now.index) _ c.truncate.ensures.items c.truncate-2.ensures (omega (arith, c.requires, length-reverse c.args.self.now.entries.items)) c.args.self.now.keyed;
+      keyed = keyed_take c.args.len c.args.self.now.entries.items _ (keys c.args.self.now.index) _ c.truncate.ensures.items c.truncate-then-len.ensures (omega (arith, c.requires, length-reverse c.args.self.now.entries.items)) c.args.self.now.keyed;
       linked = subst (λ items. IsTrue (are_linked (reverse items))) (sym c.truncate.ensures.items) (linked_front c.args.len c.args.self.now.entries.items c.args.self.now.linked);
     }
 
 back : (len : ℕ) (items cut : List Entry) → cut ≡ take len items → len ≤ length items → AddsTo (reverse cut) (reverse items)
 back len items cut is h = subst (λ rows. AddsTo rows (reverse items)) (sym (ap reverse is ∙ taken_back len items h)) (adds_dropped _ (reverse items))
 
-pub returns-clause-adds : goal.returns-clause-adds
-returns-clause-adds c = back c.args.len c.args.self.now.entries.items _ c.truncate.ensures.items (omega (arith, c.requires, length-reverse c.args.self.now.entries.items))
+pub returns-then-len-clause-adds : goal.returns-then-len-clause-adds
+returns-then-len-clause-adds c = back c.args.len c.args.self.now.entries.items _ c.truncate.ensures.items (omega (arith, c.requires, length-reverse c.args.self.now.entries.items))
 
-pub returns-clause-right : goal.returns-clause-right
-returns-clause-right c = λ right. right_before _ _ (back c.args.len c.args.self.now.entries.items _ c.truncate.ensures.items (omega (arith, c.requires, length-reverse c.args.self.now.entries.items))) right
+pub returns-then-len-clause-right : goal.returns-then-len-clause-right
+returns-then-len-clause-right c = λ right. right_before _ _ (back c.args.len c.args.self.now.entries.items _ c.truncate.ensures.items (omega (arith, c.requires, length-reverse c.args.self.now.entries.items))) right
 
-pub returns-clause-rows : goal.returns-clause-rows
-returns-clause-rows c = ap reverse c.truncate.ensures.items ∙ taken_back c.args.len c.args.self.now.entries.items (omega (arith, c.requires, length-reverse c.args.self.now.entries.items))
+pub returns-then-len-clause-rows : goal.returns-then-len-clause-rows
+returns-then-len-clause-rows c = ap reverse c.truncate.ensures.items ∙ taken_back c.args.len c.args.self.now.entries.items (omega (arith, c.requires, length-reverse c.args.self.now.entries.items))
