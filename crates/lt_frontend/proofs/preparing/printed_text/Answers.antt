@@ -11,4 +11,4 @@ returns-in_err-program-clause-refused c =
     rw (p.1, p.2) (text_told (λ reason. IsPrintedAnswer c.args.text.now (Err reason)) c.args.text.now c.in_err-program.field-0.0 (λ why is. IsPrintedAnswer.no_program why is) c.in_err-program.ensures.refused)
 
 pub returns-clause-made : goal.returns-clause-made
-returns-clause-made c = print_told c.args.text.now (string_bytes c.in_ok-print.field-0) (program c.in_ok-program.program) c.in_ok-program.ensures.found c.in_ok-print.ensures
+returns-clause-made c = print_told c.args.text.now (string_bytes c.in_ok-printed.printed) (program c.in_ok-program.program) c.in_ok-program.ensures.found c.in_ok-printed.ensures
