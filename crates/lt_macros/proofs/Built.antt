@@ -168,7 +168,7 @@ part_row-list : {m : Count} (row : Row_of-Part m) → part_row row ≡ items_ont
 part_row-list end_of-Part = refl
 part_row-list (more_of-Part w a rest) = ap (x.part (placed w) (expanded a)) (part_row-list rest)
 
-parts_list : (ps : Parts) → parts ps ≡ items_onto (out-Parts ps).items.items x.no_part
+pub parts_list : (ps : Parts) → parts ps ≡ items_onto (out-Parts ps).items.items x.no_part
 unfolding out-Parts out shown-the_row-Part-0
 parts_list (Parts' shape row) = part_row-list row ∙ ap (λ items. items_onto items x.no_part) (sym (items_shown-the_row-Part-0 shape row))
 

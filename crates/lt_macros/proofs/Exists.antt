@@ -112,5 +112,5 @@ local_put number less items left local inside box all is few next boxed so_far =
     ∙ so_far
 
 -- what is inside is less work
-pub exist_less : (env inner : Environment ℕ) (gs : Groupings) (t : Trace) → ((body : Environment ℕ → ℕ) → body inner ≤ groups_work env gs body) → 5 * trace_work inner t + 3 < 5 * trace_work env (s.exist gs t)
+pub exist_less : (env inner : Environment ℕ) (gs : Groupings) (t : Trace) → ((body : Environment ℕ → ℕ) → body inner ≤ groups_work env gs body) → 5 * trace_work inner t + 4 < 5 * trace_work env (s.exist gs t)
 exist_less env inner gs t work = let some = work (λ e. trace_work e t) in omega (arith, some)

@@ -21,5 +21,7 @@ pub mod Built
 pub mod Exists
 pub mod Numbering
 pub mod Locals
+pub mod Measured
+pub mod Asked
 pub mod Nodes
 pub mod Named

@@ -17,6 +17,7 @@ pub mod Tallies
 pub mod Counting
 pub mod Started
 pub mod Leads
+pub mod Measured
 pub mod Shape
 pub mod Steps
 pub mod Parameters

@@ -104,6 +104,27 @@ pub(crate) fn build_trace<'a>(
         numbered b ≡ as_trace (phrase_at builder.old environment phrase.entry)
         (numbers_view numbers)) }
 {
+    let reach = builder.reach;
+    builder.enter_term()?;
+    let built = build_met(builder, numbers, environment, phrase)?;
+    builder.leave_to(reach);
+    Ok(built)
+}
+
+// What is met of a phrase as a trace, before which so much stands.
+#[cycle(build_trace)]
+#[inline(always)]
+fn build_met<'a>(
+    builder: &mut Builder<'a>,
+    numbers: Numbers,
+    environment: usize,
+    phrase: Phrase<'a>,
+) -> Result<Numbered, Memory>
+    requires { IsReady builder.old environment }
+    ensures { Builds builder.old builder.new result (λ b.
+        numbered b ≡ as_trace (phrase_at builder.old environment phrase.entry)
+        (numbers_view numbers)) }
+{
     let before = builder.scope.len();
     let form = reduce(
         &mut builder.scope,
@@ -213,10 +234,13 @@ fn build_behind<'a>(
         return build_nothing(builder.alloc, numbers);
     };
     if rest.is_empty() {
-        build_trace(builder, numbers, environment, Phrase::Trace(first))
-    } else {
-        build_joined(builder, numbers, environment, join, first, rest)
+        return build_trace(builder, numbers, environment, Phrase::Trace(first));
     }
+    let reach = builder.reach;
+    builder.enter_term()?;
+    let built = build_joined(builder, numbers, environment, join, first, rest)?;
+    builder.leave_to(reach);
+    Ok(built)
 }
 
 // One of several traces.

@@ -25,7 +25,7 @@ use crate::limit::Limit;
 use crate::numbers::Numbers;
 use crate::position::Position;
 use crate::scope::{Phrase, Scope};
-use crate::tally::{MOST_NODES, Tally};
+use crate::tally::{MOST_NODES, Tally, deeper};
 use crate::variables::{Visible, show_name, show_names};
 use lt_ast::{Bounds, Expr, Group, Name, NodeDecl, Part, TraceExpr};
 use lt_formula::{Memory, Role};
@@ -103,13 +103,6 @@ struct Count<'a> {
 
     /// What was counted.
     tally: Tally,
-}
-
-// One deeper. No text that fits in memory is too deep.
-fn deeper(depth: u32) -> Result<u32, Memory>
-    ensures { IfOk result (λ below. below ≡ depth + 1) }
-{
-    depth.checked_add(1).ok_or(Memory)
 }
 
 // Puts a part before those that are left.

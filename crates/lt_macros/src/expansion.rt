@@ -1,16 +1,19 @@
 //! From a program to the tree that a node of it stands for.
 
+ghost use Rattle.std.specs.Prelude.{IfOk};
 ghost use Rattle.lt_ast.specs.View.{program as declarations};
 ghost use Rattle.lt_macros.specs.Answer.{IsAnswer, asked_name};
 ghost use Rattle.lt_macros.specs.Expansion.{expanded_node};
 
 use crate::build::build_node;
-use crate::builder::Builder;
+use crate::builder::{Builder, Reach};
 use crate::counting::passed_limit;
 use crate::declarations::asked_node;
+use crate::measuring::limit_of;
 use crate::refusal::NodeRefusal;
 use crate::scope::Scope;
 use crate::tree::Node;
+use lt_formula::Memory;
 use lt_types::Typed;
 use std::alloc::Global;
 
@@ -20,7 +23,7 @@ use std::alloc::Global;
 /// # Errors
 ///
 /// [`NodeRefusal::UnknownNode`] where no node has the name, [`NodeRefusal::TooLarge`] with the first limit that the
-/// node is past, which is found before the tree is built, and [`NodeRefusal::Memory`] where memory ran out.
+/// node is past, of whose tree no more is built than the limits allow, and [`NodeRefusal::Memory`] where memory ran out.
 pub fn expanded_node(
     alloc: Global,
     typed: &Typed,
@@ -35,13 +38,35 @@ pub fn expanded_node(
         return Err(NodeRefusal::UnknownNode);
     };
     let (environment, node) = (asked.environment, asked.node);
-    if let Some(limit) = passed_limit(alloc, &mut scope, environment, node)? {
-        return Err(NodeRefusal::TooLarge(limit));
-    }
     let builder = Builder {
         alloc,
         scope,
         decimals: typed.decimals(),
+        reach: Reach::within_limits(),
     };
-    Ok(build_node(builder, environment, node)?)
+    // Hardly any node is past a limit, so the tree is built first, as far as they allow.
+    match build_node(builder, environment, node) {
+        Ok(made) => match limit_of(&made)? {
+            None => Ok(made),
+            Some(limit) => Err(NodeRefusal::TooLarge(limit)),
+        },
+        Err(Memory) => Err(refusal(alloc, typed, wanted)?),
+    }
+}
+
+// Why the node that is asked for isn't built: the first limit that it is past, or else memory.
+fn refusal(alloc: Global, typed: &Typed, wanted: Option<&str>) -> Result<NodeRefusal, Memory>
+    ensures { IfOk result (λ refusal.
+        IsAnswer (expanded_node typed.now.decimals (asked_name wanted.entry)
+        (declarations typed.now.program)) (Err refusal)) }
+{
+    let mut scope = Scope::new(alloc);
+    let decls = &typed.program().decls;
+    let Some(asked) = asked_node(&mut scope, decls, wanted)? else {
+        return Ok(NodeRefusal::UnknownNode);
+    };
+    if let Some(limit) = passed_limit(alloc, &mut scope, asked.environment, asked.node)? {
+        return Ok(NodeRefusal::TooLarge(limit));
+    }
+    Ok(NodeRefusal::Memory)
 }

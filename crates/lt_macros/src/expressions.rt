@@ -29,6 +29,25 @@ pub(crate) fn build_expr<'a>(
     ensures { Builds builder.old builder.new result (λ e.
         placed e ≡ as_expression (phrase_at builder.old environment phrase.entry)) }
 {
+    let reach = builder.reach;
+    builder.enter_expression()?;
+    let expr = build_met(builder, environment, phrase)?;
+    builder.leave_to(reach);
+    Ok(expr)
+}
+
+// What is met of a phrase as an expression.
+#[cycle(build_expr)]
+#[inline(always)]
+fn build_met<'a>(
+    builder: &mut Builder<'a>,
+    environment: usize,
+    phrase: Phrase<'a>,
+) -> Result<Placed, Memory>
+    requires { IsReady builder.old environment }
+    ensures { Builds builder.old builder.new result (λ e.
+        placed e ≡ as_expression (phrase_at builder.old environment phrase.entry)) }
+{
     let before = builder.scope.len();
     let form = reduce(
         &mut builder.scope,

@@ -3,8 +3,8 @@
 //! What a node of a program stands for is defined by recursion on its syntax, in `specs/Expansion.antt`: a
 //! name means what it was declared as where it is written, a parameter means its argument, and a macro is a
 //! function of what its arguments mean. The result is a tree whose parts have their places in the text
-//! (`specs/Expanded.antt`). [`expanded_node`] counts a node against the limits of `specs/Limits.antt` before it
-//! builds the tree.
+//! (`specs/Expanded.antt`). [`expanded_node`] builds the tree no further than the limits of `specs/Limits.antt` reach, and
+//! counts it against them; a node that grows past them is counted without being built.
 //!
 //! The functions that build a tree call one another once for each level of a text. Those of them, and of what they
 //! call, that are marked `inline(never)` are marked for the stack: so a level takes the stack of the one construct that
@@ -25,6 +25,7 @@ mod key;
 mod laws;
 mod limit;
 mod literals;
+mod measuring;
 mod numbers;
 mod position;
 mod refusal;

@@ -11,10 +11,10 @@ use lt_formula::Memory;
 pub(crate) const MOST_NODES: u32 = 100_000;
 
 /// How deep terms may stand in one another.
-const MOST_TERM_DEPTH: u32 = 1000;
+pub(crate) const MOST_TERM_DEPTH: u32 = 1000;
 
 /// How deep an expression may be.
-const MOST_EXPRESSION_DEPTH: u32 = 5000;
+pub(crate) const MOST_EXPRESSION_DEPTH: u32 = 5000;
 
 /// The most alternatives that a choice may have.
 const MOST_ALTERNATIVES: usize = 64;
@@ -53,6 +53,13 @@ fn plus(number: u32, more: u32) -> Result<u32, Memory>
     ensures { IfOk result (λ sum. sum ≡ number + more) }
 {
     number.checked_add(more).ok_or(Memory)
+}
+
+// One deeper. No text that fits in memory is too deep.
+pub(crate) fn deeper(depth: u32) -> Result<u32, Memory>
+    ensures { IfOk result (λ below. below ≡ depth + 1) }
+{
+    depth.checked_add(1).ok_or(Memory)
 }
 
 impl Tally {

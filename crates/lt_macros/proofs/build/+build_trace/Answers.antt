@@ -13,7 +13,7 @@ use Rattle.lt_macros.specs.inner.Builder.{IsKept, IsReady, form_denotation, name
 use Rattle.lt_macros.specs.inner.Built.{AreBuilt, in_all, numbered}
 use Rattle.lt_macros.specs.inner.Numbers.{numbers_view}
 use Rattle.lt_macros.specs.inner.Phrase.{joined, joined_by, trace}
-use Rattle.lt_macros.specs.inner.Reading.{meant, phrase_view}
+use Rattle.lt_macros.specs.inner.Reading.{meant, phrase_view, worked}
 use Rattle.lt_macros.specs.inner.Rows.{rows}
 use Rattle.lt_macros.specs.Tree.{bounds, declared, expanded}
 use Rattle.lt_macros.specs.inner.Work.{alternatives_work, trace_work, traces_work}
@@ -55,7 +55,7 @@ build_assert-returns t c =
 
 pub build_exist-build_trace-requires : goal.build_exist-build_trace-requires
 build_exist-build_trace-requires t c =
-    let less : 5 * trace_work (work_at c.declare_groups.new.builder c.in_ok-locals.locals.environment) (trace_view c.args.body.now) + 3 < 5 * trace_work (work_at c.args.builder.now c.args.environment) (s.exist (groupings c.args.groups.now) (trace_view c.args.body.now)) =
+    let less : 5 * trace_work (work_at c.declare_groups.new.builder c.in_ok-locals.locals.environment) (trace_view c.args.body.now) + 4 < 5 * trace_work (work_at c.args.builder.now c.args.environment) (s.exist (groupings c.args.groups.now) (trace_view c.args.body.now)) =
     exist_less (work_at c.args.builder.now c.args.environment) (work_at c.declare_groups.new.builder c.in_ok-locals.locals.environment) (groupings c.args.groups.now) (trace_view c.args.body.now) c.in_ok-locals.ensures.work in
     search (rules, less)
 
@@ -93,7 +93,7 @@ build_parts-build_trace-requires t c =
     let here = ap (λ names. trace_work names (trace_view c.part-item.result.body)) (work_kept c.args.builder.now c.build_weight.new.builder c.args.environment kept) in
     let some : trace_work (work_at c.args.builder.now c.args.environment) (trace_view c.part-item.result.body) < alternatives_work (work_at c.args.builder.now c.args.environment) (alternatives_of (map part_of c.args.written.now)) =
     (part_worked (work_at c.args.builder.now c.args.environment) c.args.written.now c.loop-part.part-index c.part-item.result _ more c.part-item.is c.loop-part.invariant.work).0 in
-    let less : 5 * trace_work (work_at c.build_weight.new.builder c.args.environment) (trace_view c.part-item.result.body) + 3 < 5 * alternatives_work (work_at c.args.builder.now c.args.environment) (alternatives_of (map part_of c.args.written.now)) = omega (arith, here, some) in
+    let less : 5 * trace_work (work_at c.build_weight.new.builder c.args.environment) (trace_view c.part-item.result.body) + 4 < 5 * alternatives_work (work_at c.args.builder.now c.args.environment) (alternatives_of (map part_of c.args.written.now)) = omega (arith, here, some) in
     search (rules, less, ready)
 
 pub build_parts-loop-part-preserved : goal.build_parts-loop-part-preserved
@@ -126,8 +126,25 @@ build_choice-build_parts-requires t c =
     let less : 5 * alternatives_work env (alternatives_of (map part_of c.deref.result.now)) < 5 * alternatives_work env (alternatives c.args.written.now) + 1 = omega (arith, same) in
     search (rules, less)
 
+pub build_trace-build_met-requires : goal.build_trace-build_met-requires
+build_trace-build_met-requires t c =
+    let kept : IsKept c.args.builder.now c.enter_term.new.self = c.in_ok-enter_term.ensures in
+    let same = ap (λ names. worked.phrase names (phrase_view c.args.phrase)) (work_kept c.args.builder.now c.enter_term.new.self c.args.environment kept) in
+    let less : 5 * worked.phrase (work_at c.enter_term.new.self c.args.environment) (phrase_view c.args.phrase) + 3 < 5 * worked.phrase (work_at c.args.builder.now c.args.environment) (phrase_view c.args.phrase) + 4 = omega (arith, same) in
+    let ready = ready_kept _ _ _ kept c.requires in
+    search (rules, less, ready)
+
 pub build_trace-returns : goal.build_trace-returns
 build_trace-returns t c =
+    let kept : IsKept c.args.builder.now c.enter_term.new.self = c.in_ok-enter_term.ensures in
+    record {
+      made =
+          built_where c.args.builder.now c.enter_term.new.self c.args.environment (phrase_view c.args.phrase) (numbers_view c.args.numbers) (numbers_view c.args.numbers) (numbered c.in_ok-built.built) kept refl c.in_ok-built.ensures.made;
+      kept = kept_both _ _ _ kept (kept_both _ _ _ c.in_ok-built.ensures.kept c.leave_to.ensures);
+    }
+
+pub build_met-returns : goal.build_met-returns
+build_met-returns t c =
     record {
       made = c.in_ok-built.ensures.made ∙ seen_trace _ _ (c.in_ok-form.ensures.denotation c.args.builder.now.decimals);
       kept =
@@ -175,17 +192,20 @@ pub build_behind-build_trace-requires : goal.build_behind-build_trace-requires
 build_behind-build_trace-requires t c =
     let env = work_at c.args.builder.now c.args.environment in
     let whole = joined_worked env c.args.traces.now c.in-Some.first.now c.in-Some.rest.now c.in-Some.ensures.cases.0 in
-    let less : 5 * trace_work env (trace_view c.in-Some.first.now) + 3 < 5 * traces_work env (traces_of (map trace_view c.args.traces.now)) + 2 = omega (arith, whole) in
+    let less : 5 * trace_work env (trace_view c.in-Some.first.now) + 4 < 5 * traces_work env (traces_of (map trace_view c.args.traces.now)) + 2 = omega (arith, whole) in
     search (rules, less)
 
 pub build_behind-build_joined-requires : goal.build_behind-build_joined-requires
 build_behind-build_joined-requires t c =
+    let kept : IsKept c.args.builder.now c.enter_term.new.self = c.in_ok-enter_term.ensures in
     let env = work_at c.args.builder.now c.args.environment in
     let whole = joined_worked env c.args.traces.now c.in-Some.first.now c.in-Some.rest.now c.in-Some.ensures.cases.0 in
-    let less : 5 * traces_work env (s.one_trace (trace_view c.in-Some.first.now) (traces_of (map trace_view c.in-Some.rest.now))) + 1 < 5 * traces_work env (traces_of (map trace_view c.args.traces.now)) + 2 = omega (arith, whole) in
+    let same = ap (λ names. traces_work names (s.one_trace (trace_view c.in-Some.first.now) (traces_of (map trace_view c.in-Some.rest.now)))) (work_kept c.args.builder.now c.enter_term.new.self c.args.environment kept) in
+    let less : 5 * traces_work (work_at c.enter_term.new.self c.args.environment) (s.one_trace (trace_view c.in-Some.first.now) (traces_of (map trace_view c.in-Some.rest.now))) + 1 < 5 * traces_work env (traces_of (map trace_view c.args.traces.now)) + 2 = omega (arith, whole, same) in
     let not_none = eqb-false _ _ (sym c.is_empty.ensures ∙ c.if-is_empty.false) in
     let some : 0 < length c.in-Some.rest.now = omega (arith, not_none) in
-    search (rules, less, some)
+    let ready = ready_kept _ _ _ kept c.requires in
+    search (rules, less, some, ready)
 
 pub build_behind-returns-in_default : goal.build_behind-returns-in_default
 build_behind-returns-in_default t c =
@@ -202,11 +222,18 @@ build_behind-returns-then-is_empty t c =
     let one = joined_one env (joined_by c.args.join) c.args.traces.now c.in-Some.first.now c.in-Some.rest.now (numbers_view c.args.numbers) c.in-Some.ensures.cases.0 none in
     IfOk-weaker c.build_trace.result _ _ (λ _ built. record { made = built.made ∙ one; kept = built.kept }) c.build_trace.ensures
 
-pub build_behind-returns-else-is_empty : goal.build_behind-returns-else-is_empty
-build_behind-returns-else-is_empty t c =
+pub build_behind-returns : goal.build_behind-returns
+build_behind-returns t c =
+    let kept : IsKept c.args.builder.now c.enter_term.new.self = c.in_ok-enter_term.ensures in
     let env = names_at c.args.builder.now c.args.environment in
     let more = joined_more env (joined_by c.args.join) c.args.traces.now c.in-Some.first.now c.in-Some.rest.now (numbers_view c.args.numbers) c.in-Some.ensures.cases.0 in
-    IfOk-weaker c.build_joined.result _ _ (λ _ built. record { made = built.made ∙ more; kept = built.kept }) c.build_joined.ensures
+    record {
+      made =
+          c.in_ok-built.ensures.made
+          ∙ ap (λ names. as_trace (traces_denotation names (joined_by c.args.join) (s.one_trace (trace_view c.in-Some.first.now) (traces_of (map trace_view c.in-Some.rest.now)))) (numbers_view c.args.numbers)) (names_kept c.args.builder.now c.enter_term.new.self c.args.environment kept)
+          ∙ more;
+      kept = kept_both _ _ _ kept (kept_both _ _ _ c.in_ok-built.ensures.kept c.leave_to.ensures);
+    }
 
 pub build_choice-returns : goal.build_choice-returns
 build_choice-returns t c =
@@ -220,5 +247,5 @@ build_choice-returns t c =
     ∙ (λ i. chosen (parts_of env (list i) (c.in_ok-inside.ensures i))))
     c.put_choice.ensures)
 
-pub build_trace-truncate-requires : goal.build_trace-truncate-requires
-build_trace-truncate-requires t c = enough _ _ _ _ c.in_ok-form.ensures.adds c.in_ok-built.ensures.kept.names c.len-before.ensures
+pub build_met-truncate-requires : goal.build_met-truncate-requires
+build_met-truncate-requires t c = enough _ _ _ _ c.in_ok-form.ensures.adds c.in_ok-built.ensures.kept.names c.len-before.ensures

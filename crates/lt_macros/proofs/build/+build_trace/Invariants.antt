@@ -16,7 +16,10 @@ use Rattle.lt_macros.proofs.build.+build_trace.Given as goal
 
 -- what is left to do is less
 abbrev pub decreases-build_trace : goal.decreases-build_trace
-decreases-build_trace l = 5 * worked.phrase (work_at l.builder.now l.environment) (phrase_view l.phrase) + 3
+decreases-build_trace l = 5 * worked.phrase (work_at l.builder.now l.environment) (phrase_view l.phrase) + 4
+
+abbrev pub decreases-build_met : goal.decreases-build_met
+decreases-build_met l = 5 * worked.phrase (work_at l.builder.now l.environment) (phrase_view l.phrase) + 3
 
 abbrev pub decreases-build_trace_form : goal.decreases-build_trace_form
 decreases-build_trace_form l = 5 * form_reads worked (rows l.builder.now.scope) l.form + 2

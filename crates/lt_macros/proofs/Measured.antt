@@ -1,0 +1,48 @@
+-- Figures of what lists of the code have.
+use Rattle.std.proofs.Common.{◌≡◌, ◌<◌, ◌≤◌, ◌+◌, ℕ, zero, suc, List, [], ◌∷◌, length, map, take, get_or, refl, ap, sym, ◌∙◌, arith}
+use Rattle.lt_macros.specs.Expanded as x
+use Rattle.lt_macros.specs.Nodes.{parts_count}
+use Rattle.lt_macros.specs.Tree.{declared, expanded, parts, placed}
+use Rattle.lt_macros.specs.inner.Figures.{Figure, expanded_figure, expression_figure, first_figure, parts_figure, variables_figure}
+use Rattle.lt_macros.specs.inner.Measured.{alternatives_figure}
+use Rattle.lt_macros.specs.declared.tree.Declared.{Declared}
+use Rattle.lt_macros.specs.declared.tree.Part.{Part}
+use Rattle.lt_macros.specs.declared.tree.Parts.{Parts, out-Parts}
+use Rattle.lt_macros.specs.inner.Built.{items_onto}
+use Rattle.lt_macros.proofs.Built.{parts_list}
+
+-- one more alternative
+pub alternative_more : (f : Figure) (depth : ℕ) (ps : List Part) (i : ℕ) (p : Part) → i < length ps → p ≡ get_or ps i p
+    → alternatives_figure f depth (take (i + 1) ps) ≡ alternatives_figure f depth (take i ps) + (expression_figure f 1 (placed p.weight) + expanded_figure f depth (expanded p.body))
+alternative_more f depth [] i p h is = absurd (omega arith)
+alternative_more f depth (q ∷ ps) zero p h is = omega (arith, ap (λ (r : Part). expression_figure f 1 (placed r.weight)) is, ap (λ (r : Part). expanded_figure f depth (expanded r.body)) is)
+alternative_more f depth (q ∷ ps) (suc i) p h is =
+    let next : suc i + 1 ≡ suc (i + 1) = omega arith in
+    let more : alternatives_figure f depth (take (suc i + 1) (q ∷ ps)) ≡ expression_figure f 1 (placed q.weight) + (expanded_figure f depth (expanded q.body) + alternatives_figure f depth (take (i + 1) ps)) = ap (λ n. alternatives_figure f depth (take n (q ∷ ps))) next in
+    omega (arith, more, alternative_more f depth ps i p (omega arith) is)
+
+-- one more variable
+pub variable_more : (f : Figure) (ds : List Declared) (i : ℕ) (d : Declared) → i < length ds → d ≡ get_or ds i d
+    → variables_figure f (map declared (take (i + 1) ds)) ≡ variables_figure f (map declared (take i ds)) + first_figure f (declared d).first
+variable_more f [] i d h is = absurd (omega arith)
+variable_more f (e ∷ ds) zero d h is = omega (arith, ap (λ (r : Declared). first_figure f (declared r).first) is)
+variable_more f (e ∷ ds) (suc i) d h is =
+    let next : suc i + 1 ≡ suc (i + 1) = omega arith in
+    let more : variables_figure f (map declared (take (suc i + 1) (e ∷ ds))) ≡ first_figure f (declared e).first + variables_figure f (map declared (take (i + 1) ds)) = ap (λ n. variables_figure f (map declared (take n (e ∷ ds)))) next in
+    omega (arith, more, variable_more f ds i d (omega arith) is)
+
+listed : (f : Figure) (depth : ℕ) (ps : List Part) → parts_figure f depth (items_onto ps x.no_part) ≡ alternatives_figure f depth ps
+listed f depth [] = refl
+listed f depth (p ∷ ps) = ap (λ n. expression_figure f 1 (placed p.weight) + (expanded_figure f depth (expanded p.body) + n)) (listed f depth ps)
+
+-- all alternatives are those of the tree
+pub alternatives_are : (f : Figure) (depth : ℕ) (p : Parts) (items : List Part) → items ≡ (out-Parts p).items.items → parts_figure f depth (parts p) ≡ alternatives_figure f depth items
+alternatives_are f depth p items is = ap (parts_figure f depth) (parts_list p) ∙ listed f depth (out-Parts p).items.items ∙ ap (alternatives_figure f depth) (sym is)
+
+counted_are : (ps : List Part) → parts_count (items_onto ps x.no_part) ≡ length ps
+counted_are [] = refl
+counted_are (p ∷ ps) = ap suc (counted_are ps)
+
+-- they are as many
+pub alternatives_count : (p : Parts) (items : List Part) → items ≡ (out-Parts p).items.items → parts_count (parts p) ≡ length items
+alternatives_count p items is = ap parts_count (parts_list p) ∙ counted_are (out-Parts p).items.items ∙ ap length (sym is)
