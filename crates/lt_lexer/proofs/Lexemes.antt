@@ -1,6 +1,8 @@
 -- What tokens are read as.
-use Rattle.std.proofs.Common.{◌≡◌, ℕ, ◌+◌, ◌-◌, ◌<◌, List, [], ◌∷◌, ◌++◌, length, drop, take, refl, ap, sym, ◌∙◌, arith, subst, Some, None, Ok, length-append, IsTrue}
+use Rattle.std.proofs.Common.{◌≡◌, ℕ, ◌+◌, ◌-◌, ◌<◌, List, [], ◌∷◌, ◌++◌, length, drop, take, refl, ap, sym, ◌∙◌, arith, subst, Some, None, Ok, length-append}
+use Rattle.std.specs.Option.{unwrap_or}
 use Rattle.std.proofs.lemmas.List.{drop_at, take_at}
+use Rattle.lt_num.specs.Literal.{IsNumber}
 use Rattle.lt_ast.specs.declared.sign.Sign.{Sign}
 use Rattle.lt_ast.specs.declared.sign.Sign.TheVariants as s
 use Rattle.lt_ast.specs.Signs.{spelled}
@@ -16,28 +18,38 @@ use Rattle.lt_lexer.specs.declared.token.TokenKind.TheVariants as kind
 use Rattle.lt_lexer.proofs.Divisions.{bytes_some}
 use Rattle.lt_lexer.proofs.Places.{all_bytes, divides-all_bytes}
 use Rattle.lt_lexer.proofs.Progress.{ReadSoFar, first_of, token_read, none_read, all_read}
-use Rattle.lt_lexer.proofs.Signs.{symbol_found, word_sign}
-use Rattle.lt_lexer.proofs.Symbols.{has_letters, spelled-bytes}
+use Rattle.lt_lexer.proofs.Signs.{found_sign, symbol_found, word_sign}
 
 -- ONE TOKEN
 
--- A sign that is found by its letters is that of no number.
-pub found_no_number : (w : List ℕ) (sign : Sign) → sign_spelled w ≡ Some sign → sign ≡ s.Number → ⊥
-found_no_number w sign e n = let P : Sign → Type 0 = λ x. IsTrue (has_letters x) in let untrue : IsTrue (has_letters s.Number) = subst P n (spelled-bytes w sign e).0 in cc untrue
+-- a token's sign is the one that is found, or else a name, by its kind, where it is no number
+found_by : (text : List ℕ) (t : Token) (k : TokenKind) (sign : Sign) → t.kind ≡ k → (k ≡ kind.Number → ⊥) → IsTokenOf text t → sign ≡ unwrap_or (sign_spelled (token_bytes text t)) s.Name → IsSign text t sign
+found_by text t kind.Word sign e n h is = word_sign text t (sign_spelled (token_bytes text t)) sign h e refl is
+found_by text t kind.Number sign e n h is = absurd (n refl)
+found_by text t kind.Symbol sign e n h is =
+    let it = symbol_found text t h e in
+    let P : Sign → Type 0 = IsSign text t in
+    subst P (sym (is ∙ ap (λ o. unwrap_or o s.Name) it.1)) (found_sign text t it.0 it.1)
 
--- Its letters are those of the token.
-pub found_letters : (w : List ℕ) (sign : Sign) → sign_spelled w ≡ Some sign → spelled sign ≡ w
-found_letters w sign e = sym (spelled-bytes w sign e).1
+-- The sign of a word or a symbol is the one that is found, or else a name.
+pub found_or_name : (text : List ℕ) (t : Token) (sign : Sign) → (t.kind ≡ kind.Number → ⊥) → IsTokenOf text t → sign ≡ unwrap_or (sign_spelled (token_bytes text t)) s.Name → IsSign text t sign
+found_or_name text t sign n h is = found_by text t t.kind sign refl n h is
 
--- a token of no sign with letters of its own is a name, by its kind, where it is no number
-unspelled_by : (text : List ℕ) (t : Token) (k : TokenKind) → t.kind ≡ k → (k ≡ kind.Number → ⊥) → IsTokenOf text t → sign_spelled (token_bytes text t) ≡ None → IsSign text t s.Name
-unspelled_by text t kind.Word e n h none = word_sign text t None s.Name h e none refl
-unspelled_by text t kind.Number e n h none = absurd (n refl)
-unspelled_by text t kind.Symbol e n h none = let it = symbol_found text t h e in let untrue : None ≡ Some it.0 = sym none ∙ it.1 in absurd (cc untrue)
+-- A sign other than a name and a number has the letters of its token.
+pub own_letters : (text : List ℕ) (t : Token) (sign : Sign) → IsSign text t sign → (sign ≡ s.Name → ⊥) → (sign ≡ s.Number → ⊥) → spelled sign ≡ token_bytes text t
+own_letters text t s.Name h n m = absurd (n refl)
+own_letters text t s.Number h n m = absurd (m refl)
+own_letters text t sign h n m = sym h
 
--- A word or a symbol of no sign with letters of its own is a name.
-pub unspelled_is_name : (text : List ℕ) (t : Token) → (t.kind ≡ kind.Number → ⊥) → IsTokenOf text t → sign_spelled (token_bytes text t) ≡ None → IsSign text t s.Name
-unspelled_is_name text t n h none = unspelled_by text t t.kind refl n h none
+-- The letters of a number are one.
+pub number_letters : (text : List ℕ) (t : Token) (sign : Sign) → IsTokenOf text t → IsSign text t sign → sign ≡ s.Number → IsNumber (token_bytes text t)
+number_letters text t sign h g e =
+    let P : Sign → Type 0 = IsSign text t in
+    let is : t.kind ≡ kind.Number = subst P e g in
+    record {
+      form = subst (λ k. IsToken k (token_bytes text t)) is h.is_token;
+      short = subst (λ k. IsShort k (token_bytes text t)) is h.short;
+    }
 
 -- WHERE A TOKEN STANDS
 

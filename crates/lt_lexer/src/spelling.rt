@@ -1,61 +1,74 @@
 //! Signs by their letters.
 
-ghost use Rattle.std.specs.Prelude.{◌≡◌, [], ◌∷◌};
+ghost use Rattle.std.specs.Prelude.{◌≡◌, [], ◌∷◌, nat_eq, if◌then◌else◌};
+ghost use Rattle.std.specs.Cmp.Lexicographic.{pointwise};
+ghost use Rattle.lt_ast.specs.Signs.{spelled};
 ghost use Rattle.lt_lexer.specs.inner.Spelling.{beginning_with, ends_pair, first_spelled, sign_spelled, first_symbol};
 
 use lt_ast::Sign;
 
-// The signs whose letters begin with a byte.
-fn beginning_with(byte: u8) -> &'static [Sign]
-    ensures { result.now ≡ beginning_with byte }
+// A sign, where it has these letters, and else what is found among others.
+#[inline(always)]
+fn this_or(sign: Sign, letters: &[u8], others: Option<Sign>) -> Option<Sign>
+    ensures { result
+        ≡ (if pointwise nat_eq (spelled sign) letters.now then Some sign else others) }
 {
-    match byte {
-        b'a' => &[Sign::Assert, Sign::And],
-        b'b' => &[Sign::Bool],
-        b'c' => &[Sign::Catch],
-        b'd' => &[Sign::Do, Sign::Div],
-        b'e' => &[Sign::Exist, Sign::Exception, Sign::Else],
-        b'f' => &[Sign::Fby, Sign::False],
-        b'i' => &[Sign::In, Sign::Int, Sign::If],
-        b'l' => &[Sign::Let, Sign::Loop],
-        b'm' => &[Sign::Mod],
-        b'n' => &[Sign::Node, Sign::Not],
-        b'o' => &[Sign::Or],
-        b'p' => &[Sign::Pre],
-        b'r' => &[Sign::Returns, Sign::Real, Sign::Ref, Sign::Raise, Sign::Run],
-        b't' => &[Sign::Trace, Sign::Trap, Sign::Try, Sign::Then, Sign::True],
-        b'x' => &[Sign::Xor],
-        b'(' => &[Sign::Open],
-        b')' => &[Sign::Close],
-        b'{' => &[Sign::OpenBrace],
-        b'}' => &[Sign::CloseBrace],
-        b'[' => &[Sign::OpenBracket],
-        b']' => &[Sign::CloseBracket],
-        b':' => &[Sign::Colon],
-        b';' => &[Sign::Semicolon],
-        b',' => &[Sign::Comma],
-        b'=' => &[Sign::Equal, Sign::Implies],
-        b'<' => &[Sign::Unequal, Sign::Less, Sign::LessEqual],
-        b'>' => &[Sign::Greater, Sign::GreaterEqual],
-        b'+' => &[Sign::Plus],
-        b'-' => &[Sign::Minus],
-        b'*' => &[Sign::Star],
-        b'/' => &[Sign::Slash],
-        b'|' => &[Sign::Bar, Sign::Priority],
-        b'&' => &[Sign::Parallel],
-        b'~' => &[Sign::Tilde],
-        _ => &[],
+    if sign.text().as_bytes() == letters {
+        return Some(sign);
     }
+    others
 }
 
 // The first of these signs that has these letters.
-fn first_spelled(signs: &[Sign], letters: &[u8]) -> Option<Sign>
-    ensures { result ≡ first_spelled letters.now signs.now }
+macro_rules! one_of {
+    ($letters:expr;) => { None };
+    ($letters:expr; $sign:ident $(, $others:ident)*) => {
+        this_or(Sign::$sign, $letters, one_of!($letters; $($others),*))
+    };
+}
+
+// The sign that has these letters, of which this is the first. Each is named, and not taken from a list, so that its
+// letters are known where they are compared.
+fn sign_beginning(first: u8, letters: &[u8]) -> Option<Sign>
+    ensures { result ≡ first_spelled letters.now (beginning_with first) }
 {
-    signs
-        .iter()
-        .copied()
-        .find(|sign| sign.text().as_bytes() == letters)
+    match first {
+        b'a' => one_of!(letters; Assert, And),
+        b'b' => one_of!(letters; Bool),
+        b'c' => one_of!(letters; Catch),
+        b'd' => one_of!(letters; Do, Div),
+        b'e' => one_of!(letters; Exist, Exception, Else),
+        b'f' => one_of!(letters; Fby, False),
+        b'i' => one_of!(letters; In, Int, If),
+        b'l' => one_of!(letters; Let, Loop),
+        b'm' => one_of!(letters; Mod),
+        b'n' => one_of!(letters; Node, Not),
+        b'o' => one_of!(letters; Or),
+        b'p' => one_of!(letters; Pre),
+        b'r' => one_of!(letters; Returns, Real, Ref, Raise, Run),
+        b't' => one_of!(letters; Trace, Trap, Try, Then, True),
+        b'x' => one_of!(letters; Xor),
+        b'(' => one_of!(letters; Open),
+        b')' => one_of!(letters; Close),
+        b'{' => one_of!(letters; OpenBrace),
+        b'}' => one_of!(letters; CloseBrace),
+        b'[' => one_of!(letters; OpenBracket),
+        b']' => one_of!(letters; CloseBracket),
+        b':' => one_of!(letters; Colon),
+        b';' => one_of!(letters; Semicolon),
+        b',' => one_of!(letters; Comma),
+        b'=' => one_of!(letters; Equal, Implies),
+        b'<' => one_of!(letters; Unequal, Less, LessEqual),
+        b'>' => one_of!(letters; Greater, GreaterEqual),
+        b'+' => one_of!(letters; Plus),
+        b'-' => one_of!(letters; Minus),
+        b'*' => one_of!(letters; Star),
+        b'/' => one_of!(letters; Slash),
+        b'|' => one_of!(letters; Bar, Priority),
+        b'&' => one_of!(letters; Parallel),
+        b'~' => one_of!(letters; Tilde),
+        _ => None,
+    }
 }
 
 // The sign that has this letter and no other: most symbols do.
@@ -93,7 +106,7 @@ pub fn sign_spelled(letters: &[u8]) -> Option<Sign>
     if letters.len() == 1 {
         return sign_of_letter(*first);
     }
-    first_spelled(beginning_with(*first), letters)
+    sign_beginning(*first, letters)
 }
 
 // Whether a sign of two letters may end with this byte. Most symbols have one letter, and are found without a look at

@@ -57,29 +57,34 @@ impl Token {
         requires { IsTokenOf text.now self.now }
         ensures { IsReadAs text.now self.now result }
     {
-        match self.kind {
-            TokenKind::Number => self.unspelled(text, Sign::Number),
-            TokenKind::Word | TokenKind::Symbol => match sign_spelled(self.bytes(text)) {
-                Some(sign) => Lexeme {
-                    sign,
-                    text: sign.text(),
-                    span: self.span,
-                },
-                None => self.unspelled(text, Sign::Name),
-            },
+        let sign = self.sign(text);
+        Lexeme {
+            sign,
+            text: self.spelling(text, sign),
+            span: self.span,
         }
     }
 
-    // The same, where its sign has no letters of its own.
-    fn unspelled<'a>(&self, text: &'a [u8], sign: Sign) -> Lexeme<'a>
+    // Which sign it is.
+    fn sign(&self, text: &[u8]) -> Sign
+        requires { IsTokenOf text.now self.now }
+        ensures { IsSign text.now self.now result }
+    {
+        match self.kind {
+            TokenKind::Number => Sign::Number,
+            _ => sign_spelled(self.bytes(text)).unwrap_or(Sign::Name),
+        }
+    }
+
+    // Its letters: those of its sign, where that has some of its own.
+    fn spelling<'a>(&self, text: &'a [u8], sign: Sign) -> &'a str
         requires token { IsTokenOf text.now self.now }
         requires sign { IsSign text.now self.now sign }
-        ensures { IsReadAs text.now self.now result }
+        ensures { result.now ≡ token_bytes text.now self.now }
     {
-        Lexeme {
-            sign,
-            text: self.letters(text),
-            span: self.span,
+        match sign {
+            Sign::Name | Sign::Number => self.letters(text),
+            _ => sign.text(),
         }
     }
 }
