@@ -11,15 +11,16 @@ use Rattle.lt_tally.proofs.Public.{seq_row}
 use Rattle.lt_term.specs.Process.{Process}
 use Rattle.lt_term.specs.Tree.{branch, leaf, no_branch, ordered, vanish, nothing, Weight, weighted, with_leaves}
 use Rattle.lt_term.specs.Size.{capped}
-use Rattle.lt_track.specs.Marks.{is_new, marked}
+use Rattle.lt_track.specs.Marks.{is_new, marked, con_at, seq_at, loop_at, count_at, any_at, pri_at, par_at, assert_at, exist_at, catch_at, try_at}
+use Rattle.lt_track.specs.Start.{IsUnbegun}
 use Rattle.lt_track.specs.Tallied.{IsTallyOf, IsRaisedBy, IsRaisedAt, IsRaisedIn, IsRaisedWhile, extent_in, extent_of, IsWhole, IsRest, IsTallied, HasTalliedParts, keeping}
-use Rattle.lt_track.specs.View.{body, standing, begun}
+use Rattle.lt_track.specs.View.{body, choices_of, standing, standing_each, begun}
 use Rattle.lt_track.specs.declared.extent.Extent.{Extent}
 use Rattle.lt_track.specs.declared.track.Mark.{Mark}
 use Rattle.lt_track.specs.declared.track.Mark.TheVariants as mark
 use Rattle.lt_track.specs.declared.track.Marks.{Marks}
 use Rattle.lt_track.specs.declared.track.Track.{Track}
-use Rattle.lt_track.specs.declared.track.Track.TheVariants.{Eps, Dead, Con, Raise, Catch'}
+use Rattle.lt_track.specs.declared.track.Track.TheVariants.{Eps, Dead, Con, Raise, Seq', Loop', Count', Any', Pri', Par', Assert', Exist', Catch', Try'}
 
 -- What is known of a track whose nodes keep what is right.
 
@@ -110,6 +111,33 @@ keeps_rest e Dead w h r p = tt
 keeps_rest e (Raise z) w h r p = tt
 keeps_rest e (Con m c) w h r p = (w, (h, tt), tt)
 keeps_rest e t w h r p = (w, (h, r), p)
+
+-- What a track that has not begun keeps of all that is to be done is right of what is still to be done.
+
+pub begins : (t : Track) → IsUnbegun t → standing t ≡ body t
+begins Eps u = refl
+begins Dead u = refl
+begins (Con m c) u = ap (λ x. con_at x c) u
+begins (Raise z) u = refl
+begins (Seq' m p a q b) u = ap (λ x. seq_at x (body a) (body b) (standing a) (standing b)) u
+begins (Loop' m p t) u = ap (λ x. loop_at x (body t) (standing t)) u
+begins (Count' m i p t) u = ap (λ x. count_at x i (body t) (standing t)) u
+begins (Any' m p ps) u = ap (λ x. any_at x (choices_of ps) (standing_each ps)) u
+begins (Pri' m p a q b) u = ap (λ x. pri_at x (body a) (body b) (standing a) (standing b)) u
+begins (Par' m p a q b) u = ap (λ x. par_at x (body a) (body b) (standing a) (standing b)) u
+begins (Assert' m c p t) u = ap (λ x. assert_at x c (body t) (standing t)) u
+begins (Exist' m x p t) u = ap (λ y. exist_at y x (body t) (standing t)) u
+begins (Catch' m z p t q h) u = ap (λ x. catch_at x z (body t) (body h) (standing t) (standing h)) u
+begins (Try' m p t q h) u = ap (λ x. try_at x (body t) (body h) (standing t) (standing h)) u
+
+begins_raised : (e : Extent) (n : ℕ) (t : Track) → IsUnbegun t → IsRaisedWhile true n t → IsRaisedWhile false n (keeping true e t)
+begins_raised e n (Catch' m z p t q h) u r = subst (λ x. IsRaisedAt x n z (body t) (standing t)) (sym u) r
+begins_raised e n t u r = tt
+
+pub keeps_both : (e : Extent) (t : Track) → IsUnbegun t → IsTallyOf e.tally (body t) → IsRaisedWhile true e.raised t → HasTalliedParts t → IsTallied (keeping false e (keeping true e t))
+keeps_both e t u h r p =
+    let stands = keeping-standing true e t ∙ begins t u in
+    keeps_rest e (keeping true e t) (keeps_whole e t h r) (subst (IsTallyOf e.tally) (sym stands) h) (begins_raised e e.raised t u r) (keeping-parts true e t p)
 
 -- a tally of trees is one of equal trees
 pub over_kinds : (k : Tally) (u : List Kind → TermTree ℕ) (p : Process ℕ) → ((kinds : List Kind) → offers_of kinds p ≡ u kinds) → ((kinds : List Kind) → IsTally k (u kinds)) → IsTallyOf k p

@@ -6,6 +6,7 @@ ghost use Rattle.lt_term.specs.Offers.{offers_of};
 ghost use Rattle.lt_term.specs.Process.{any, count, dead, loop};
 ghost use Rattle.lt_term.specs.Size.{capped};
 ghost use Rattle.lt_term.specs.Tree.{size};
+ghost use Rattle.lt_track.specs.Start.{IsUnbegun};
 ghost use Rattle.lt_track.specs.Tallied.{AreTallied, HasTalliedParts, IsRaisedWhile, IsTallied, IsTallyOf, IsWhole, extent_in, extent_of, keeping, with_extent};
 ghost use Rattle.lt_track.specs.View.{begun, body, choices_of, standing, standing_each};
 
@@ -257,16 +258,19 @@ fn tally_among(parts: &Parts) -> Tally
     }
 }
 
-/// Finds out how large what a term offers is, at its beginning and where a run stands, and keeps it.
+/// Finds out how large what a term that hasn't begun offers is, and keeps it: what is still to be done is all of it. It is
+/// marked `inline(never)` for the stack of those that make a track, level by level.
+#[inline(never)]
 pub(crate) fn begin(track: &mut Track)
-    requires { HasTalliedParts track.old }
+    requires parts { HasTalliedParts track.old }
+    requires unbegun { IsUnbegun track.old }
     ensures same_body { body track.new ≡ body track.old }
-    ensures same_standing { standing track.new ≡ standing track.old }
+    ensures begins { standing track.new ≡ body track.new }
     ensures tallied { IsTallied track.new }
 {
     let whole = extent_of(track, true);
     keep(track, true, whole);
-    settle(track);
+    keep(track, false, whole);
 }
 
 /// Finds out how large what a term offers where a run stands is, and keeps it.
