@@ -7,13 +7,11 @@ ghost use Rattle.lt_term.specs.SceneView.{scene};
 ghost use Rattle.lt_frontend.specs.Prepared.{IfRefused, IsPrintedAnswer, IsScenarioAnswer};
 
 use crate::refusal::Unprepared;
-use lt_ast::print;
 use lt_expand::expand;
-use lt_parser::parse;
+use lt_parser::{parse, print};
 use lt_term::Scenario;
 use lt_types::check;
 use std::alloc::Global;
-use std::mem;
 
 /// The scenario of the node of a text that is asked for, or of the first one where no name is given. A real has so many
 /// decimals, 0 to 6.
@@ -42,9 +40,6 @@ pub fn scenario_of(
 
 /// The program of a text as text: a line for each declaration, its tokens with one blank between two.
 ///
-/// The tree of the program isn't given back: a call prints one text and ends, and to give back each part of a large tree
-/// takes a quarter of the call's time.
-///
 /// # Errors
 ///
 /// The text spells no program; [`Unprepared::Memory`] where memory ran out.
@@ -53,8 +48,6 @@ pub fn printed_text(alloc: Global, text: &[u8]) -> Result<String, Unprepared>
     ensures refused { IfErr result (λ why.
         IfRefused why (λ reason. IsPrintedAnswer text.now (Err reason))) }
 {
-    let program = parse(alloc, text)?;
-    let printed = print(alloc, &program)?;
-    mem::forget(program);
+    let printed = print(alloc, text)?;
     Ok(printed)
 }

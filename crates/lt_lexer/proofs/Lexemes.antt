@@ -1,12 +1,13 @@
 -- What tokens are read as.
-use Rattle.std.proofs.Common.{◌≡◌, ℕ, ◌+◌, ◌-◌, ◌<◌, List, [], ◌∷◌, ◌++◌, length, drop, take, refl, ap, sym, ◌∙◌, arith, subst, Some, None, Ok, length-append}
+use Rattle.std.proofs.Common.{◌≡◌, true, ℕ, ◌+◌, ◌-◌, ◌<◌, ◌≤◌, List, [], ◌∷◌, ◌++◌, length, drop, take, refl, ap, sym, ◌∙◌, arith, subst, Some, None, Ok, length-append, length-drop}
 use Rattle.std.specs.Option.{unwrap_or}
-use Rattle.std.proofs.lemmas.List.{drop_at, take_at}
+use Rattle.std.proofs.lemmas.List.{drop_at, take_at, length-take}
 use Rattle.lt_num.specs.Literal.{IsNumber}
 use Rattle.lt_ast.specs.declared.sign.Sign.{Sign}
 use Rattle.lt_ast.specs.declared.sign.Sign.TheVariants as s
 use Rattle.lt_ast.specs.Signs.{spelled}
 use Rattle.lt_lexer.specs.Piece.{Piece, token, bytes_of, IsPiece, kind_of, IsToken, IsShort}
+use Rattle.lt_lexer.specs.Spelled.{has_own_letters}
 use Rattle.lt_lexer.specs.Source.{token_bytes, IsTokenOf, IsSign, IsReadAs, AreReadAs, TextIsReadAs}
 use Rattle.lt_lexer.specs.inner.Reading.{next_of, Gives}
 use Rattle.lt_lexer.specs.inner.Spelling.{sign_spelled}
@@ -41,6 +42,12 @@ own_letters text t s.Name h n m = absurd (n refl)
 own_letters text t s.Number h n m = absurd (m refl)
 own_letters text t sign h n m = sym h
 
+-- The letters of a token are those of its sign, where that has some of its own.
+pub sign_letters : (text : List ℕ) (t : Token) (sign : Sign) → IsSign text t sign → has_own_letters sign ≡ true → token_bytes text t ≡ spelled sign
+sign_letters text t s.Name g own = cc
+sign_letters text t s.Number g own = cc
+sign_letters text t sign g own = g
+
 -- The letters of a number are one.
 pub number_letters : (text : List ℕ) (t : Token) (sign : Sign) → IsTokenOf text t → IsSign text t sign → sign ≡ s.Number → IsNumber (token_bytes text t)
 number_letters text t sign h g e =
@@ -50,6 +57,13 @@ number_letters text t sign h g e =
       form = subst (λ k. IsToken k (token_bytes text t)) is h.is_token;
       short = subst (λ k. IsShort k (token_bytes text t)) is h.short;
     }
+
+-- A token ends as many bytes after its start as it has.
+pub token_end : (text : List ℕ) (t : Token) → IsTokenOf text t → t.span.start + length (token_bytes text t) ≡ t.span.end
+token_end text t h =
+    let within : t.span.end ≤ length text = h.within in
+    let ordered : t.span.start < t.span.end = h.ordered in
+    omega (arith, length-take (t.span.end - t.span.start) (drop t.span.start text), length-drop t.span.start text)
 
 -- WHERE A TOKEN STANDS
 

@@ -6,6 +6,8 @@ pub mod Symbol
 pub mod Piece
 -- what tokens a text has, and why a text has none
 pub mod Tokenization
+-- which signs have letters of their own
+pub mod Spelled
 -- what a token is in its text, and where tokens stand
 pub mod Source
 -- tokens set apart by blanks

@@ -1,5 +1,5 @@
 -- What a token is in the text that it is a token of, what is answered of it, and where the tokens of a text stand.
-use Rattle.std.specs.Prelude.{◌≡◌, ◌⊎◌, ℕ, ◌≤◌, ◌<◌, List, [], ◌∷◌, None, Ok, Err, drop, length, slice_range}
+use Rattle.std.specs.Prelude.{◌≡◌, ◌⊎◌, ℕ, ◌+◌, ◌≤◌, ◌<◌, List, [], ◌∷◌, None, Ok, Err, drop, length, slice_range}
 use Rattle.std.specs.declared.result.Result.{Result}
 use Rattle.std.specs.declared.vec.Vec.{Vec}
 use Rattle.std.specs.declared.alloc.Global.{Global}
@@ -7,6 +7,7 @@ use Rattle.std.specs.List.{AllByRecursion}
 use Rattle.lt_ast.specs.Signs.{spelled}
 use Rattle.lt_ast.specs.declared.sign.Sign.{Sign}
 use Rattle.lt_ast.specs.declared.sign.Sign.TheVariants as s
+use Rattle.lt_ast.specs.declared.span.Span.{Span}
 use Rattle.lt_lexer.specs.Piece.{Piece, kind_of, IsToken, IsShort, IsTaken}
 use Rattle.lt_lexer.specs.Tokenization.{Divides, IsTokenization}
 use Rattle.lt_lexer.specs.declared.refusal.LexRefusal.{LexRefusal}
@@ -32,12 +33,16 @@ IsSign text t s.Name = (t.kind ≡ kind.Word) × ((sign : Sign) → token_bytes 
 IsSign text t s.Number = t.kind ≡ kind.Number
 IsSign text t sign = token_bytes text t ≡ spelled sign
 
+-- where a token as it is read stands: from its start on, as far as its letters go
+abbrev pub lexeme_span : Lexeme → Span
+lexeme_span l = record { start = l.start; end = l.start + length l.text.now }
+
 -- what a token of a text is read as: it stands in the text, and has this sign, these letters and this place
 pub record IsReadAs (text : List ℕ) (t : Token) (l : Lexeme) : Type 0 where
   pub token : IsTokenOf text t
   pub sign : IsSign text t l.sign
   pub letters : l.text.now ≡ token_bytes text t
-  pub place : l.span ≡ t.span
+  pub place : lexeme_span l ≡ t.span
 
 -- what tokens of a text are read as, one by one
 abbrev pub AreReadAs : List ℕ → List Token → List Lexeme → Type 0

@@ -1,12 +1,14 @@
 //! Tokens as they are read.
 
-ghost use Rattle.std.specs.Prelude.{◌≡◌};
+ghost use Rattle.std.specs.Prelude.{◌≡◌, ◌+◌, ◌<◌, ◌^◌, length, true};
+ghost use Rattle.lt_ast.specs.Signs.{spelled};
 ghost use Rattle.lt_ast.specs.declared.sign.Sign.TheVariants.{Number};
+ghost use Rattle.lt_lexer.specs.Spelled.{has_own_letters};
 ghost use Rattle.lt_num.specs.Literal.{IsNumber};
 
 use lt_ast::{Sign, Span};
 
-/// A token as a grammar takes it. The letters of a number are one.
+/// A token as a grammar takes it. The letters of a number are one, and a keyword or a symbol has those of its sign.
 #[derive(Clone, Copy)]
 pub struct Lexeme<'a> {
     /// Which sign it is.
@@ -15,8 +17,24 @@ pub struct Lexeme<'a> {
     /// Its letters.
     pub text: &'a str,
 
-    /// Where it stands.
-    pub span: Span,
+    /// The place of its first letter. A text has many tokens, and where one ends follows from its letters.
+    pub start: usize,
 
     pub ghost number: { sign ≡ Number → IsNumber text.now },
+    pub ghost spelled: { has_own_letters sign ≡ true → text.now ≡ spelled sign },
+    pub ghost ends: { start + length text.now < 2 ^ 64 },
+}
+
+impl Lexeme<'_> {
+    ghost use Rattle.lt_lexer.specs.Source.{lexeme_span};
+
+    /// Where it stands.
+    pub fn span(&self) -> Span
+        ensures { result ≡ lexeme_span self.now }
+    {
+        Span {
+            start: self.start,
+            end: self.start + self.text.len(),
+        }
+    }
 }

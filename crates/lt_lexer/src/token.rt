@@ -61,7 +61,7 @@ impl Token {
         Lexeme {
             sign,
             text: self.spelling(text, sign),
-            span: self.span,
+            start: self.span.start,
         }
     }
 

@@ -493,7 +493,8 @@ reads_declaration (s.macro_declaration y) most ts rest x k =
 reads_declaration (s.exception_declaration ns) most ts rest x k =
     ap (outcome most (declarations k)) x.3 ∙ reads_names ns most x.2 rest x.4 (λ ns'. declarations (λ ys. k (s.exception_declaration ns' ∷ ys)))
 
-reads_program : (ys : List Declaration) (most : ℕ) (ts : Lexemes) → SpellsWithin most ts ys → (k : List Declaration → Goal) → outcome most (declarations k) ts ≡ outcome most (k ys) []
+-- What is spelled is read, whatever is wanted behind it.
+pub reads_program : (ys : List Declaration) (most : ℕ) (ts : Lexemes) → SpellsWithin most ts ys → (k : List Declaration → Goal) → outcome most (declarations k) ts ≡ outcome most (k ys) []
 reads_program [] most ts x k = ap (outcome most (declarations k)) x
 reads_program (y ∷ ys) most ts x k = reads_declaration y most ts x.0 x.1 k ∙ reads_program ys most x.0 x.2 (λ zs. k (y ∷ zs))
 

@@ -1,6 +1,7 @@
 pub mod Begins
 pub mod Complete
 pub mod Lexing
+pub mod Lines
 pub mod Low
 pub mod Operators
 pub mod Placed

@@ -38,9 +38,9 @@ length-lexemes (t ∷ ts) = ap suc (length-lexemes ts)
 -- PLACES
 
 -- the rest from a token on begins where that token stands
-pub place_at : (text : List ℕ) (ts : List read.Lexeme) (i : ℕ) (t : read.Lexeme) → i < length ts → t ≡ get_or ts i t → t.span.start ≡ start_of text (drop i (lexemes ts))
+pub place_at : (text : List ℕ) (ts : List read.Lexeme) (i : ℕ) (t : read.Lexeme) → i < length ts → t ≡ get_or ts i t → t.start ≡ start_of text (drop i (lexemes ts))
 place_at text [] i t le e = absurd (omega (arith, le))
-place_at text (u ∷ us) zero t le e = ap (λ v. v.span.start) e
+place_at text (u ∷ us) zero t le e = ap (λ v. v.start) e
 place_at text (u ∷ us) (suc i) t le e = place_at text us i t (omega (arith, le)) e
 
 -- No more tokens are left than there are.

@@ -18,6 +18,7 @@ use Rattle.lt_ast.specs.Syntax as s
 use Rattle.lt_ast.specs.Syntax.{Word, Exp, Argument, Arguments, Limits, Braces, Alternative, Alternatives, Trace, Traces, Grouping, Groupings, MaybeExp, MaybeTrace, Parameters, Declaration, WrittenRange}
 use Rattle.lt_parser.specs.declared.refusal.Refusal.{Refusal}
 use Rattle.lt_parser.specs.declared.refusal.Refusal.TheVariants as r
+use Rattle.lt_lexer.specs.Source.{lexeme_span}
 use Rattle.lt_lexer.specs.declared.lexeme.Lexeme.{Lexeme as Token}
 use Rattle.lt_parser.specs.inner.Parsing.{ReadsTo, Refused}
 use Rattle.lt_parser.specs.Lexemes.{Lexemes, lexeme, IsNotFirst}
@@ -47,8 +48,8 @@ pub not_sign : (wanted : Sign) (ts : List Token) → IsNotFirst wanted (lexemes 
 not_sign wanted ts h k = not_sign_of wanted (lexemes ts) h k ∙ ap (λ n. Err (unexpected n)) (length-lexemes ts)
 
 -- the first token has the sign, or another one
-pub first_is : (sign : Sign) (ts : List Token) (first : Token) (rest : List Token) → ts ≡ first ∷ rest → sameb the_type first.sign sign ≡ true → Begins sign first.span (lexemes ts) (lexemes rest)
-first_is sign ts first rest e q = (first.text.now, ap lexemes e ∙ ap (λ u. lexeme u first.text.now first.span ∷ lexemes rest) (same_sign first.sign sign q))
+pub first_is : (sign : Sign) (ts : List Token) (first : Token) (rest : List Token) → ts ≡ first ∷ rest → sameb the_type first.sign sign ≡ true → Begins sign (lexeme_span first) (lexemes ts) (lexemes rest)
+first_is sign ts first rest e q = (first.text.now, ap lexemes e ∙ ap (λ u. lexeme u first.text.now (lexeme_span first) ∷ lexemes rest) (same_sign first.sign sign q))
 
 sign_of : Lexemes → Sign → Sign
 sign_of [] other = other
@@ -222,8 +223,8 @@ trace_taken d wanted k w at us h =
     ap (λ b. onward most_levels (if b then next (a_trace d (λ x. more_traces d wanted (λ xs q. k (s.one_trace x xs) q))) else stuck) (length us) (λ goal. outcome most_levels goal us)) (same_self wanted (sameb the_type wanted wanted) refl)
 
 -- the first token by its sign
-pub first_sign : (ts rest : List Token) (first : Token) (sign : Sign) → ts ≡ first ∷ rest → first.sign ≡ sign → lexemes ts ≡ lexeme sign first.text.now first.span ∷ lexemes rest
-first_sign ts rest first sign e q = ap lexemes e ∙ ap (λ u. lexeme u first.text.now first.span ∷ lexemes rest) q
+pub first_sign : (ts rest : List Token) (first : Token) (sign : Sign) → ts ≡ first ∷ rest → first.sign ≡ sign → lexemes ts ≡ lexeme sign first.text.now (lexeme_span first) ∷ lexemes rest
+first_sign ts rest first sign e q = ap lexemes e ∙ ap (λ u. lexeme u first.text.now (lexeme_span first) ∷ lexemes rest) q
 
 -- An item that begins with no sign of its own is an expression.
 pub a_value_first : (d : ℕ) (k : Trace → Goal) (sign : Sign) (w : List ℕ) (at : Span) (us : Lexemes)

@@ -8,5 +8,7 @@ pub mod Reading
 pub mod Parsing
 -- what is wanted where a part of a list is read already
 pub mod Onto
+-- that the printed lines are those of the program that is read
+pub mod Printing
 -- refusals of tokens as refusals of a text
 pub mod Placing

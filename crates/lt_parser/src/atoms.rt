@@ -2,6 +2,7 @@
 
 ghost use Rattle.std.specs.Prelude.{◌≡◌, ◌<◌, ◌≤◌, suc, Bool, length, nat_le, true, false, IfOk, MatchOption, MatchResult};
 ghost use Rattle.lt_ast.specs.View.{figure, word, words, written_range, written_step};
+ghost use Rattle.lt_lexer.specs.Source.{lexeme_span};
 ghost use Rattle.lt_parser.specs.Nesting.{most_levels};
 ghost use Rattle.lt_parser.specs.inner.Parsing.{ReadsAs};
 ghost use Rattle.lt_parser.specs.Lexemes.{IsNotFirst};
@@ -23,11 +24,11 @@ pub(crate) type Parsed<'a, T> = Result<(T, &'a [Lexeme<'a>]), Refusal>;
 /// The name that a token is.
 pub(crate) fn name_of(alloc: Global, token: &Lexeme<'_>) -> Result<Name, AllocError>
     ensures { IfOk result
-        (λ n. word n ≡ record { text = token.now.text.now; span = token.now.span }) }
+        (λ n. word n ≡ record { text = token.now.text.now; span = lexeme_span token.now }) }
 {
     Ok(Name {
         text: Letters::new(alloc, token.text)?,
-        span: token.span,
+        span: token.span(),
     })
 }
 
@@ -71,7 +72,7 @@ pub(crate) fn after<'a>(tokens: &'a [Lexeme<'a>], sign: Sign) -> Option<(Span, &
         None => None,
         Some((first, rest)) => {
             if first.sign == sign {
-                return Some((first.span, rest));
+                return Some((first.span(), rest));
             }
             None
         }
@@ -160,8 +161,8 @@ pub(crate) fn parse_literal<'a>(alloc: Global, tokens: &'a [Lexeme<'a>]) -> Pars
         return Err(Refusal::Unexpected(0));
     };
     match first.sign {
-        Sign::Minus => parse_digits(alloc, first.span, rest),
-        Sign::Number => Ok((number_of(alloc, false, first.span, first)?, rest)),
+        Sign::Minus => parse_digits(alloc, first.span(), rest),
+        Sign::Number => Ok((number_of(alloc, false, first.span(), first)?, rest)),
         _ => Err(Refusal::Unexpected(tokens.len())),
     }
 }
@@ -174,7 +175,7 @@ fn parse_digits<'a>(alloc: Global, start: Span, tokens: &'a [Lexeme<'a>]) -> Par
 {
     match tokens.split_first() {
         Some((first, rest)) if first.sign == Sign::Number => {
-            Ok((number_of(alloc, true, start.to(first.span), first)?, rest))
+            Ok((number_of(alloc, true, start.to(first.span()), first)?, rest))
         }
         _ => Err(Refusal::Unexpected(tokens.len())),
     }

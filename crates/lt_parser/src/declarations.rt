@@ -34,8 +34,8 @@ pub(crate) fn parse_program<'a>(alloc: Global, tokens: &'a [Lexeme<'a>]) -> Resu
     Ok(Program { decls })
 }
 
-// A declaration that comes after others.
-fn parse_declaration<'a>(alloc: Global, tokens: &'a [Lexeme<'a>]) -> Parsed<'a, Decl>
+/// A declaration that comes after others.
+pub(crate) fn parse_declaration<'a>(alloc: Global, tokens: &'a [Lexeme<'a>]) -> Parsed<'a, Decl>
     requires { 0 < length tokens.now }
     ensures reads { ReadsTo (λ x before. declarations_more before (view.declaration x.0))
         (λ x. lexemes x.1.now) declarations_after (lexemes tokens.now) result }

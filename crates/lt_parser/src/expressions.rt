@@ -152,35 +152,35 @@ fn parse_first_operand<'a>(
             alloc,
             deeper(depth, tokens.len())?,
             UnOp::Neg,
-            first.span,
+            first.span(),
             rest,
         ),
         Sign::Not if low <= 4 => parse_unary(
             alloc,
             deeper(depth, tokens.len())?,
             UnOp::Not,
-            first.span,
+            first.span(),
             rest,
         ),
         Sign::If if low == 0 => parse_conditional(
             alloc,
             deeper(depth, tokens.len())?,
-            first.span,
+            first.span(),
             rest,
         ),
-        Sign::Open => parse_paren(alloc, deeper(depth, tokens.len())?, first.span, rest),
+        Sign::Open => parse_paren(alloc, deeper(depth, tokens.len())?, first.span(), rest),
         Sign::Name => parse_named(alloc, depth, name_of(alloc, first)?, rest),
         Sign::Pre => {
             let (name, rest) = parse_name(alloc, rest)?;
-            let span = first.span.to(name.span);
+            let span = first.span().to(name.span);
             Ok((Expr::Pre(name, span), rest))
         }
         Sign::Number => Ok((
-            Expr::Number(number_of(alloc, false, first.span, first)?),
+            Expr::Number(number_of(alloc, false, first.span(), first)?),
             rest,
         )),
-        Sign::True => Ok((Expr::Flag(true, first.span), rest)),
-        Sign::False => Ok((Expr::Flag(false, first.span), rest)),
+        Sign::True => Ok((Expr::Flag(true, first.span()), rest)),
+        Sign::False => Ok((Expr::Flag(false, first.span()), rest)),
         _ => Err(Refusal::Unexpected(tokens.len())),
     }
 }

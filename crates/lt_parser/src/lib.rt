@@ -16,6 +16,7 @@ mod expressions;
 mod groups;
 mod laws;
 mod precedence;
+mod printing;
 mod refusal;
 mod text;
 mod traces;
@@ -24,5 +25,6 @@ pub use laws::{
     at_most_one_program, one_answer_belongs_to_a_text, printed_text_reads_back,
     program_is_written_as_spelled, spelled_elsewhere,
 };
+pub use printing::print;
 pub use refusal::ParseRefusal;
 pub use text::parse;

@@ -48,8 +48,8 @@ fn program_of(alloc: Global, text: &[u8]) -> Result<Program, ParseRefusal>
     }
 }
 
-// A refusal by its place in the text.
-fn placed(text: &[u8], tokens: &[Lexeme<'_>], refusal: Refusal) -> ParseRefusal
+/// A refusal by its place in the text.
+pub(crate) fn placed(text: &[u8], tokens: &[Lexeme<'_>], refusal: Refusal) -> ParseRefusal
     requires { IsWithin (lexemes tokens.now) refusal }
     ensures { IsPlaced text.now (lexemes tokens.now) refusal result }
 {
@@ -66,7 +66,7 @@ fn place(text: &[u8], tokens: &[Lexeme<'_>], left: usize) -> usize
     ensures { result ≡ start_of text.now (last_of (lexemes tokens.now) left) }
 {
     match tokens.get(tokens.len() - left) {
-        Some(token) => token.span.start,
+        Some(token) => token.start,
         None => text.len(),
     }
 }

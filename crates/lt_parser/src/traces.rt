@@ -107,7 +107,7 @@ fn parse_item<'a>(alloc: Global, depth: u32, tokens: &'a [Lexeme<'a>]) -> Parsed
         return Err(Refusal::Unexpected(0));
     };
     match first.sign {
-        Sign::OpenBrace => parse_braces(alloc, deeper(depth, tokens.len())?, first.span, rest),
+        Sign::OpenBrace => parse_braces(alloc, deeper(depth, tokens.len())?, first.span(), rest),
         Sign::Loop => parse_loop(alloc, deeper(depth, tokens.len())?, rest),
         Sign::Raise => parse_raise(alloc, rest),
         Sign::Assert => parse_assert(alloc, deeper(depth, tokens.len())?, rest),
@@ -348,9 +348,9 @@ fn parse_bound<'a>(alloc: Global, depth: u32, tokens: &'a [Lexeme<'a>]) -> Parse
         return Err(Refusal::Unexpected(0));
     };
     match first.sign {
-        Sign::Open => parse_paren(alloc, deeper(depth, tokens.len())?, first.span, rest),
+        Sign::Open => parse_paren(alloc, deeper(depth, tokens.len())?, first.span(), rest),
         Sign::Number => Ok((
-            Expr::Number(number_of(alloc, false, first.span, first)?),
+            Expr::Number(number_of(alloc, false, first.span(), first)?),
             rest,
         )),
         Sign::Name => Ok((Expr::Named(name_of(alloc, first)?, None), rest)),

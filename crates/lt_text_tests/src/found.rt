@@ -74,7 +74,7 @@ fn told_tokens(
     match answer {
         Ok(tokens) => {
             for token in tokens {
-                let span = token.span;
+                let span = token.span();
                 write!(out, " {:?} {}-{}", token.sign, span.start, span.end)?;
             }
         }
@@ -88,7 +88,7 @@ fn letters_of(alloc: Global, text: &[u8]) -> Result<String, Fail> {
     let tokens = lex(alloc, text)?;
     let mut out = String::new(alloc);
     for token in &tokens {
-        let (sign, letters, span) = (token.sign, token.text, token.span);
+        let (sign, letters, span) = (token.sign, token.text, token.span());
         write!(out, " {sign:?} {}-{} {letters}", span.start, span.end)?;
     }
     Ok(out)
@@ -100,7 +100,8 @@ fn spelled_of(alloc: Global, text: &[u8]) -> Result<String, Fail> {
     let mut same = 0usize;
     let mut spelled = 0usize;
     for token in &tokens {
-        if text.get(token.span.start..token.span.end) == Some(token.text.as_bytes()) {
+        let span = token.span();
+        if text.get(span.start..span.end) == Some(token.text.as_bytes()) {
             same = same.saturating_add(1);
         }
         if token.sign.text() == token.text {

@@ -12,6 +12,7 @@ use Rattle.lt_parser.specs.inner.Onto.{arguments_onto, alternatives_onto, traces
 use Rattle.lt_parser.specs.inner.Parsing.{guard_goal, guarded_trace, parameters_of}
 use Rattle.lt_parser.specs.inner.Reading.{Goal, a_bound, a_first, a_group, a_handler, a_macro, a_meaning, a_range, a_ref, a_right_side, a_sign, a_trace, a_type, after_first, after_name, after_weight, an_alternative, an_argument, an_exp, an_item, exist_goal, group_rest, groups, if_goal, in_trace, more_alternatives, more_arguments, more_groups, more_items, more_traces, outcome, sequence_goal, some_arguments, some_braced, some_groups, some_limits, some_parameters, value_goal}
 use Rattle.lt_parser.specs.Nesting.{most_levels}
+use Rattle.lt_lexer.specs.Source.{lexeme_span}
 use Rattle.lt_parser.proofs.Begins.{no_weight}
 use Rattle.lt_parser.proofs.Rows.{parallel_whole, priority_whole, alternatives_whole, sequence_whole, groups_whole}
 use Rattle.lt_parser.proofs.Skips.{no_call, no_first, no_handler, no_item, no_limits, no_parameters}
@@ -328,7 +329,7 @@ traces::parse_item-returns-in_default-sign given c =
     record {
       reads = reads_by (λ x k. k (trace x.0)) (λ x. lexemes x.1.now) (an_item c.args.depth) (value_goal c.args.depth) ts ts c.parse_value.result
           (λ k. ap (outcome most_levels (an_item c.args.depth k)) e
-          ∙ a_value_first c.args.depth k first.sign first.text.now first.span (lexemes c.in-Some.rest.now) o.not-OpenBrace o.not-Loop o.not-Raise o.not-Assert o.not-Exist o.not-Let o.not-Exception o.not-Catch o.not-Trap o.not-Try
+          ∙ a_value_first c.args.depth k first.sign first.text.now (lexeme_span first) (lexemes c.in-Some.rest.now) o.not-OpenBrace o.not-Loop o.not-Raise o.not-Assert o.not-Exist o.not-Let o.not-Exception o.not-Catch o.not-Trap o.not-Try
           ∙ sym (ap (outcome most_levels (value_goal c.args.depth k)) e))
           c.parse_value.ensures.reads;
       shorter = c.parse_value.ensures.shorter;

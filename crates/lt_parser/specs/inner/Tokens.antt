@@ -2,12 +2,13 @@
 use Rattle.std.specs.Prelude.{◌≡◌, ℕ, List, ◌∷◌, map}
 use Rattle.lt_ast.specs.declared.sign.Sign.{Sign}
 use Rattle.lt_ast.specs.declared.span.Span.{Span}
+use Rattle.lt_lexer.specs.Source.{lexeme_span}
 use Rattle.lt_lexer.specs.declared.lexeme.Lexeme.{Lexeme as Token}
 use Rattle.lt_parser.specs.Lexemes.{Lexeme, lexeme, Lexemes}
 
 -- a token
 abbrev pub lexeme_of : Token → Lexeme
-lexeme_of token = lexeme token.sign token.text.now token.span
+lexeme_of token = lexeme token.sign token.text.now (lexeme_span token)
 
 -- tokens in turn
 abbrev pub lexemes : List Token → Lexemes
