@@ -3,9 +3,9 @@
     python3 scripts/prove.py NAME TO
 
 The proved program is put into the file TO. `rt ci` works on as many crates at once as processors
-and memory allow, those first on which the most others wait. It takes what an earlier `rt ci` on
-this machine proved of the same text, and keeps what it proves here for later ones. The copy has no
-wrong bodies: those are for the gate.
+and memory allow, those first on which the most others wait. Where the kit keeps what was proved,
+it takes what an earlier `rt ci` on this machine proved of the same text, and keeps what it proves
+here for later ones. The copy has no wrong bodies: those are for the gate.
 """
 
 import os
