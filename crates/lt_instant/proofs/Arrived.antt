@@ -62,7 +62,7 @@ module _ (m : Moment) where
           few = r.few kinds;
           passes = weights_pass (numbers_of m.scenario.now) kinds (process_of e) pass nodes;
           narrow = narrow kinds e.track r.explores.narrow;
-          locals = r.explores.locals;
+          earlier = r.explores.earlier;
         };
         walks = w;
         left = omega arith;
@@ -158,4 +158,4 @@ module _ (m : Moment) where
   pub ready_with : (e : Explorer) (r : Rooms) → IsReady m e → IsReady m (record e { picker = record e.picker { rooms = r } })
   ready_with e r h =
       let q : Picker = record e.picker { rooms = r } in
-      ready_on m e (record e { picker = q }) refl (explores_on m.scenario.now e e.track e.walk q refl h.explores.tallied refl refl h.explores.locals h.explores) h
+      ready_on m e (record e { picker = q }) refl (explores_on m.scenario.now e e.track e.walk q refl h.explores.tallied refl refl h.explores.earlier h.explores) h

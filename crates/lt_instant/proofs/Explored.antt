@@ -1,5 +1,5 @@
 -- What is found on visits.
-use Rattle.std.proofs.Common.{◌≡◌, ◌≢◌, ◌≤◌, ℕ, Bool, true, ◌&&◌, IsTrue, List, [], ◌∷◌, length, Some, Err, refl, ap, sym, ◌∙◌, subst, vec_capacity}
+use Rattle.std.proofs.Common.{◌≡◌, ◌≢◌, ◌≤◌, ℕ, Bool, true, ◌&&◌, IsTrue, List, [], ◌∷◌, Some, Err, refl, ap, sym, ◌∙◌, subst, vec_capacity}
 use Rattle.std.proofs.lemmas.List.Folds.{list_all-append}
 use Rattle.std.specs.List.{list_all}
 use Rattle.lt_num.specs.declared.fault.Arith.{Arith}
@@ -30,7 +30,7 @@ use Rattle.lt_track.specs.declared.track.Track.{Track}
 use Rattle.lt_track.specs.declared.walk.Reached.{Reached}
 use Rattle.lt_track.specs.declared.walk.Reached.TheVariants as reached
 use Rattle.lt_track.specs.declared.walk.Walk.{Walk}
-use Rattle.lt_instant.specs.Equipment.{IsExplorerOf}
+use Rattle.lt_instant.specs.Equipment.{IsEarlierOf, IsExplorerOf}
 use Rattle.lt_instant.specs.SolverView.{solver_most, solver_values}
 use Rattle.lt_instant.specs.StandingView.{process_of}
 use Rattle.lt_instant.specs.declared.explorer.Explorer.{Explorer}
@@ -75,7 +75,7 @@ module _ (ts : Tests ℕ) (kinds : List Kind) (p : Process ℕ) (pass : IsTrue (
 
 -- an explorer whose body and walk have changed, but for what they are made of
 pub explores_on : (s : Scenario) (e : Explorer) (t : Track) (w : Walk) (q : Picker) → track.body t ≡ track.body e.track → IsTallied t → rooms w ≡ rooms e.walk → w.raised.items ≡ e.walk.raised.items
-    → length s.locals.items ≤ vec_capacity q.locals → IsExplorerOf s e → IsExplorerOf s (record e { track = t; walk = w; picker = q })
+    → IsEarlierOf s q.earlier → IsExplorerOf s e → IsExplorerOf s (record e { track = t; walk = w; picker = q })
 explores_on s e t w q b k r z l h =
     let roomy : IsRoomy (track.nodes (track.body t)) w = record {
       fired = subst (λ (n : ℕ). n ≤ (rooms w).fired) (ap track.nodes (sym b)) (subst (λ (x : Rooms). track.nodes (track.body e.track) ≤ x.fired) (sym r) h.roomy.fired);
@@ -93,7 +93,7 @@ explores_on s e t w q b k r z l h =
       solver = h.solver;
       constraints = subst (λ (x : Rooms). x.fired ≤ solver_most e.solver) (sym r) h.constraints;
       values = subst (λ (x : Rooms). x.lasts ≤ vec_capacity e.values) (sym r) h.values;
-      locals = l;
+      earlier = l;
     }
 
 module _ (m : Moment) where

@@ -1,5 +1,5 @@
 -- The solver of a scenario.
-use Rattle.std.specs.Prelude.{◌≡◌, ◌≤◌, ◌+◌, ℕ, true, if◌then◌else◌, List, ℤ, Ok, length, map, vec_capacity}
+use Rattle.std.specs.Prelude.{◌≡◌, ◌≤◌, ◌+◌, ℕ, Bool, true, if◌then◌else◌, List, ℤ, Ok, length, map, replicate, vec_capacity}
 use Rattle.lt_formula.specs.Table.{spelled}
 use Rattle.lt_formula.specs.View.{table_expressions}
 use Rattle.lt_space.specs.Meaning.{formula_of_all}
@@ -30,6 +30,10 @@ HasSteadyFormula s space =
     formula_of_all (nothing_known (space_decimals space)) (scene_kinds (scene s))
     (map (spelled (table_expressions s.table)) (space_wanted space))
 
+-- Where a scenario has no locals, marks for its outputs are those of a scope: all of them are in it.
+abbrev pub AreWhole : Scenario → List Bool → Type 0
+AreWhole s marks = length s.locals.items ≡ 0 → length marks ≡ length s.outputs.items → marks ≡ replicate (length s.outputs.items) true
+
 -- a solver is one for a scenario
 pub record IsSolverOf (s : Scenario) (solver : Solver) : Type 0 where
   pub table : IsOver s.table solver.space
@@ -37,6 +41,7 @@ pub record IsSolverOf (s : Scenario) (solver : Solver) : Type 0 where
   pub searched : workspace_ranges solver.workspace ≡ drawn_ranges (scene s)
   pub gates : space_gates solver.space ≤ workspace_gates solver.workspace
   pub scope : length s.outputs.items + length s.locals.items ≤ vec_capacity solver.scope
+  pub whole : AreWhole s solver.scope.items
   pub aims : AreAimsOf (drawn_ranges (scene s)) solver.aims
   pub known : AreKnown s.table (drawn_ranges (scene s)) solver.known.items
   pub literals : solver_most solver ≤ vec_capacity solver.literals

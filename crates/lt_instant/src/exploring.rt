@@ -18,7 +18,6 @@ ghost use Rattle.lt_instant.specs.inner.Picking.{Comes, left_in};
 use crate::explorer::Explorer;
 use crate::finding::Finding;
 use crate::moment::Moment;
-use crate::weighing::put_earlier_locals;
 use lt_join::trees_agree;
 use lt_place::reach;
 use lt_track::{Reached, arrivals_are_nodes, choices_stay_narrow, numbers_stay};
@@ -48,7 +47,9 @@ pub fn draw(explorer: &mut Explorer, moment: &Moment<'_>) -> bool
     true
 }
 
-// Arrives at a leaf, and answers whether the draw stops there.
+// Arrives at a leaf, and answers whether the draw stops there. It stands apart, since what it has at hand and what its caller
+// has don't fit the registers together.
+#[inline(never)]
 fn arrive(explorer: &mut Explorer, moment: &Moment<'_>) -> bool
     requires ready { IsReady moment.now explorer.old }
     requires begins { explorer.old.picker.rooms.taken ≡ 0 }
@@ -125,12 +126,10 @@ fn solve(explorer: &mut Explorer, moment: &Moment<'_>) -> Finding
     ensures same_rooms { explorer.new.picker.rooms ≡ explorer.old.picker.rooms }
 {
     let walk = &explorer.walk;
-    put_earlier_locals(
-        &mut explorer.picker.locals,
-        &moment.scenario.locals,
+    explorer.solver.solve(
+        moment,
+        &walk.fired,
         &walk.lasts,
-    );
-    explorer
-        .solver
-        .solve(moment, &walk.fired, &walk.lasts, &explorer.picker.locals)
+        &mut explorer.picker.earlier,
+    )
 }

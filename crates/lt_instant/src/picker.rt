@@ -10,12 +10,12 @@ ghost use Rattle.lt_instant.specs.declared.moment.Moment.{Moment};
 ghost use Rattle.lt_instant.specs.inner.Found.{finding, is_stop};
 ghost use Rattle.lt_instant.specs.inner.Picking.{HasStoppedAt, IsAtNode};
 
+use crate::earlier::Earlier;
 use crate::finding::Finding;
 use crate::moment::Moment;
-use crate::weighing::{put_earlier_locals, weigh};
+use crate::weighing::weigh;
 use lt_join::trees_agree;
 use lt_lazy::Rooms;
-use lt_num::Value;
 use lt_place::Chooser;
 use lt_term::{Last, Weight};
 
@@ -25,8 +25,8 @@ pub struct Picker {
     /// Where the draw is.
     pub rooms: Rooms,
 
-    /// What the locals were in the instant before, as they are in scope at the node that was visited last.
-    pub locals: Vec<Option<Value>>,
+    /// Room for what variables were in the instant before.
+    pub earlier: Earlier,
 
     /// What was found at the leaf that was visited last.
     pub found: Finding,
@@ -100,8 +100,13 @@ fn pick(
     // A law that the proof needs: the tree in which the draw goes has as many nodes as what is offered.
     trees_agree();
     let rooms = &mut picker.rooms;
-    put_earlier_locals(&mut picker.locals, &moment.scenario.locals, scope);
-    match weigh(moment, weights, scope, &picker.locals, &mut rooms.weights) {
+    match weigh(
+        moment,
+        weights,
+        scope,
+        &mut picker.earlier,
+        &mut rooms.weights,
+    ) {
         Err(fault) => {
             picker.found = Finding::Fault(fault);
             None

@@ -9,12 +9,13 @@ ghost use Rattle.lt_instant.specs.Solved.{drawn_ranges, ranges_of_all};
 ghost use Rattle.lt_instant.specs.inner.Found.{finding_for};
 
 use crate::aims::Aims;
+use crate::earlier::Earlier;
 use crate::finding::Finding;
 use crate::literals::{Literal, are_met, find_literals, literals_of, put_truths, put_values};
 use crate::moment::Moment;
 use crate::scopes::find_scope;
 use crate::steady::is_steady;
-use lt_num::{Arith, Range, Value};
+use lt_num::{Arith, Range};
 use lt_solver::{Answer, Workspace};
 use lt_space::Space;
 use lt_term::{Last, Memory, Scenario, Var};
@@ -55,12 +56,13 @@ impl Solver {
     ghost use Rattle.lt_space.specs.Scope.{ranges_in};
     ghost use Rattle.lt_space.specs.Size.{most_constraints};
     ghost use Rattle.lt_space.specs.SpaceView.{loaded, space_decimals, space_formula, space_wanted};
-    ghost use Rattle.lt_term.specs.Configuration.{earlier_locals_from, scene_kinds};
+    ghost use Rattle.lt_term.specs.Configuration.{scene_kinds};
     ghost use Rattle.lt_term.specs.Tree.{Lasts};
     ghost use Rattle.lt_instant.specs.Solved.{directions_of, holds_of, scope_of, targets_of};
     ghost use Rattle.lt_instant.specs.inner.Found.{finding, found_by, found_in};
     ghost use Rattle.lt_instant.specs.inner.Literals.{IsAmong, firsts_in, with_literals};
-    ghost use Rattle.lt_instant.specs.inner.MomentView.{meaning_of, scene_of, valuation_with, word_of, worth_of};
+    ghost use Rattle.lt_instant.specs.Equipment.{IsEarlierOf};
+    ghost use Rattle.lt_instant.specs.inner.MomentView.{meaning_of, scene_of, valuation_at, word_of, worth_of};
 
     /// A solver of a scenario, with room for at most so many constraints at once, which are 2^31 or fewer.
     ///
@@ -113,20 +115,19 @@ impl Solver {
         }
     }
 
-    /// What is found at an instant with these constraints, in which these locals are in scope; all locals were this in
-    /// the instant before.
+    /// What is found at an instant with these constraints, in which these locals are in scope.
     pub fn solve(
         &mut self,
         moment: &Moment<'_>,
         constraints: &[u32],
         lasts: &[(u32, Last)],
-        locals: &[Option<Value>],
+        earlier: &mut Earlier,
     ) -> Finding
         requires solver { IsSolverOf moment.now.scenario.now self.old }
         requires within { IsTrue (list_all (λ c.
             nat_lt c (table_len moment.now.scenario.now.table)) constraints.now) }
         requires room { length constraints.now ≤ solver_most self.old }
-        requires known { locals.now ≡ earlier_locals_from lasts.now 0 (scene_of moment.now).locals }
+        requires earlier { IsEarlierOf moment.now.scenario.now earlier.old }
         ensures finds { finding (solver_values self.new) result ≡
             found_in (scene_of moment.now) moment.now.draw (word_of moment.now)
             moment.now.budget lasts.now
@@ -134,12 +135,13 @@ impl Solver {
             (map (meaning_of moment.now.scenario.now.table) constraints.now)) }
         ensures solver { IsSolverOf moment.now.scenario.now self.new }
         ensures most { solver_most self.new ≡ solver_most self.old }
+        ensures earlier { IsEarlierOf moment.now.scenario.now earlier.new }
     {
         find_scope(&mut self.scope, moment.scenario, lasts);
         if let Some(finding) = self.solve_literals(moment, constraints) {
             return finding;
         }
-        match self.load(moment, constraints, locals) {
+        match self.load(moment, constraints, lasts, earlier) {
             Ok(()) => self.search(moment),
             Err(fault) => Finding::Fault(fault),
         }
@@ -208,19 +210,21 @@ impl Solver {
         );
     }
 
-    // Loads constraints, where locals were this in the instant before; but not where that would change nothing.
+    // Loads constraints, where these locals are in scope; but not where that would change nothing.
     fn load(
         &mut self,
         moment: &Moment<'_>,
         constraints: &[u32],
-        locals: &[Option<Value>],
+        lasts: &[(u32, Last)],
+        earlier: &mut Earlier,
     ) -> Result<(), Arith>
         requires solver { IsSolverOf moment.now.scenario.now self.old }
         requires within { IsTrue (list_all (λ c.
             nat_lt c (table_len moment.now.scenario.now.table)) constraints.now) }
         requires room { length constraints.now ≤ solver_most self.old }
+        requires earlier { IsEarlierOf moment.now.scenario.now earlier.old }
         ensures loads { loaded (space_formula self.new.space) result ≡
-            formula_of_all (valuation_with moment.now locals.now)
+            formula_of_all (valuation_at moment.now lasts.now)
             (scene_kinds (scene_of moment.now))
             (map (meaning_of moment.now.scenario.now.table) constraints.now) }
         ensures decimals { OnOk result (space_decimals self.new.space ≡
@@ -228,11 +232,13 @@ impl Solver {
         ensures solver { IsSolverOf moment.now.scenario.now self.new }
         ensures most { solver_most self.new ≡ solver_most self.old }
         ensures scope { self.new.scope ≡ self.old.scope }
+        ensures earlier { IsEarlierOf moment.now.scenario.now earlier.new }
     {
         if self.has_loaded(constraints, moment.scenario.decimals) {
             return Ok(());
         }
-        let known = moment.known(locals);
+        earlier.find(moment, lasts);
+        let known = moment.known(earlier);
         self.space.load(&moment.scenario.table, constraints, &known)
     }
 

@@ -90,7 +90,7 @@ pub fn take_instant(
     if size(&standing.explorer.track) > MOST_NODES {
         return Taken::TooLarge;
     }
-    if find_leaf(scenario, standing, inputs, words, draw, budget, room) {
+    if find_leaf(scenario, standing, inputs, words, draw, budget) {
         take_found(scenario, standing, inputs, &mut room.locals)
     } else {
         Taken::Nothing
@@ -105,7 +105,6 @@ fn find_leaf(
     words: &StepWords,
     draw: Draw,
     budget: u64,
-    room: &mut Room,
 ) -> bool
     requires words { words.now.step ≡ standing.old.past.step }
     requires counted { IsCounted (process_of standing.old.explorer) }
@@ -113,20 +112,16 @@ fn find_leaf(
         size (offers_of kinds (process_of standing.old.explorer)) ≤ 65536 }
     requires explores { IsExplorerOf scenario.now standing.old.explorer }
     requires past { IsPastOf scenario.now standing.old.past }
-    requires room { IsRoomOf scenario.now room.old }
     ensures draws { Draws scenario.now words.now.seed draw budget
         (configuration scenario.now.table standing.old) inputs.now standing.new.explorer result }
     ensures same { process_of standing.new.explorer ≡ process_of standing.old.explorer }
     ensures same_past { standing.new.past ≡ standing.old.past }
     ensures explores { IsExplorerOf scenario.now standing.new.explorer }
-    ensures room { IsRoomOf scenario.now room.new }
 {
-    room.earlier.find(scenario, &standing.past);
     let moment = Moment {
         scenario,
         past: &standing.past,
         inputs,
-        earlier: &room.earlier,
         words,
         draw,
         budget,

@@ -10,12 +10,13 @@ use Rattle.lt_formula.specs.declared.table.Table.{Table}
 use Rattle.lt_join.specs.Valued.{Weigher}
 use Rattle.lt_num.specs.declared.value.Value.{Value}
 use Rattle.lt_space.specs.Formula.{Formula}
-use Rattle.lt_term.specs.Configuration.{Configuration, known_in}
+use Rattle.lt_term.specs.Configuration.{Configuration, earlier_locals_from, known_in}
 use Rattle.lt_term.specs.Evaluated.{Worth}
 use Rattle.lt_term.specs.Mapped.{weight_mapped}
 use Rattle.lt_term.specs.Process.{Process, with_constraints}
 use Rattle.lt_term.specs.Scene.{Scene}
 use Rattle.lt_term.specs.SceneView.{scene}
+use Rattle.lt_term.specs.Tree.{Lasts}
 use Rattle.lt_instant.specs.Instant.{Leaf, words_of, worth_in}
 use Rattle.lt_instant.specs.StandingView.{configuration_behind}
 use Rattle.lt_instant.specs.declared.moment.Moment.{Moment}
@@ -49,6 +50,10 @@ worth_of m = worth_in (scene_of m) (configuration_of m) m.inputs.now
 -- what is known where locals were this in the instant before
 abbrev pub valuation_with : Moment → List (Option Value) → Valuation
 valuation_with m locals = record (known_in (scene_of m) (configuration_of m) m.inputs.now []) { pre_locals = locals }
+
+-- what is known where these locals are in scope
+abbrev pub valuation_at : Moment → Lasts → Valuation
+valuation_at m lasts = valuation_with m (earlier_locals_from lasts 0 (scene_of m).locals)
 
 -- the expression of a number
 abbrev pub meaning_of : Table → ℕ → Expression

@@ -1,5 +1,5 @@
 -- How a draw chooses.
-use Rattle.std.specs.Prelude.{◌≡◌, ◌≤◌, ◌+◌, ℕ, Bool, true, false, IsTrue, List, Some, length, reverse, vec_capacity}
+use Rattle.std.specs.Prelude.{◌≡◌, ◌≤◌, ◌+◌, ℕ, Bool, true, false, IsTrue, List, Some, reverse}
 use Rattle.std.specs.List.{list_all}
 use Rattle.lt_join.specs.Valued.{Spot, broken, valued}
 use Rattle.lt_lazy.specs.Order.{Ends, first_stop, order}
@@ -13,6 +13,7 @@ use Rattle.lt_term.specs.SceneView.{numbers_of}
 use Rattle.lt_term.specs.Tree.{Lasts, Weight, size}
 use Rattle.lt_track.specs.Narrow.{HasNarrowChoices}
 use Rattle.lt_track.specs.Path.{at_path, at_weighted}
+use Rattle.lt_instant.specs.Equipment.{IsEarlierOf}
 use Rattle.lt_instant.specs.declared.finding.Finding.{Finding}
 use Rattle.lt_instant.specs.declared.finding.Finding.TheVariants as findings
 use Rattle.lt_instant.specs.declared.moment.Moment.{Moment}
@@ -50,7 +51,7 @@ pub record CanDraw (m : Moment) (whole : TermTree ℕ) (p : Picker) : Type 0 whe
   pub passes : (path : List ℕ) (ls : Lasts) (ws : List (Weight ℕ)) → at_path whole path ≡ at_weighted ls ws →
       IsTrue (list_all (weight_passes (numbers_of m.scenario.now)) ws)
   pub narrow : HasNarrowChoices whole
-  pub locals : length m.scenario.now.locals.items ≤ vec_capacity p.locals
+  pub earlier : IsEarlierOf m.scenario.now p.earlier
 
 -- a draw is at a node of what a term offers, with at most so many nodes left
 pub record IsAtNode (m : Moment) (whole : TermTree ℕ) (most : ℕ) (p : Picker) : Type 0 where

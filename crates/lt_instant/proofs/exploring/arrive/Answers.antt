@@ -49,7 +49,7 @@ look-requires c =
     let behind = arrived m p e.picker q r c.deref.result.now c.deref.ensures.value most at c.reach.ensures.arrives in
     let follows = by_locals m p path r (held left w) (track.next t) c.deref.result.now c.deref.ensures.value (walked _ q.rooms r w (track.next t) c.reach.ensures.ends c.reach.ensures.follows) in
     record {
-      explores = explores_on m.scenario.now e t w q c.reach.ensures.same_body c.reach.ensures.tallied c.reach.ensures.same_rooms c.reach.ensures.same_raised (can_arrived m (offered_by m p) most q r behind).locals c.requires.ready.explores;
+      explores = explores_on m.scenario.now e t w q c.reach.ensures.same_body c.reach.ensures.tallied c.reach.ensures.same_rooms c.reach.ensures.same_raised (can_arrived m (offered_by m p) most q r behind).earlier c.requires.ready.explores;
       within = fired_pass (numbers_of m.scenario.now) (kinds_of m.scenario.now.locals.items) p pass path (held left w) (track.next t) c.arrivals_are_nodes.ensures.leaves r follows;
     }
 
@@ -75,7 +75,7 @@ returns-in-Ordered c =
     record {
       comes = choice_comes m (offered_by m p) most q c.has_found.result stops (c.has_found.ensures []);
       found = choice_has_found m c.trees_agree.ensures.leaves f left r (moved m path left f t w p refl refl same r follows) most c.has_found.result (subst (λ (x : Process ℕ). HasStoppedAt m (offered_by m x) most q) (sym same) stops) (c.has_found.ensures []);
-      ready = ready_on m e f same (explores_on m.scenario.now e t w q body c.reach.ensures.tallied c.reach.ensures.same_rooms c.reach.ensures.same_raised stops.can.locals c.requires.ready.explores) c.requires.ready;
+      ready = ready_on m e f same (explores_on m.scenario.now e t w q body c.reach.ensures.tallied c.reach.ensures.same_rooms c.reach.ensures.same_raised stops.can.earlier c.requires.ready.explores) c.requires.ready;
       same_tree = ap (λ x. valued (weigher_of m) (offered_by m x)) same;
       same = λ i. record { whole = body i; rest = same i };
     }
@@ -102,7 +102,7 @@ returns-in-Weighted c =
     record {
       comes = choice_comes m (offered_by m p) most q c.has_found-in-Weighted.result stops (c.has_found-in-Weighted.ensures []);
       found = choice_has_found m c.trees_agree.ensures.leaves f left r (moved m path left f t w p refl refl same r follows) most c.has_found-in-Weighted.result (subst (λ (x : Process ℕ). HasStoppedAt m (offered_by m x) most q) (sym same) stops) (c.has_found-in-Weighted.ensures []);
-      ready = ready_on m e f same (explores_on m.scenario.now e t w q body c.reach.ensures.tallied c.reach.ensures.same_rooms c.reach.ensures.same_raised stops.can.locals c.requires.ready.explores) c.requires.ready;
+      ready = ready_on m e f same (explores_on m.scenario.now e t w q body c.reach.ensures.tallied c.reach.ensures.same_rooms c.reach.ensures.same_raised stops.can.earlier c.requires.ready.explores) c.requires.ready;
       same_tree = ap (λ x. valued (weigher_of m) (offered_by m x)) same;
       same = λ i. record { whole = body i; rest = same i };
     }
