@@ -1,4 +1,3 @@
 pub mod Public
 pub mod Lists
 pub mod Numbers
-pub mod Written

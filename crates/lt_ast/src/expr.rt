@@ -3,7 +3,6 @@
 ghost use Rattle.std.specs.Prelude.{◌≡◌};
 
 use crate::name::{Literal, Name};
-use crate::sign::Sign;
 use crate::span::Span;
 use crate::trace::Braced;
 
@@ -15,20 +14,6 @@ pub enum UnOp {
 
     /// `not`.
     Not,
-}
-
-impl UnOp {
-    ghost use Rattle.lt_ast.specs.Tokens.{unary_sign};
-
-    /// The sign that it is written as.
-    pub fn sign(self) -> Sign
-        ensures { result ≡ unary_sign self }
-    {
-        match self {
-            UnOp::Neg => Sign::Minus,
-            UnOp::Not => Sign::Not,
-        }
-    }
 }
 
 /// An operator with two operands.
@@ -104,7 +89,6 @@ pub enum OperatorClass {
 
 impl BinOp {
     ghost use Rattle.lt_ast.specs.Operators.{class_of};
-    ghost use Rattle.lt_ast.specs.Tokens.{binary_sign};
 
     /// Its class.
     pub fn class(self) -> OperatorClass
@@ -116,30 +100,6 @@ impl BinOp {
             BinOp::Lt | BinOp::Le | BinOp::Gt | BinOp::Ge => OperatorClass::Order,
             BinOp::Add | BinOp::Sub | BinOp::Mul | BinOp::Div => OperatorClass::Arithmetic,
             BinOp::DivWord | BinOp::Mod => OperatorClass::Whole,
-        }
-    }
-
-    /// The sign that it is written as.
-    pub fn sign(self) -> Sign
-        ensures { result ≡ binary_sign self }
-    {
-        match self {
-            BinOp::Add => Sign::Plus,
-            BinOp::Sub => Sign::Minus,
-            BinOp::Mul => Sign::Star,
-            BinOp::Div => Sign::Slash,
-            BinOp::DivWord => Sign::Div,
-            BinOp::Mod => Sign::Mod,
-            BinOp::Eq => Sign::Equal,
-            BinOp::Ne => Sign::Unequal,
-            BinOp::Lt => Sign::Less,
-            BinOp::Le => Sign::LessEqual,
-            BinOp::Gt => Sign::Greater,
-            BinOp::Ge => Sign::GreaterEqual,
-            BinOp::And => Sign::And,
-            BinOp::Or => Sign::Or,
-            BinOp::Xor => Sign::Xor,
-            BinOp::Implies => Sign::Implies,
         }
     }
 }

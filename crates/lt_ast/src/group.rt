@@ -1,10 +1,7 @@
 //! Groups of variables or parameters.
 
-ghost use Rattle.std.specs.Prelude.{◌≡◌};
-
 use crate::expr::Expr;
 use crate::name::{Literal, Names};
-use crate::sign::Sign;
 
 /// The name of a type.
 #[derive(Clone, Copy, PartialEq, Eq)]
@@ -20,22 +17,6 @@ pub enum TypeName {
 
     /// `trace`.
     Trace,
-}
-
-impl TypeName {
-    ghost use Rattle.lt_ast.specs.Tokens.{type_sign};
-
-    /// The sign that it is written as.
-    pub fn sign(self) -> Sign
-        ensures { result ≡ type_sign self }
-    {
-        match self {
-            TypeName::Bool => Sign::Bool,
-            TypeName::Int => Sign::Int,
-            TypeName::Real => Sign::Real,
-            TypeName::Trace => Sign::Trace,
-        }
-    }
 }
 
 /// A range.

@@ -1,6 +1,6 @@
 -- The tokens of a text as the grammar sees them.
 use Rattle.std.proofs.Common.{◌≡◌, ℕ, List, [], ◌∷◌, refl, sym, ◌∙◌, subst}
-use Rattle.lt_lexer.specs.Source.{token_bytes, IsTokenOf, IsSign, StandInTurn}
+use Rattle.lt_lexer.specs.Source.{token_bytes, IsTokenOf, StandInTurn}
 use Rattle.lt_lexer.specs.Tokenization.{IsTokenization}
 use Rattle.lt_lexer.specs.declared.token.Token.{Token}
 use Rattle.lt_lexer.proofs.Public.{one_sign, one_tokenization, some_sign, stand_in_turn}

@@ -1,5 +1,5 @@
 -- Lines that are printed declaration by declaration are those of the program.
-use Rattle.std.proofs.Common.{◌≡◌, true, ℕ, ◌+◌, ◌-◌, ◌<◌, ◌≤◌, List, [], ◌∷◌, ◌++◌, length, map, take, refl, sym, ◌∙◌, ap, subst, Result, Ok, Err, String, Global, IsErrAnd, string_bytes, append_assoc, length-append, arith}
+use Rattle.std.proofs.Common.{◌≡◌, true, ℕ, ◌-◌, List, [], ◌∷◌, ◌++◌, length, map, take, refl, sym, ◌∙◌, ap, Result, Ok, Err, String, Global, IsErrAnd, string_bytes, append_assoc, length-append, arith}
 use Rattle.std.proofs.Math.Seq.{take-append_seam}
 use Rattle.std.proofs.lemmas.List.{append-nil, length-map, map-append, take-map}
 use Rattle.lt_ast.specs.Printed.{line, printed}

@@ -1,5 +1,5 @@
 -- The parser's tokens and refusals are those of the text.
-use Rattle.std.proofs.Common.{◌≡◌, ◌⊎◌, inl, inr, ℕ, zero, suc, ◌+◌, ◌<◌, List, [], ◌∷◌, length, drop, get_or, refl, sym, ◌∙◌, ap, subst, Result, Ok, Err, IfOk, IfErr, arith}
+use Rattle.std.proofs.Common.{◌≡◌, ◌⊎◌, inl, inr, ℕ, zero, suc, ◌<◌, List, [], ◌∷◌, length, drop, get_or, refl, sym, ap, subst, Result, Ok, Err, IfOk, IfErr, arith}
 use Rattle.lt_ast.specs.Syntax.{Declaration}
 use Rattle.lt_ast.specs.View.{program}
 use Rattle.lt_ast.specs.declared.program.Program.{Program}

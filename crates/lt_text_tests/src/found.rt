@@ -3,9 +3,9 @@
 ghost use Rattle.std.specs.Prelude.{◌≤◌};
 
 use crate::rows::NODE;
-use lt_ast::{Body, Decl, Expr, Program, print};
+use lt_ast::{Body, Decl, Expr, Program};
 use lt_lexer::{LexRefusal, Lexeme, lex};
-use lt_parser::{ParseRefusal, parse};
+use lt_parser::{parse, print};
 use lt_types::{TypeRefusal, check};
 use std::alloc::{AllocError, Global};
 use std::test::Fail;
@@ -22,13 +22,16 @@ pub enum Asked {
     /// How many tokens it has, how many of them have the bytes of their letters, and how many are spelled as their sign is.
     Spelled,
 
-    /// Its program, as it is printed.
+    /// What its program is printed as.
     Program,
+
+    /// Whether it has a program.
+    Parsed,
 
     /// The operator that its first macro stands for, and the places of both operands.
     Operands,
 
-    /// The programs in which it stands 200 and 201 times where a trace begins.
+    /// Whether the texts have a program in which it stands 200 and 201 times where a trace begins.
     Levels,
 
     /// Whether it keeps to the rules of types, where a real has two decimals.
@@ -40,7 +43,8 @@ pub enum Asked {
     /// The same where a real has six.
     FineTypes,
 
-    /// Its decimals, and the typed program, as it is lent and as it is given back.
+    /// Its decimals, and of the typed program, as it is lent and as it is given back, how many declarations it has and the
+    /// operator that its first macro stands for.
     Typed,
 }
 
@@ -51,6 +55,7 @@ pub fn found_of(alloc: Global, asked: Asked, text: &str) -> Result<String, Fail>
         Asked::Letters => letters_of(alloc, text.as_bytes()),
         Asked::Spelled => spelled_of(alloc, text.as_bytes()),
         Asked::Program => Ok(program_of(alloc, text)?),
+        Asked::Parsed => Ok(parsed_of(alloc, text)?),
         Asked::Operands => operands_of(alloc, text),
         Asked::Levels => Ok(levels_of(alloc, text)?),
         Asked::Types => types_of(alloc, text, 2),
@@ -111,22 +116,19 @@ fn spelled_of(alloc: Global, text: &[u8]) -> Result<String, Fail> {
     Ok(format!(in alloc; " {} {same} {spelled}", tokens.len())?)
 }
 
-// The program of a text.
+// What the program of a text is printed as, or the refusal.
 fn program_of(alloc: Global, text: &str) -> Result<String, AllocError> {
-    told_program(alloc, &parse(alloc, text.as_bytes()))
+    match print(alloc, text.as_bytes()) {
+        Ok(printed) => format!(in alloc; " {printed}"),
+        Err(refusal) => format!(in alloc; " {refusal:?}"),
+    }
 }
 
-// A program, or the refusal.
-fn told_program(
-    alloc: Global,
-    answer: &Result<Program, ParseRefusal>,
-) -> Result<String, AllocError> {
-    match answer {
-        Ok(program) => {
-            let text = print(alloc, program)?;
-            format!(in alloc; " {text}")
-        }
-        Err(refusal) => format!(in alloc; " {refusal:?}"),
+// Whether a text has a program, or the refusal.
+fn parsed_of(alloc: Global, text: &str) -> Result<String, AllocError> {
+    match parse(alloc, text.as_bytes()).err() {
+        Some(refusal) => format!(in alloc; " {refusal:?}"),
+        None => String::from_str(alloc, " Accepted"),
     }
 }
 
@@ -150,18 +152,18 @@ fn told_operands(alloc: Global, program: &Program) -> Result<String, AllocError>
     Ok(String::new(alloc))
 }
 
-// The programs of a text that stands 200 and 201 times where a trace begins.
+// Whether there is a program where a text stands 200 and 201 times where a trace begins.
 fn levels_of(alloc: Global, opener: &str) -> Result<String, AllocError> {
     let fewer = level_of(alloc, opener, 200)?;
     let more = level_of(alloc, opener, 201)?;
     format!(in alloc; "{fewer}{more}")
 }
 
-// The program of a text that stands so many times where a trace begins.
+// Whether there is a program where a text stands so many times where a trace begins.
 fn level_of(alloc: Global, opener: &str, times: usize) -> Result<String, AllocError> {
     let trace = opener.repeat(alloc, times)?;
     let text = format!(in alloc; "{NODE}{trace}")?;
-    program_of(alloc, &text)
+    parsed_of(alloc, &text)
 }
 
 // Whether a text keeps to the rules of types, where a real has so many decimals.
@@ -180,12 +182,18 @@ fn told_types(alloc: Global, refusal: Option<TypeRefusal>) -> Result<String, All
     }
 }
 
-// The decimals of a typed program, the program that it lends, and the one that it gives back.
+// The decimals of a typed program, and what is told of the program that it lends, and of the one that it gives back.
 fn typed_of(alloc: Global, text: &str) -> Result<String, Fail> {
     let program = parse(alloc, text.as_bytes())?;
     let typed = check(alloc, program, 2)?;
     let decimals = typed.decimals();
-    let lent = print(alloc, typed.program())?;
-    let given_back = print(alloc, &typed.into_program())?;
-    Ok(format!(in alloc; " {decimals} {lent}{given_back}")?)
+    let lent = told_typed(alloc, typed.program())?;
+    let given_back = told_typed(alloc, &typed.into_program())?;
+    Ok(format!(in alloc; " {decimals}{lent}{given_back}")?)
+}
+
+// How many declarations a program has, and the operator of the first one, where it is such a macro.
+fn told_typed(alloc: Global, program: &Program) -> Result<String, AllocError> {
+    let operands = told_operands(alloc, program)?;
+    format!(in alloc; " {}{operands}", program.decls.len())
 }

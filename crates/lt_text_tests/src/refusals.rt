@@ -61,6 +61,7 @@ try  ==> Unexpected(829) TooDeep(829)";
 #[test]
 fn texts_are_refused_at_a_place(rt: HostRuntime) -> Result<(), Fail> {
     check(&rt, rt.alloc(), Asked::Tokens, "", NO_TOKENS)?;
+    check(&rt, rt.alloc(), Asked::Parsed, "", NO_PROGRAM)?;
     check(&rt, rt.alloc(), Asked::Program, "", NO_PROGRAM)?;
     check(&rt, rt.alloc(), Asked::Levels, "", OPENERS)
 }

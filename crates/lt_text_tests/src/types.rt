@@ -142,9 +142,10 @@ fn each_rule_accepts_and_refuses(rt: HostRuntime) -> Result<(), Fail> {
     check(&rt, rt.alloc(), Asked::Types, "", NODES)
 }
 
-// The text of a program, its decimals, and the program that is lent and the one that is given back.
+// The text of a program, its decimals, and of the program that is lent and of the one that is given back how many
+// declarations it has, and the operator of its macro with the places of both operands.
 const TYPED: &str = "\
-node n ( ) returns ( b : bool ) = b␊ ==> 2 node n ( ) returns ( b : bool ) = b␊node n ( ) returns ( b : bool ) = b␊";
+let m: bool = true or false node n() returns (b: bool) = m ==> 2 2 Or 14-18 22-27 2 Or 14-18 22-27";
 
 #[test]
 fn a_typed_program_is_the_one_that_was_checked(rt: HostRuntime) -> Result<(), Fail> {

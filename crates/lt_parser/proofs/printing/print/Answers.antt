@@ -1,4 +1,4 @@
-use Rattle.std.proofs.Common.{Err, Ok, Result, String, Global, subst, sym}
+use Rattle.std.proofs.Common.{Err, Ok, subst, sym}
 use Rattle.lt_parser.specs.inner.Parsing.{ProgramReadsAs}
 use Rattle.lt_parser.specs.inner.Printing.{PrintsAs}
 use Rattle.lt_parser.specs.inner.Placing.{IsPlaced, IsWithin}

@@ -1,4 +1,4 @@
-use Rattle.std.proofs.Common.{◌≡◌, [], refl, rules, tests, string_bytes}
+use Rattle.std.proofs.Common.{[], refl, rules, tests, string_bytes}
 use Rattle.lt_parser.specs.inner.Tokens.{lexemes}
 use Rattle.lt_parser.proofs.Lines.{all_printed, next_line, none_yet, refused_behind}
 use Rattle.lt_parser.proofs.printing.print_program.Goals as goal
