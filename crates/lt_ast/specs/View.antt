@@ -11,7 +11,7 @@ use Rattle.lt_ast.specs.declared.expr.Expr.TheVariants.{Number, Flag, Named', Pr
 use Rattle.lt_ast.specs.declared.expr.Arg.{Arg}
 use Rattle.lt_ast.specs.declared.expr.Arg.TheVariants as arg
 use Rattle.lt_ast.specs.declared.trace.Bounds.{Bounds}
-use Rattle.lt_ast.specs.declared.trace.Bounds.TheVariants.{Forever, Between, Around}
+use Rattle.lt_ast.specs.declared.trace.Bounds.TheVariants.{Forever, Between', Around'}
 use Rattle.lt_ast.specs.declared.trace.Braced.{Braced}
 use Rattle.lt_ast.specs.declared.trace.Braced.TheVariants.{Plain', Choice, Priority', Parallel'}
 use Rattle.lt_ast.specs.declared.trace.Parts.{Parts, Parts', Row_of-Part, end_of-Part, more_of-Part, Held-Group-first, Group-first-None', Group-first-Some'}
@@ -78,8 +78,8 @@ abbrev mutual
   -- the bounds of a loop
   pub limits : Bounds → Limits
   limits Forever = s.forever
-  limits (Between a b) = s.between (exp a) (exp b)
-  limits (Around a b) = s.around (exp a) (exp b)
+  limits (Between' p a b) = s.between (exp a) (exp b)
+  limits (Around' p a b) = s.around (exp a) (exp b)
 
   -- what stands in braces
   pub braced : Braced → Braces

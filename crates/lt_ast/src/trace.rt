@@ -1,6 +1,6 @@
 //! Traces.
 
-use crate::expr::Expr;
+use crate::expr::{Expr, Operands};
 use crate::group::{Groups, TypeName};
 use crate::name::{Name, Names};
 use crate::span::Span;
@@ -13,10 +13,10 @@ pub enum Bounds {
     Forever,
 
     /// `loop [low, high]`.
-    Between(Expr, Expr),
+    Between(Box<Operands>),
 
     /// `loop ~ average : deviation`.
-    Around(Expr, Expr),
+    Around(Box<Operands>),
 }
 
 /// What stands in braces. `lead` says whether a sign stands before the first part.

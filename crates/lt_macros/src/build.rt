@@ -402,7 +402,7 @@ fn behind_loop(numbers: Numbers, written: &Limits) -> Result<Numbers, Memory>
 {
     match written {
         Limits::Forever => numbers.behind_term(),
-        Limits::Between(_, _) | Limits::Around(_, _) => numbers.behind_counter(),
+        Limits::Between(_) | Limits::Around(_) => numbers.behind_counter(),
     }
 }
 
@@ -442,12 +442,12 @@ fn build_bounds<'a>(
 {
     match written {
         Limits::Forever => Ok(None),
-        Limits::Between(low, high) => {
-            let pair = build_pair(builder, environment, low, high)?;
+        Limits::Between(ends) => {
+            let pair = build_pair(builder, environment, &ends.left, &ends.right)?;
             Ok(Some(Bounds::Between(pair.first, pair.second)))
         }
-        Limits::Around(average, deviation) => {
-            let pair = build_pair(builder, environment, average, deviation)?;
+        Limits::Around(ends) => {
+            let pair = build_pair(builder, environment, &ends.left, &ends.right)?;
             Ok(Some(Bounds::Around(pair.first, pair.second)))
         }
     }

@@ -269,10 +269,8 @@ fn put_loop<'a>(
             count.numbers = count.numbers.behind_term()?;
             put(count, Left::Trace(Phrase::Trace(body)), at)
         }
-        Bounds::Between(low, high) => put_counted(count, depth, at, low, high, body),
-        Bounds::Around(average, deviation) => {
-            put_counted(count, depth, at, average, deviation, body)
-        }
+        Bounds::Between(ends) => put_counted(count, depth, at, &ends.left, &ends.right, body),
+        Bounds::Around(ends) => put_counted(count, depth, at, &ends.left, &ends.right, body),
     }
 }
 

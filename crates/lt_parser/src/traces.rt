@@ -16,7 +16,7 @@ use crate::braces::parse_braced;
 use crate::expressions::{parse_expr, parse_paren};
 use crate::groups::{parse_groups, parse_macro};
 use crate::refusal::Refusal;
-use lt_ast::{Bounds, Expr, Sign, Span, TraceExpr, Traces};
+use lt_ast::{Bounds, Expr, Operands, Sign, Span, TraceExpr, Traces};
 use lt_lexer::Lexeme;
 use std::alloc::Global;
 
@@ -325,13 +325,21 @@ fn parse_bounds<'a>(alloc: Global, inside: u32, tokens: &'a [Lexeme<'a>]) -> Par
         let (_, rest) = expect(rest, Sign::Comma)?;
         let (high, rest) = parse_expr(alloc, inside, 0, rest)?;
         let (_, rest) = expect(rest, Sign::CloseBracket)?;
-        return Ok((Bounds::Between(low, high), rest));
+        let ends = Operands {
+            left: low,
+            right: high,
+        };
+        return Ok((Bounds::Between(Box::new(alloc, ends)?), rest));
     }
     if let Some((_, rest)) = after(tokens, Sign::Tilde) {
         let (average, rest) = parse_bound(alloc, inside, rest)?;
         let (_, rest) = expect(rest, Sign::Colon)?;
         let (deviation, rest) = parse_bound(alloc, inside, rest)?;
-        return Ok((Bounds::Around(average, deviation), rest));
+        let both = Operands {
+            left: average,
+            right: deviation,
+        };
+        return Ok((Bounds::Around(Box::new(alloc, both)?), rest));
     }
     Ok((Bounds::Forever, tokens))
 }

@@ -140,11 +140,11 @@ fn check_bounds(alloc: Global, scope: &mut Scope, bounds: &Bounds) -> Result<(),
 {
     match bounds {
         Bounds::Forever => Ok(()),
-        Bounds::Between(left, right) | Bounds::Around(left, right) => {
-            let kind = check_expr(alloc, scope, left)?;
-            check_kind(kind, TypeName::Int, left)?;
-            let kind = check_expr(alloc, scope, right)?;
-            check_kind(kind, TypeName::Int, right)
+        Bounds::Between(sides) | Bounds::Around(sides) => {
+            let kind = check_expr(alloc, scope, &sides.left)?;
+            check_kind(kind, TypeName::Int, &sides.left)?;
+            let kind = check_expr(alloc, scope, &sides.right)?;
+            check_kind(kind, TypeName::Int, &sides.right)
         }
     }
 }
