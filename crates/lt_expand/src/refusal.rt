@@ -65,7 +65,7 @@ impl ExpandRefusal {
             ExpandRefusal::BadStatic(span)
             | ExpandRefusal::NonLinear(span)
             | ExpandRefusal::ControllableCondition(span)
-            | ExpandRefusal::ControllableWeight(span) => Some(span.start),
+            | ExpandRefusal::ControllableWeight(span) => Some(span.start as usize),
             ExpandRefusal::UnknownNode | ExpandRefusal::TooLarge(_) | ExpandRefusal::Memory => None,
         }
     }

@@ -19,7 +19,7 @@ use std::alloc::Global;
 /// # Errors
 ///
 /// The first cause: the text spells no program, the program isn't well typed, or its node has no scenario.
-/// [`Unprepared::Memory`] where memory ran out.
+/// [`Unprepared::Memory`] where memory ran out, or the text has 2^32 bytes or more.
 pub fn scenario_of(
     alloc: Global,
     text: &[u8],
@@ -42,7 +42,7 @@ pub fn scenario_of(
 ///
 /// # Errors
 ///
-/// The text spells no program; [`Unprepared::Memory`] where memory ran out.
+/// The text spells no program; [`Unprepared::Memory`] where memory ran out, or the text has 2^32 bytes or more.
 pub fn printed_text(alloc: Global, text: &[u8]) -> Result<String, Unprepared>
     ensures made { IfOk result (λ made. IsPrintedAnswer text.now (Ok (string_bytes made))) }
     ensures refused { IfErr result (λ why.

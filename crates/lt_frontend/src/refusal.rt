@@ -29,7 +29,7 @@ pub enum Unprepared {
     #[error("{0}")]
     Refused(Refusal),
 
-    /// Memory ran out.
+    /// Memory ran out, or the text has 2^32 bytes or more.
     #[error("out of memory")]
     Memory,
 }

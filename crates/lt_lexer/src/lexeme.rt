@@ -14,15 +14,15 @@ pub struct Lexeme<'a> {
     /// Which sign it is.
     pub sign: Sign,
 
-    /// Its letters.
-    pub text: &'a str,
-
     /// The place of its first letter. A text has many tokens, and where one ends follows from its letters.
-    pub start: usize,
+    pub start: u32,
+
+    /// Its letters. They stand last, so that the sign and the place share a word.
+    pub text: &'a str,
 
     pub ghost number: { sign ≡ Number → IsNumber text.now },
     pub ghost spelled: { has_own_letters sign ≡ true → text.now ≡ spelled sign },
-    pub ghost ends: { start + length text.now < 2 ^ 64 },
+    pub ghost ends: { start + length text.now < 2 ^ 32 },
 }
 
 impl Lexeme<'_> {
@@ -34,7 +34,7 @@ impl Lexeme<'_> {
     {
         Span {
             start: self.start,
-            end: self.start + self.text.len(),
+            end: self.start + self.text.len() as u32,
         }
     }
 }

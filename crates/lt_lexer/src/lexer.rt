@@ -1,6 +1,6 @@
 //! From a text to its tokens.
 
-ghost use Rattle.std.specs.Prelude.{◌≡◌, ◌⊎◌, List, IfOk, IfErr};
+ghost use Rattle.std.specs.Prelude.{◌≡◌, ◌<◌, ◌^◌, ◌⊎◌, List, IfOk, IfErr, length};
 ghost use Rattle.lt_lexer.specs.Tokenization.{IsTokenization, IsRefusal};
 ghost use Rattle.lt_lexer.specs.Source.{TextIsReadAs, AnswersTokens, AnswersRefusal};
 ghost use Rattle.lt_lexer.specs.declared.token.Token.{Token};
@@ -13,10 +13,14 @@ use crate::token::Token;
 use lt_ast::Span;
 use std::alloc::Global;
 
+// The most bytes of a text that is read: each place in it is a number of 32 bits.
+const MOST_BYTES: usize = 4_294_967_295;
+
 /// The tokens of a text from end to end, in their order.
 ///
 /// A text that has none is refused with the first place from the left at which the rules fail. The one
-/// answer that the text doesn't determine is [`LexRefusal::Memory`].
+/// answer that the text doesn't determine is [`LexRefusal::Memory`], which each text of 2^32 bytes or more
+/// gets.
 pub fn lex<'a>(alloc: Global, text: &'a [u8]) -> Result<Vec<Lexeme<'a>>, LexRefusal>
     // What is answered are the text's tokens, each with its sign and its letters ..
     ensures found { IfOk result (λ v. TextIsReadAs text.now v.items) }
@@ -31,11 +35,15 @@ pub fn lex<'a>(alloc: Global, text: &'a [u8]) -> Result<Vec<Lexeme<'a>>, LexRefu
     ensures refuses { (refusal : LexRefusal) →
         IsRefusal text.now refusal → AnswersRefusal refusal result }
 {
+    if text.len() > MOST_BYTES {
+        return Err(LexRefusal::Memory);
+    }
     tokens_of(alloc, text)
 }
 
 // The tokens of a text, piece by piece. There is room at once for one in every two bytes, and few texts have more.
 fn tokens_of<'a>(alloc: Global, text: &'a [u8]) -> Result<Vec<Lexeme<'a>>, LexRefusal>
+    requires { length text.now < 2 ^ 32 }
     ensures found { IfOk result (λ v. TextIsReadAs text.now v.items) }
     ensures refused { IfErr result (λ refusal.
         (refusal ≡ LexRefusal.Memory) ⊎ IsRefusal text.now refusal) }
@@ -46,11 +54,11 @@ fn tokens_of<'a>(alloc: Global, text: &'a [u8]) -> Result<Vec<Lexeme<'a>>, LexRe
         let start = text.len() - rest.len();
         let piece = first_piece(rest, start)?;
         if let Some(kind) = piece.kind {
-            let end = start + piece.len;
-            let token = Token {
-                kind,
-                span: Span { start, end },
+            let span = Span {
+                start: start as u32,
+                end: (start + piece.len) as u32,
             };
+            let token = Token { kind, span };
             tokens.push(token.lexeme(text))?;
         }
         rest = &rest[piece.len..];

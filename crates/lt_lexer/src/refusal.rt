@@ -20,7 +20,7 @@ pub enum LexRefusal {
     #[error("the number at byte {0} has more than 18 digits")]
     NumberTooLong(usize),
 
-    /// Memory ran out.
+    /// Memory ran out, or the text has 2^32 bytes or more.
     #[error("out of memory")]
     Memory,
 }

@@ -40,7 +40,7 @@ impl Token {
         ensures bytes { result.now ≡ token_bytes text.now self.now }
         ensures number { self.now.kind ≡ TokenKind.Number → IsNumber result.now }
     {
-        &text[self.span.start..self.span.end]
+        &text[self.span.start as usize..self.span.end as usize]
     }
 
     /// Those bytes as letters.
@@ -57,11 +57,13 @@ impl Token {
         requires { IsTokenOf text.now self.now }
         ensures { IsReadAs text.now self.now result }
     {
+        // That its end is a number of 32 bits is known once it is read.
+        let Span { start, end: _end } = self.span;
         let sign = self.sign(text);
         Lexeme {
             sign,
             text: self.spelling(text, sign),
-            start: self.span.start,
+            start,
         }
     }
 

@@ -166,7 +166,7 @@ pub(crate) fn put_exception<'a>(
     Ok(scope.push(Entry {
         name: name.text.as_str(),
         outer,
-        binding: Binding::Exception(name.span.start, before),
+        binding: Binding::Exception(name.span.start as usize, before),
     })?)
 }
 

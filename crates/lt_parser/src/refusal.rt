@@ -19,7 +19,7 @@ pub enum ParseRefusal {
     #[error("more than 200 levels are open at byte {0}")]
     TooDeep(usize),
 
-    /// Memory ran out.
+    /// Memory ran out, or the text has 2^32 bytes or more.
     #[error("out of memory")]
     Memory,
 }

@@ -66,7 +66,7 @@ fn place(text: &[u8], tokens: &[Lexeme<'_>], left: usize) -> usize
     ensures { result ≡ start_of text.now (last_of (lexemes tokens.now) left) }
 {
     match tokens.get(tokens.len() - left) {
-        Some(token) => token.start,
+        Some(token) => token.start as usize,
         None => text.len(),
     }
 }

@@ -106,7 +106,7 @@ fn spelled_of(alloc: Global, text: &[u8]) -> Result<String, Fail> {
     let mut spelled = 0usize;
     for token in &tokens {
         let span = token.span();
-        if text.get(span.start..span.end) == Some(token.text.as_bytes()) {
+        if text.get(span.start as usize..span.end as usize) == Some(token.text.as_bytes()) {
             same = same.saturating_add(1);
         }
         if token.sign.text() == token.text {

@@ -82,7 +82,7 @@ impl TypeRefusal {
             | TypeRefusal::PreOfExpression(span)
             | TypeRefusal::EmptyRange(span)
             | TypeRefusal::RangeTooLarge(span)
-            | TypeRefusal::BadStep(span) => Some(span.start),
+            | TypeRefusal::BadStep(span) => Some(span.start as usize),
             TypeRefusal::NoNode | TypeRefusal::Memory => None,
         }
     }

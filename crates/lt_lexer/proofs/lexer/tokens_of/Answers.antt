@@ -12,10 +12,15 @@ returns-in_err-piece-clause-refused c =
     let p = err_from_is_err_and c.from_residual-in_err-piece.result c.from_residual-in_err-piece.ensures.1 in
     rw (p.1, p.2) (inr (refusal_of c.args.text.now c.loop-rest.invariant.read.tokens c.loop-rest.rest.now (length c.args.text.now - length c.loop-rest.rest.now) c.in_err-piece.field-0.0 c.loop-rest.invariant.read.read refl c.in_err-piece.ensures))
 
-pub overflow_add-end : goal.overflow_add-end
-overflow_add-end c =
+pub overflow_add-span : goal.overflow_add-span
+overflow_add-span c =
     let within : c.in_ok-piece.piece.len ≤ length c.loop-rest.rest.now = first-within c.loop-rest.rest.now c.in_ok-piece.piece (first_of (length c.args.text.now - length c.loop-rest.rest.now) _ _ c.in_ok-piece.ensures) in
     omega (arith, c.loop-rest.invariant.short)
+
+pub overflow_cast-span-in-Some : goal.overflow_cast-span-in-Some
+overflow_cast-span-in-Some c =
+    let within : c.in_ok-piece.piece.len ≤ length c.loop-rest.rest.now = first-within c.loop-rest.rest.now c.in_ok-piece.piece (first_of (length c.args.text.now - length c.loop-rest.rest.now) _ _ c.in_ok-piece.ensures) in
+    omega (arith, c.loop-rest.invariant.short, c.requires)
 
 pub slice_bounds-rest-count : goal.slice_bounds-rest-count
 slice_bounds-rest-count c = first-within c.loop-rest.rest.now c.in_ok-piece.piece (first_of (length c.args.text.now - length c.loop-rest.rest.now) _ _ c.in_ok-piece.ensures)

@@ -1,4 +1,4 @@
-use Rattle.std.proofs.Common.{◌≡◌, ℕ, ◌+◌, ◌≤◌, length, sym, ap, ◌∙◌, arith, subst}
+use Rattle.std.proofs.Common.{◌≡◌, ℕ, ◌+◌, length, sym, ap, ◌∙◌, arith, subst}
 use Rattle.lt_num.specs.Literal.{IsNumber}
 use Rattle.lt_ast.specs.declared.span.Span.{Span}
 use Rattle.lt_lexer.specs.Source.{token_bytes}
@@ -9,7 +9,6 @@ pub invariant_of-result : goal.invariant_of-result
 invariant_of-result c =
     let end : c.args.self.now.span.start + length (token_bytes c.args.text.now c.args.self.now) ≡ c.args.self.now.span.end = token_end c.args.text.now c.args.self.now c.requires in
     let long : length c.spelling.result.now ≡ length (token_bytes c.args.text.now c.args.self.now) = ap length c.spelling.ensures in
-    let within : c.args.self.now.span.end ≤ length c.args.text.now = c.requires.within in
     record {
       number = λ is. subst IsNumber (sym c.spelling.ensures) (number_letters c.args.text.now c.args.self.now c.sign-sign.result c.requires c.sign-sign.ensures is);
       spelled = λ own. c.spelling.ensures ∙ sign_letters c.args.text.now c.args.self.now c.sign-sign.result c.sign-sign.ensures own;
