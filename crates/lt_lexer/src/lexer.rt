@@ -42,13 +42,19 @@ pub fn lex<'a>(alloc: Global, text: &'a [u8]) -> Result<Vec<Lexeme<'a>>, LexRefu
 }
 
 // The tokens of a text, piece by piece. There is room at once for one in every two bytes, and few texts have more.
+//
+// That room is taken, given back, and taken again. The C library asks the system for a block of over 128 KiB by itself, with
+// pages that are all new. Once it got one back, it takes blocks of up to that size from its heap: so the pages of the tokens
+// are there for what is made when they are gone.
 fn tokens_of<'a>(alloc: Global, text: &'a [u8]) -> Result<Vec<Lexeme<'a>>, LexRefusal>
     requires { length text.now < 2 ^ 32 }
     ensures found { IfOk result (λ v. TextIsReadAs text.now v.items) }
     ensures refused { IfErr result (λ refusal.
         (refusal ≡ LexRefusal.Memory) ⊎ IsRefusal text.now refusal) }
 {
-    let mut tokens = Vec::with_capacity(alloc, text.len() / 2)?;
+    let most = text.len() / 2;
+    drop(Vec::<Lexeme<'a>>::with_capacity(alloc, most)?);
+    let mut tokens = Vec::with_capacity(alloc, most)?;
     let mut rest = text;
     while !rest.is_empty() {
         let start = text.len() - rest.len();
