@@ -88,6 +88,10 @@ not_free numbers k free h = clash h.0 (sym (free_at numbers k free) ∙ h.1)
     clash : (n : ℕ) → None ≡ Some n → ⊥
     clash n e = cc
 
+-- where none is noted, nothing is told
+pub untold : (s : Space) → IsTrue (are_free (memo_numbers s.noted)) → (k : ℕ) → space_told s k ≡ None
+untold s free k = ap (told_at (circuit_formulas (space_circuit s))) (free_at (memo_numbers s.noted) k free)
+
 -- a number that is noted is below
 pub below_at : (most : ℕ) (numbers : List (Option ℕ)) (k n : ℕ) → IsTrue (are_below most numbers) → Some n ≡ number_at numbers k → n < most
 below_at most [] k n h is = absurd (cc)
@@ -539,7 +543,7 @@ module _ (v : Valuation) (t : Table) where
   tells_none s is free =
       record {
         evaluated = λ k l x. absurd (subst (λ (ks : List ℕ). EvaluateSome v (table_kinds t) (map (at t) ks) (at t k)) is x);
-        skipped = λ k l x. ap (told_at (circuit_formulas (space_circuit s))) (free_at (memo_numbers s.noted) k free);
+        skipped = λ k l x. untold s free k;
       }
 
 -- What was noted of the parts of an expression.

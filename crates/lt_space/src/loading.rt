@@ -1,6 +1,6 @@
 //! Lists of constraints, loaded.
 
-ghost use Rattle.std.specs.Prelude.{true, ◌≡◌, ◌<◌, ◌≤◌, ◌+◌, ◌*◌, IsTrue, OnErr, OnOk, length, map, nat_lt};
+ghost use Rattle.std.specs.Prelude.{true, false, ◌≡◌, ◌<◌, ◌≤◌, ◌+◌, ◌*◌, IsTrue, OnErr, OnOk, length, map, nat_lt};
 ghost use Rattle.std.specs.List.{list_all};
 ghost use Rattle.lt_num.specs.Bounds.{most_decimals};
 ghost use Rattle.lt_formula.specs.Kinds.{variables_of};
@@ -24,7 +24,7 @@ use lt_formula::{Known, Table};
 use lt_num::Arith;
 
 /// Loads the constraints of a list as [`load_into`] does, and notes what is evaluated for them, where notes are asked for.
-/// Where they meet a fault nothing is noted.
+/// Where they meet a fault, or no notes are asked for, nothing is noted.
 pub(crate) fn load_and_note(
     table: &Table,
     wanted: &[u32],
@@ -45,6 +45,7 @@ pub(crate) fn load_and_note(
     ensures evaluated { notes ≡ true → OnOk result (AreEvaluated (valuation_of_known known.now)
         table.now wanted.now (formulas_in work.new) (memo_numbers noted.new)) }
     ensures none { OnErr result (IsTrue (are_free (memo_numbers noted.new))) }
+    ensures untold { notes ≡ false → IsTrue (are_free (memo_numbers noted.new)) }
     ensures below { IsTrue (are_below (length (formulas_in work.new)) (memo_numbers noted.new)) }
     ensures len { length (memo_numbers noted.new) ≡ length (memo_numbers noted.old) }
 {

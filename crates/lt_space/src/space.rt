@@ -1,6 +1,6 @@
 //! The constraints of an instant, loaded.
 
-ghost use Rattle.std.specs.Prelude.{◌≡◌, ◌<◌, ◌≤◌, [], true, IfOk, IsTrue, OnOk, OnErr, length, map, nat_lt, vec_capacity};
+ghost use Rattle.std.specs.Prelude.{◌≡◌, ◌<◌, ◌≤◌, [], true, false, ℕ, None, IfOk, IsTrue, OnOk, OnErr, length, map, nat_lt, vec_capacity};
 ghost use Rattle.std.specs.List.{list_all};
 ghost use Rattle.lt_num.specs.Bounds.{most_decimals};
 ghost use Rattle.lt_formula.specs.Kinds.{variables_of};
@@ -62,6 +62,7 @@ impl Space {
         ensures formula { IfOk result (λ space. space_formula space ≡ truth true) }
         ensures decimals { IfOk result (λ space. space_decimals space ≡ 0) }
         ensures most { IfOk result (λ space. space_most space ≡ most) }
+        ensures untold { IfOk result (λ space. (k : ℕ) → space_told space k ≡ None) }
     {
         let expressions = table.len();
         let wanted = Vec::with_capacity(alloc, most)?;
@@ -105,6 +106,7 @@ impl Space {
         ensures table_stays { IsOver table.now self.new }
         ensures most_stays { space_most self.new ≡ space_most self.old }
         ensures gates { space_gates self.new ≡ space_gates self.old }
+        ensures untold { (k : ℕ) → space_told self.new k ≡ None }
     {
         self.fill(table, wanted, known, false)
     }
@@ -165,6 +167,7 @@ impl Space {
         ensures gates { space_gates self.new ≡ space_gates self.old }
         ensures tells { notes ≡ true →
             TellsEvaluated (valuation_of_known known.now) table.now self.new }
+        ensures untold { notes ≡ false → (k : ℕ) → space_told self.new k ≡ None }
     {
         self.wanted.clear();
         self.decimals = known.decimals;
