@@ -32,7 +32,7 @@ pub struct Solver {
     // Where a search begins.
     aims: Aims,
 
-    // The literal that each expression of the table is, if it is one.
+    // For each expression of the table a literal that it is, where one was found.
     known: Vec<Option<Literal>>,
 
     // The literals of an instant that has nothing else, its values, and a mark for each variable: whether it is in scope
