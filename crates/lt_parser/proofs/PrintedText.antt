@@ -19,7 +19,7 @@ use Rattle.lt_lexer.specs.declared.token.TokenKind.{TokenKind}
 use Rattle.lt_lexer.specs.declared.token.TokenKind.TheVariants as kind
 use Rattle.lt_lexer.proofs.Public.{reads_apart}
 use Rattle.lt_parser.specs.Lexemes.{Lexemes, lexeme}
-use Rattle.lt_parser.specs.PrintedText.{PrintedReadsBack}
+use Rattle.lt_parser.specs.PrintedText.{PrintedReadsBack, PrintsItsTokens}
 use Rattle.lt_parser.specs.Text.{AreLexemesOf, IsProgramOf}
 use Rattle.lt_parser.specs.Unplaced.{AreAlike, unplaced}
 use Rattle.lt_parser.specs.Written.{written_of, IsSpelled, AreSpelled}
@@ -140,6 +140,10 @@ are_spelled text [] [] h = tt
 are_spelled text [] (l ∷ ls) h = absurd h
 are_spelled text (token ∷ tokens) [] h = absurd h
 are_spelled text (token ∷ tokens) (lexeme sign w at ∷ ls) h = (is_spelled text token sign w at h.0.0 h.0.1, are_spelled text tokens ls h.1)
+
+-- A text's program is printed with the text's own tokens.
+pub prints_its_tokens : PrintsItsTokens
+prints_its_tokens = λ text ls x has spells. written_as_spelled most_levels ls x (are_spelled text has.0 ls has.2) spells
 
 -- the bytes of tokens are the letters of their lexemes
 bytes_of_lexemes : (text : List ℕ) (tokens : List Token) (ls : Lexemes) → AreLexemesOf text tokens ls → token_texts (map written_of ls) ≡ map (token_bytes text) tokens

@@ -22,6 +22,6 @@ abbrev pub AreSpelled : Lexemes → Type 0
 AreSpelled [] = Unit {0}
 AreSpelled (token ∷ ts) = IsSpelled token × AreSpelled ts
 
--- A program is written with the tokens that spell it.
+-- A program is written with the tokens that spell it, where each of them has the letters of its sign.
 abbrev pub WrittenAsSpelled : Type 0
 WrittenAsSpelled = (most : ℕ) (ts : Lexemes) (x : List Declaration) → AreSpelled ts → SpellsWithin most ts x → map written_of ts ≡ tokens_of x

@@ -2,7 +2,7 @@
 
 ghost use Rattle.std.specs.Prelude.{◌≡◌, ◌⊎◌, ℕ, List};
 ghost use Rattle.lt_ast.specs.Syntax.{Declaration};
-ghost use Rattle.lt_parser.specs.PrintedText.{PrintedReadsBack};
+ghost use Rattle.lt_parser.specs.PrintedText.{PrintedReadsBack, PrintsItsTokens};
 ghost use Rattle.lt_parser.specs.Program.{SpellsAtMostOne};
 ghost use Rattle.lt_parser.specs.Text.{IsProgramOf, IsRefusal};
 ghost use Rattle.lt_parser.specs.Unplaced.{SpelledElsewhere};
@@ -15,7 +15,7 @@ pub fn at_most_one_program()
     ensures { SpellsAtMostOne }
 {}
 
-/// A program is written with the tokens that spell it.
+/// A program is written with the tokens that spell it, where each of them has the letters of its sign.
 #[tactic(auto, using(crate::proofs::Written::written_as_spelled))]
 pub fn program_is_written_as_spelled()
     ensures { WrittenAsSpelled }
@@ -43,4 +43,9 @@ pub fn one_answer_belongs_to_a_text()
 /// What a text's program is printed as spells the same program, but for the places.
 pub fn printed_text_reads_back()
     ensures { PrintedReadsBack }
+{}
+
+/// The tokens that a text's program is printed with are the text's own, in their order.
+pub fn text_is_printed_by_its_tokens()
+    ensures { PrintsItsTokens }
 {}

@@ -23,7 +23,7 @@ mod traces;
 
 pub use laws::{
     at_most_one_program, one_answer_belongs_to_a_text, printed_text_reads_back,
-    program_is_written_as_spelled, spelled_elsewhere,
+    program_is_written_as_spelled, spelled_elsewhere, text_is_printed_by_its_tokens,
 };
 pub use printing::print;
 pub use refusal::ParseRefusal;
