@@ -29,7 +29,7 @@ use lt_term::Scenario;
 use lt_track::{size, steps_grow_by_one};
 
 // How many nodes a tree has at most.
-const MOST_NODES: u64 = 65_536;
+const MOST_NODES: u32 = 65_536;
 
 /// What an instant takes of what a term offers.
 #[derive(Clone, Copy)]

@@ -17,7 +17,7 @@ pub struct Guide<'a> {
     part: u32,
 
     // How many nodes stand before it.
-    nodes: u64,
+    nodes: u32,
 }
 
 impl<'a> Guide<'a> {
@@ -40,7 +40,7 @@ impl<'a> Guide<'a> {
     }
 
     /// How many nodes stand before the part that was asked for.
-    pub fn nodes(&self) -> u64 {
+    pub fn nodes(&self) -> u32 {
         self.nodes
     }
 }
@@ -60,7 +60,7 @@ impl<'a> Chooser<()> for Guide<'a> {
         Some(choice)
     }
 
-    fn side(&mut self, _moment: &(), nodes: u64) -> Option<u32> {
+    fn side(&mut self, _moment: &(), nodes: u32) -> Option<u32> {
         if self.part > 0 {
             self.nodes = nodes;
         }
@@ -72,7 +72,7 @@ impl<'a> Chooser<()> for Guide<'a> {
         _moment: &(),
         _scope: &[(u32, Last)],
         _weights: &[Weight],
-        before: &[u64],
+        before: &[u32],
     ) -> Option<u32> {
         if let Some(nodes) = before.get(self.part as usize) {
             self.nodes = *nodes;

@@ -59,8 +59,8 @@ fn leave(open: &mut Vec<Open>) -> Result<(), AllocError> {
 }
 
 /// How many nodes stand in so many parts of a choice, by the paths of all nodes.
-pub(crate) fn nodes_in(paths: &[Vec<u32>], choice: &[u32], parts: u32) -> u64 {
-    let mut count = 0u64;
+pub(crate) fn nodes_in(paths: &[Vec<u32>], choice: &[u32], parts: u32) -> u32 {
+    let mut count = 0u32;
     for path in paths {
         if is_in(path, choice, parts) {
             count = count.saturating_add(1);

@@ -85,7 +85,7 @@ impl Run {
     }
 
     /// How many nodes stand before a part of the choice at a path by the marks.
-    pub fn nodes_before(&mut self, scenario: &Scenario, choice: &[u32], part: u32) -> u64
+    pub fn nodes_before(&mut self, scenario: &Scenario, choice: &[u32], part: u32) -> u32
         requires { IsRun self.old }
         ensures { IsRun self.new }
     {

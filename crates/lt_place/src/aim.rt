@@ -7,10 +7,10 @@ ghost use Rattle.std.specs.Prelude.{◌≤◌};
 #[derive(Clone, Copy)]
 pub struct Aim {
     /// What a leaf weighs that vanishes.
-    pub vanish: u64,
+    pub vanish: u32,
 
     /// What a leaf weighs that goes on.
-    pub go: u64,
+    pub go: u32,
 
     pub ghost some_vanish: { 1 ≤ vanish },
     pub ghost few_vanish: { vanish ≤ 65537 },

@@ -30,7 +30,7 @@ pub trait Chooser<M> {
             is_at self.old moment whole most → is_at self.new moment whole most };
 
     /// Which side of the order at the end of its path to go on with, of which the first has so many nodes; none to stop there.
-    fn side(&mut self, moment: &M, nodes: u64) -> Option<u32>
+    fn side(&mut self, moment: &M, nodes: u32) -> Option<u32>
         requires ends { left self.old ≡ [] }
         requires asked { (whole : TermTree ℕ) × (most : ℕ) × is_at self.old moment.now whole most ×
             IsOrder whole (come self.old) nodes }
@@ -47,7 +47,7 @@ pub trait Chooser<M> {
         moment: &M,
         scope: &[(u32, Last)],
         weights: &[Weight],
-        before: &[u64],
+        before: &[u32],
     ) -> Option<u32>
         requires ends { left self.old ≡ [] }
         requires asked { (whole : TermTree ℕ) × (most : ℕ) × is_at self.old moment.now whole most ×

@@ -8,7 +8,7 @@ use lt_track::{Parts, Track};
 use std::alloc::{AllocError, Global};
 
 /// Room for what leaves weigh that raise an exception, by the number of the exception: each weighs 1.
-pub fn weights_for(alloc: Global, track: &Track) -> Result<Vec<u64>, AllocError>
+pub fn weights_for(alloc: Global, track: &Track) -> Result<Vec<u32>, AllocError>
     ensures { IfOk result (λ weights. IsRoomFor (body track.now) weights.items) }
 {
     let exceptions = exceptions_in(track) as usize;

@@ -16,7 +16,7 @@ use lt_tally::{grown, joined};
 use lt_track::{Parts, Track, part_raises, part_tally};
 
 /// What the tree of a part weighs, at its beginning or where the run stands.
-pub(crate) fn weigh(part: &Box<Track>, is_fresh: bool, aim: Aim, weights: &[u64]) -> u64
+pub(crate) fn weigh(part: &Box<Track>, is_fresh: bool, aim: Aim, weights: &[u32]) -> u32
     requires tallied { IsTallied part.now.value }
     requires weights { AreWeights weights.now }
     ensures weight { IsWeight result }
@@ -34,7 +34,7 @@ pub(crate) fn weigh(part: &Box<Track>, is_fresh: bool, aim: Aim, weights: &[u64]
 }
 
 // So much, and what the leaves of a part that raise an exception weigh more than 1.
-fn with_raised(number: u64, part: &Box<Track>, is_fresh: bool, exception: u32, weight: u64) -> u64
+fn with_raised(number: u32, part: &Box<Track>, is_fresh: bool, exception: u32, weight: u32) -> u32
     requires tallied { IsTallied part.now.value }
     requires number { IsWeight number }
     requires weight { IsWeight weight }
@@ -51,7 +51,7 @@ fn with_raised(number: u64, part: &Box<Track>, is_fresh: bool, exception: u32, w
 }
 
 /// What a leaf weighs that raises an exception.
-pub(crate) fn weight_at(weights: &[u64], exception: u32) -> u64
+pub(crate) fn weight_at(weights: &[u32], exception: u32) -> u32
     requires within { exception < length weights.now }
     ensures is { result ≡ slice_index_or weights.now exception 0 }
 {
@@ -59,7 +59,7 @@ pub(crate) fn weight_at(weights: &[u64], exception: u32) -> u64
 }
 
 /// What a loop weighs that begins a turn, whether it is counted or not. A turn that takes no instant is none.
-pub(crate) fn weigh_loop(again: &Box<Track>, aim: Aim, weights: &[u64]) -> u64
+pub(crate) fn weigh_loop(again: &Box<Track>, aim: Aim, weights: &[u32]) -> u32
     requires tallied { IsTallied again.now.value }
     requires weights { AreWeights weights.now }
     ensures weight { IsWeight result }
@@ -83,10 +83,10 @@ pub(crate) fn weigh_loop(again: &Box<Track>, aim: Aim, weights: &[u64]) -> u64
 #[cycle(before)]
 pub(crate) fn put_before(
     among: &Parts,
-    nodes: u64,
+    nodes: u32,
     aim: Aim,
-    weights: &[u64],
-    before: &mut Vec<u64>,
+    weights: &[u32],
+    before: &mut Vec<u32>,
 )
     requires tallied { AreTallied among.now }
     requires weights { AreWeights weights.now }

@@ -9,7 +9,7 @@ const MOST: u64 = 65_537;
 
 /// A number, and so many times another one, up to 65,537.
 #[tactic(auto, using(crate::proofs::Greatest::joined_capped))]
-pub fn joined(number: u64, copies: u64, part: u64) -> u64
+pub fn joined(number: u32, copies: u32, part: u32) -> u32
     requires number { number ≤ 65537 }
     requires copies { copies ≤ 65537 }
     requires part { part ≤ 65537 }
@@ -18,12 +18,12 @@ pub fn joined(number: u64, copies: u64, part: u64) -> u64
     ensures is { (x c m : ℕ) → number ≡ capped x → copies ≡ capped c → part ≡ capped m →
         result ≡ capped (x + c * m) }
 {
-    (number + copies * part).min(MOST)
+    (number as u64 + copies as u64 * part as u64).min(MOST) as u32
 }
 
 /// The nodes of a tree in which so many leaves are replaced by a tree of so many nodes, up to 65,537.
 #[tactic(auto, using(crate::proofs::Greatest::grown_capped))]
-pub fn grown(nodes: u64, copies: u64, part: u64) -> u64
+pub fn grown(nodes: u32, copies: u32, part: u32) -> u32
     requires nodes { nodes ≤ 65537 }
     requires copies { copies ≤ 65537 }
     requires part { part ≤ 65537 }
@@ -33,5 +33,5 @@ pub fn grown(nodes: u64, copies: u64, part: u64) -> u64
     ensures is { (x c m : ℕ) → 1 ≤ x → 1 ≤ m → nodes ≡ capped x → copies ≡ capped c →
         part ≡ capped m → result ≡ capped (x + c * (m - 1)) }
 {
-    (nodes + copies * (part - 1)).min(MOST)
+    (nodes as u64 + copies as u64 * (part as u64 - 1)).min(MOST) as u32
 }

@@ -12,7 +12,7 @@ use crate::capped::joined;
 use crate::tally::Tally;
 
 /// A first part, with a second one in place of each leaf that vanishes.
-pub fn raised_in_turn(first: Tally, raised: u64, second: u64) -> u64
+pub fn raised_in_turn(first: Tally, raised: u32, second: u32) -> u32
     requires raised { raised ≤ 65537 }
     requires second { second ≤ 65537 }
     ensures few { result ≤ 65537 }
@@ -24,7 +24,7 @@ pub fn raised_in_turn(first: Tally, raised: u64, second: u64) -> u64
 }
 
 /// Two sides at once.
-pub fn raised_beside(first: Tally, raised: u64, second: u64) -> u64
+pub fn raised_beside(first: Tally, raised: u32, second: u32) -> u32
     requires raised { raised ≤ 65537 }
     requires second { second ≤ 65537 }
     ensures few { result ≤ 65537 }
@@ -37,7 +37,7 @@ pub fn raised_beside(first: Tally, raised: u64, second: u64) -> u64
 }
 
 /// A part with a handler: so many leaves of the part raise the exception in question, and so many the one that is handled.
-pub fn raised_past(raised: u64, is_handled: bool, handled: u64, handler: u64) -> u64
+pub fn raised_past(raised: u32, is_handled: bool, handled: u32, handler: u32) -> u32
     requires raised { raised ≤ 65537 }
     requires handled { handled ≤ 65537 }
     requires handler { handler ≤ 65537 }
@@ -51,7 +51,7 @@ pub fn raised_past(raised: u64, is_handled: bool, handled: u64, handler: u64) ->
 }
 
 /// A choice between two trees, or among a first one and others.
-pub fn raised_in_either(first: u64, others: u64) -> u64
+pub fn raised_in_either(first: u32, others: u32) -> u32
     requires first { first ≤ 65537 }
     requires others { others ≤ 65537 }
     ensures few { result ≤ 65537 }
@@ -65,7 +65,7 @@ pub fn raised_in_either(first: u64, others: u64) -> u64
 }
 
 // A number, or 0 where it is not to count.
-fn unless(is_handled: bool, number: u64) -> u64
+fn unless(is_handled: bool, number: u32) -> u32
     ensures few { result ≤ number }
     ensures is { result ≡ (if is_handled then 0 else number) }
 {

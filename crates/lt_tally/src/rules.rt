@@ -45,7 +45,7 @@ pub fn beside(first: Tally, second: Tally) -> Tally
 
 /// A part, with a handler in place of each leaf that raises its exception, of which there are so
 /// many.
-pub fn caught(part: Tally, raised: u64, handler: Tally) -> Tally
+pub fn caught(part: Tally, raised: u32, handler: Tally) -> Tally
     requires { raised ≤ 65537 }
     ensures { (z : ℕ) (h : Process ℕ) (u t : TermTree ℕ) → IsTally part t →
         IsRaised raised z t → IsTally handler u →

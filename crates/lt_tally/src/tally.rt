@@ -7,13 +7,13 @@ ghost use Rattle.std.specs.Prelude.{◌≤◌};
 #[derive(Clone, Copy)]
 pub struct Tally {
     /// The nodes.
-    pub nodes: u64,
+    pub nodes: u32,
 
     /// The leaves that vanish.
-    pub vanishes: u64,
+    pub vanishes: u32,
 
     /// The leaves that go on.
-    pub goes: u64,
+    pub goes: u32,
 
     pub ghost some: { 1 ≤ nodes },
     pub ghost few: { nodes ≤ 65537 },

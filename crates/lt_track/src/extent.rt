@@ -11,7 +11,7 @@ pub struct Extent {
     pub tally: Tally,
 
     /// Of a term with a handler, how many leaves of its part raise the exception: exact up to 65,537, which stands for more.
-    pub raised: u64,
+    pub raised: u32,
 
     pub ghost few: { raised ≤ 65537 },
 }

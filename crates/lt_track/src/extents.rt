@@ -39,7 +39,7 @@ impl Marks {
 }
 
 /// How many nodes the tree of what is still to be done has: 65,537 where there are more.
-pub fn size(track: &Track) -> u64
+pub fn size(track: &Track) -> u32
     requires { IsTallied track.now }
     ensures { (kinds : List Kind) → result ≡ capped (size (offers_of kinds (standing track.now))) }
 {
@@ -103,7 +103,7 @@ pub(crate) fn extent_of(track: &Track, is_fresh: bool) -> Extent
 }
 
 // How many leaves of the part of a term with a handler raise its exception.
-fn raised_in(track: &Track, is_fresh: bool) -> u64
+fn raised_in(track: &Track, is_fresh: bool) -> u32
     requires { HasTalliedParts track.now }
     ensures few { result ≤ 65537 }
     ensures is { IsRaisedWhile is_fresh result track.now }
@@ -118,7 +118,7 @@ fn raised_in(track: &Track, is_fresh: bool) -> u64
 }
 
 // The tally of what a term offers. Of a term with a handler so many leaves of the part raise the exception.
-fn tally_by(track: &Track, is_fresh: bool, raised: u64) -> Tally
+fn tally_by(track: &Track, is_fresh: bool, raised: u32) -> Tally
     requires parts { HasTalliedParts track.now }
     requires whole { is_fresh ≡ false → IsWhole (extent_of true track.now) (body track.now) }
     requires few { raised ≤ 65537 }

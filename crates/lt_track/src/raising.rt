@@ -13,7 +13,7 @@ use lt_tally::{raised_beside, raised_in_either, raised_in_turn, raised_past};
 // How many leaves of what a term offers at its beginning, or of what is still to be done, raise an exception; 65,537 where there
 // are more. It goes through the term once: a handler in it keeps how many leaves raise its own.
 #[cycle(raises)]
-fn raises(track: &Track, is_fresh: bool, exception: u32) -> u64
+fn raises(track: &Track, is_fresh: bool, exception: u32) -> u32
     requires { IsTallied track.now }
     ensures few { result ≤ 65537 }
     ensures is { IsRaisedBy result exception (begun is_fresh track.now) }
@@ -115,7 +115,7 @@ fn raises(track: &Track, is_fresh: bool, exception: u32) -> u64
 /// How many leaves of what a part of a term offers, at its beginning or where the run stands, raise an exception: 65,537 where
 /// there are more. It goes through the part once.
 #[cycle(raises)]
-pub fn part_raises(part: &Box<Track>, is_fresh: bool, exception: u32) -> u64
+pub fn part_raises(part: &Box<Track>, is_fresh: bool, exception: u32) -> u32
     requires { IsTallied part.now.value }
     ensures few { result ≤ 65537 }
     ensures is { IsRaisedBy result exception (begun is_fresh part.now.value) }
@@ -125,7 +125,7 @@ pub fn part_raises(part: &Box<Track>, is_fresh: bool, exception: u32) -> u64
 
 // The same of what is still to be done in one of some terms.
 #[cycle(raises)]
-fn chosen_raises(parts: &Box<Parts>, place: u32, exception: u32) -> u64
+fn chosen_raises(parts: &Box<Parts>, place: u32, exception: u32) -> u32
     requires { AreTallied parts.now.value }
     ensures few { result ≤ 65537 }
     ensures is { IsRaisedBy result exception
@@ -136,7 +136,7 @@ fn chosen_raises(parts: &Box<Parts>, place: u32, exception: u32) -> u64
 
 // The same, of terms that aren't behind a box.
 #[cycle(raises)]
-fn raises_at(parts: &Parts, place: u32, exception: u32) -> u64
+fn raises_at(parts: &Parts, place: u32, exception: u32) -> u32
     requires { AreTallied parts.now }
     ensures few { result ≤ 65537 }
     ensures is { IsRaisedBy result exception (slice_index_or (standing_each parts.now) place dead) }
@@ -155,7 +155,7 @@ fn raises_at(parts: &Parts, place: u32, exception: u32) -> u64
 
 // The same of a choice among some terms.
 #[cycle(raises)]
-fn choice_raises(parts: &Box<Parts>, exception: u32) -> u64
+fn choice_raises(parts: &Box<Parts>, exception: u32) -> u32
     requires { AreTallied parts.now.value }
     ensures few { result ≤ 65537 }
     ensures is { IsRaisedBy result exception (any (choices_of parts.now.value)) }
@@ -165,7 +165,7 @@ fn choice_raises(parts: &Box<Parts>, exception: u32) -> u64
 
 // The same, of terms that aren't behind a box.
 #[cycle(raises)]
-fn raises_among(parts: &Parts, exception: u32) -> u64
+fn raises_among(parts: &Parts, exception: u32) -> u32
     requires { AreTallied parts.now }
     ensures few { result ≤ 65537 }
     ensures is { IsRaisedBy result exception (any (choices_of parts.now)) }

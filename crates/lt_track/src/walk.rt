@@ -44,15 +44,15 @@ pub struct Walk {
     pub weights: Vec<Weight>,
 
     /// How many nodes stand before each of the parts that have these weights.
-    pub before: Vec<u64>,
+    pub before: Vec<u32>,
 
     /// What leaves weigh that raise an exception, by the number of the exception.
-    pub raised: Vec<u64>,
+    pub raised: Vec<u32>,
 }
 
 impl Walk {
     /// A walk in terms of at most so many nodes, where leaves that raise exceptions weigh this.
-    pub fn make(alloc: Global, nodes: usize, raised: Vec<u64>) -> Result<Walk, AllocError>
+    pub fn make(alloc: Global, nodes: usize, raised: Vec<u32>) -> Result<Walk, AllocError>
         ensures roomy { IfOk result (IsRoomy nodes) }
         ensures fired { IfOk result (λ walk. (rooms walk).fired ≡ nodes) }
         ensures lasts { IfOk result (λ walk. (rooms walk).lasts ≡ nodes) }
