@@ -83,38 +83,26 @@ pushed r test a m c ps es e f all same g is = subst (λ qs. OnOk r (IsFilled a c
 
 -- TERMS
 
--- a term that names nothing
-pub nothing_filled : (a : List Expression) (zs : List Exception) (t : Expanded) → expressions_in (process_of zs t) ≡ [] → IsFilled a a (parts_in (process_of zs t))
-nothing_filled a zs t is = subst (λ es. IsFilled a a (flat_map with_parts es)) (sym is) (filled_none a)
-
--- a constraint and a term
-pub assert_filled : (a b c : List Expression) (zs : List Exception) (t u : Expanded) (e : Expression) → expressions_in (process_of zs t) ≡ e ∷ expressions_in (process_of zs u)
-    → IsFilled a b (with_parts e) → IsFilled b c (parts_in (process_of zs u)) → IsFilled a c (parts_in (process_of zs t))
-assert_filled a b c zs t u e is g h = subst (λ es. IsFilled a c (flat_map with_parts es)) (sym is) (filled_both a b c (with_parts e) (parts_in (process_of zs u)) g h)
-
--- the parts of a term that names what two terms name
-parts_of_both : (zs : List Exception) (t u v : Expanded) → expressions_in (process_of zs t) ≡ expressions_in (process_of zs u) ++ expressions_in (process_of zs v)
-    → parts_in (process_of zs t) ≡ parts_in (process_of zs u) ++ parts_in (process_of zs v)
-parts_of_both zs t u v is = ap (flat_map with_parts) is ∙ flat_map-append with_parts (expressions_in (process_of zs u)) (expressions_in (process_of zs v))
-
 -- two terms are put one by one
-pub two_filled : (a b c : List Expression) (zs : List Exception) (t u v : Expanded) → expressions_in (process_of zs t) ≡ expressions_in (process_of zs u) ++ expressions_in (process_of zs v)
-    → IsFilled a b (parts_in (process_of zs u)) → IsFilled b c (parts_in (process_of zs v)) → IsFilled a c (parts_in (process_of zs t))
-two_filled a b c zs t u v is g h = subst (IsFilled a c) (sym (parts_of_both zs t u v is)) (filled_both a b c (parts_in (process_of zs u)) (parts_in (process_of zs v)) g h)
+pub two_filled : (a b c : List Expression) (zs : List Exception) (u v : Expanded) → IsFilled a b (parts_in (process_of zs u)) → IsFilled b c (parts_in (process_of zs v))
+    → IsFilled a c (flat_map with_parts (expressions_in (process_of zs u) ++ expressions_in (process_of zs v)))
+two_filled a b c zs u v g h =
+    subst (IsFilled a c) (sym (flat_map-append with_parts (expressions_in (process_of zs u)) (expressions_in (process_of zs v))))
+    (filled_both a b c (parts_in (process_of zs u)) (parts_in (process_of zs v)) g h)
 
 -- ALTERNATIVES
 
 -- the parts of one alternative more
 parts_last : (zs : List Exception) (ps : List Part) (d : Part)
-    → parts_in_each zs (parts_from (ps ++ d ∷ [])) ≡ parts_in_each zs (parts_from ps) ++ (with_parts (bare (placed d.weight)) ++ parts_in (process_of zs (expanded d.body)))
+    → parts_in_each zs (parts_from (ps ++ d ∷ [])) ≡ parts_in_each zs (parts_from ps) ++ (with_parts (bare (placed d.weight)) ++ parts_in (process_of zs (expanded d.body.value)))
 parts_last zs [] d =
-    ap (λ es. with_parts (bare (placed d.weight)) ++ flat_map with_parts es) (append-nil (expressions_in (process_of zs (expanded d.body))))
+    ap (λ es. with_parts (bare (placed d.weight)) ++ flat_map with_parts es) (append-nil (expressions_in (process_of zs (expanded d.body.value))))
 parts_last zs (p ∷ ps) d =
     let first = with_parts (bare (placed p.weight)) in
-    let body = expressions_in (process_of zs (expanded p.body)) in
+    let body = expressions_in (process_of zs (expanded p.body.value)) in
     let rest = expressions_in_each (choices_of zs (parts_from ps)) in
     let more = expressions_in_each (choices_of zs (parts_from (ps ++ d ∷ []))) in
-    let last = with_parts (bare (placed d.weight)) ++ parts_in (process_of zs (expanded d.body)) in
+    let last = with_parts (bare (placed d.weight)) ++ parts_in (process_of zs (expanded d.body.value)) in
     ap (λ es. first ++ es)
     (flat_map-append with_parts body more
     ∙ ap (λ es. flat_map with_parts body ++ es) (parts_last zs ps d)
@@ -124,12 +112,12 @@ parts_last zs (p ∷ ps) d =
 
 -- one more alternative is put
 pub alternative_filled : (a b m c : List Expression) (zs : List Exception) (ps : List Part) (i : ℕ) (d : Part) → i < length ps → d ≡ get_or ps i d
-    → IsFilled a b (parts_in_each zs (parts_from (take i ps))) → IsFilled b m (with_parts (bare (placed d.weight))) → IsFilled m c (parts_in (process_of zs (expanded d.body)))
+    → IsFilled a b (parts_in_each zs (parts_from (take i ps))) → IsFilled b m (with_parts (bare (placed d.weight))) → IsFilled m c (parts_in (process_of zs (expanded d.body.value)))
     → IsFilled a c (parts_in_each zs (parts_from (take (i + 1) ps)))
 alternative_filled a b m c zs ps i d l is h g k =
     let more : take (i + 1) ps ≡ take i ps ++ d ∷ [] = take_more ps i d l ∙ ap (λ y. take i ps ++ y ∷ []) (sym is) in
     let weight = with_parts (bare (placed d.weight)) in
-    let body = parts_in (process_of zs (expanded d.body)) in
+    let body = parts_in (process_of zs (expanded d.body.value)) in
     subst (IsFilled a c) (sym (ap (λ q. parts_in_each zs (parts_from q)) more ∙ parts_last zs (take i ps) d))
     (filled_both a b c (parts_in_each zs (parts_from (take i ps))) (weight ++ body) h (filled_both b m c weight body g k))
 

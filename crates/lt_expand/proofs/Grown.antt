@@ -1,5 +1,5 @@
 -- Terms over a table that grows, and the alternatives that are put one by one.
-use Rattle.std.proofs.Common.{◌≡◌, ℕ, zero, suc, ◌+◌, ◌<◌, ◌≤◌, true, ◌&&◌, nat_lt, List, [], ◌∷◌, ◌++◌, length, take, get_or, Vec, Global, refl, ap, sym, ◌∙◌, subst, arith}
+use Rattle.std.proofs.Common.{◌≡◌, ℕ, zero, suc, ◌+◌, ◌<◌, ◌≤◌, true, ◌&&◌, List, [], ◌∷◌, ◌++◌, length, take, get_or, refl, ap, sym, ◌∙◌, subst, arith}
 use mathlib.Core.Former.{Count}
 use Rattle.std.proofs.lemmas.Bool.{lt-ltb}
 use Rattle.std.proofs.lemmas.List.{take_all, take_more}
@@ -16,12 +16,10 @@ use Rattle.lt_macros.specs.declared.tree.Parts.{Parts, Parts', out-Parts, Row_of
 use Rattle.lt_macros.specs.declared.tree.Expanded.TheBlock.{shown-the_row-Part-0}
 use denote.Hole.Carrier.{out}
 use Rattle.lt_term.proofs.Public.{both, left_of, right_of}
-use Rattle.lt_term.proofs.Public.{process_any}
-use Rattle.lt_term.specs.Process.{Process, any, seq, pri, par, catch, try, Choices, no_choice, choice, choices_with_constraints, with_constraints}
+use Rattle.lt_term.specs.Process.{Process, Choices, no_choice, choice, choices_with_constraints, with_constraints}
 use Rattle.lt_term.specs.View.{choices, process}
 use Rattle.lt_term.specs.Within.{Tests, passes, each_passes}
-use Rattle.lt_term.specs.declared.term.Term.{Term, Any}
-use Rattle.lt_expand.specs.Exceptions.{number_in}
+use Rattle.lt_term.specs.declared.term.Term.{Term}
 use Rattle.lt_expand.specs.Scenes.{choices_of, process_of}
 use Rattle.lt_expand.specs.inner.Put.{AreChoices, IsGrown, IsTerm, among, parts_from}
 use Rattle.lt_expand.specs.inner.Ready.{AreEachReady, AreReady, IsReady}
@@ -52,45 +50,11 @@ choices_stay es new zs ps cs k h = record {
   within = each_kept (length es) (length new) (length zs) cs k.more h.within;
 }
 
--- Two parts, of which the second is put when the first is there.
-
-pub seq_put : (es new : List Expression) (zs : List Exception) (t a b : Expanded) (p q : Process ℕ) → t ≡ x.seq a b → Keeps es new → IsTerm es zs a p → IsTerm new zs b q → IsTerm new zs t (seq p q)
-seq_put es new zs t a b p q is k h g =
-    let first = term_kept es new zs a p k h in
-    subst (λ u. IsTerm new zs u (seq p q)) (sym is) (record { spells = λ i. seq (first.spells i) (g.spells i); within = both _ _ first.within g.within })
-
-pub pri_put : (es new : List Expression) (zs : List Exception) (t a b : Expanded) (p q : Process ℕ) → t ≡ x.pri a b → Keeps es new → IsTerm es zs a p → IsTerm new zs b q → IsTerm new zs t (pri p q)
-pri_put es new zs t a b p q is k h g =
-    let first = term_kept es new zs a p k h in
-    subst (λ u. IsTerm new zs u (pri p q)) (sym is) (record { spells = λ i. pri (first.spells i) (g.spells i); within = both _ _ first.within g.within })
-
-pub par_put : (es new : List Expression) (zs : List Exception) (t a b : Expanded) (p q : Process ℕ) → t ≡ x.par a b → Keeps es new → IsTerm es zs a p → IsTerm new zs b q → IsTerm new zs t (par p q)
-par_put es new zs t a b p q is k h g =
-    let first = term_kept es new zs a p k h in
-    subst (λ u. IsTerm new zs u (par p q)) (sym is) (record { spells = λ i. par (first.spells i) (g.spells i); within = both _ _ first.within g.within })
-
-pub try_put : (es new : List Expression) (zs : List Exception) (t a b : Expanded) (p q : Process ℕ) → t ≡ x.try a b → Keeps es new → IsTerm es zs a p → IsTerm new zs b q → IsTerm new zs t (try p q)
-try_put es new zs t a b p q is k h g =
-    let first = term_kept es new zs a p k h in
-    subst (λ u. IsTerm new zs u (try p q)) (sym is) (record { spells = λ i. try (first.spells i) (g.spells i); within = both _ _ first.within g.within })
-
-pub catch_put : (ks : Kinds) (es new : List Expression) (zs : List Exception) (z : Exception) (t a b : Expanded) (n : ℕ) (p q : Process ℕ) → t ≡ x.catch z a b → AreReady ks zs t
-    → n ≡ number_in zs z → Keeps es new
-    → IsTerm es zs a p → IsTerm new zs b q → IsTerm new zs t (catch n p q)
-catch_put ks es new zs z t a b n p q is ready number k h g =
-    let first = term_kept es new zs a p k h in
-    let known : AreReady ks zs (x.catch z a b) = subst (AreReady ks zs) is ready in
-    let there : nat_lt n (length zs) ≡ true = ap (λ m. nat_lt m (length zs)) number ∙ lt-ltb (number_in zs z) (length zs) known.0.there in
-    subst (λ u. IsTerm new zs u (catch n p q)) (sym is) (record {
-      spells = λ i. catch (number i) (first.spells i) (g.spells i);
-      within = both _ _ there (both _ _ first.within g.within);
-    })
-
 -- Alternatives.
 
 row_listed : {n : Count} (k : Row_of-Part n) → part_row k ≡ parts_from (items-the_row-Part n k)
 row_listed end_of-Part = refl
-row_listed (more_of-Part w a rest) = ap (λ ps. x.part (placed w) (expanded a) ps) (row_listed rest)
+row_listed (more_of-Part w p a rest) = ap (λ ps. x.part (placed w) (expanded a) ps) (row_listed rest)
 
 -- alternatives are a list of the code
 pub parts_listed : (p : Parts) → parts p ≡ parts_from (out-Parts p).items.items
@@ -98,7 +62,7 @@ unfolding out-Parts out shown-the_row-Part-0
 parts_listed (Parts' shape row) = row_listed row ∙ ap parts_from (sym (items_shown-the_row-Part-0 shape row))
 
 each_ready_at : (ks : Kinds) (zs : List Exception) (ps : List Part) (i : ℕ) (d : Part) → i < length ps → AreEachReady ks zs (parts_from ps)
-    → IsReady ks (placed (get_or ps i d).weight) × AreReady ks zs (expanded (get_or ps i d).body)
+    → IsReady ks (placed (get_or ps i d).weight) × AreReady ks zs (expanded (get_or ps i d).body.value)
 each_ready_at ks zs [] i d l h = absurd (omega arith)
 each_ready_at ks zs (p ∷ ps) zero d l h = (h.0, h.1.0)
 each_ready_at ks zs (p ∷ ps) (suc i) d l h = each_ready_at ks zs ps i d (omega arith) h.1.1
@@ -106,12 +70,12 @@ each_ready_at ks zs (p ∷ ps) (suc i) d l h = each_ready_at ks zs ps i d (omega
 -- an alternative is ready
 pub part_ready : (ks ls : Kinds) (zs : List Exception) (p : Parts) (ps : List Part) (i : ℕ) (d : Part) → ps ≡ (out-Parts p).items.items → i < length ps → d ≡ get_or ps i d → ls ≡ ks
     → AreEachReady ks zs (parts p)
-    → IsReady ls (placed d.weight) × AreReady ls zs (expanded d.body)
+    → IsReady ls (placed d.weight) × AreReady ls zs (expanded d.body.value)
 part_ready ks ls zs p ps i d listed l is same h =
     let each : AreEachReady ks zs (parts_from ps) = subst (AreEachReady ks zs) (parts_listed p ∙ ap parts_from (sym listed)) h in
     let at = each_ready_at ks zs ps i d l each in
-    subst (λ k. IsReady k (placed d.weight) × AreReady k zs (expanded d.body)) (sym same)
-    (subst (λ q. IsReady ks (placed q.weight) × AreReady ks zs (expanded q.body)) (sym is) at)
+    subst (λ k. IsReady k (placed d.weight) × AreReady k zs (expanded d.body.value)) (sym same)
+    (subst (λ q. IsReady ks (placed q.weight) × AreReady ks zs (expanded q.body.value)) (sym is) at)
 
 -- one more choice behind others
 abbrev with_last : {C : Type 0} → Choices C → C → Process C → Choices C
@@ -124,9 +88,9 @@ spelled_last f [] w t = refl
 spelled_last f (c ∷ cs) w t = ap (choice (f c.0) (with_constraints f (process c.1))) (spelled_last f cs w t)
 
 listed_last : (zs : List Exception) (ps : List Part) (d : Part)
-    → choices_of zs (parts_from (ps ++ d ∷ [])) ≡ with_last (choices_of zs (parts_from ps)) (bare (placed d.weight)) (process_of zs (expanded d.body))
+    → choices_of zs (parts_from (ps ++ d ∷ [])) ≡ with_last (choices_of zs (parts_from ps)) (bare (placed d.weight)) (process_of zs (expanded d.body.value))
 listed_last zs [] d = refl
-listed_last zs (p ∷ ps) d = ap (choice (bare (placed p.weight)) (process_of zs (expanded p.body))) (listed_last zs ps d)
+listed_last zs (p ∷ ps) d = ap (choice (bare (placed p.weight)) (process_of zs (expanded p.body.value))) (listed_last zs ps d)
 
 within_last : (ts : Tests ℕ) (cs : List (ℕ × Term)) (w : ℕ) (t : Term) → ts.constraint w ≡ true → passes ts (process t) ≡ true → each_passes ts (choices cs) ≡ true
     → each_passes ts (choices (cs ++ (w, t) ∷ [])) ≡ true
@@ -137,7 +101,7 @@ within_last ts (c ∷ cs) w t g h k =
     (both _ _ (left_of (passes ts (process c.1)) (each_passes ts (choices cs)) rest) (within_last ts cs w t g h (right_of (passes ts (process c.1)) (each_passes ts (choices cs)) rest)))
 
 last_put : (es : List Expression) (zs : List Exception) (ps : List Part) (cs : List (ℕ × Term)) (d : Part) (w : ℕ) (t : Term)
-    → AreChoices es zs (parts_from ps) (choices cs) → IsNumber es w (bare (placed d.weight)) → IsTerm es zs (expanded d.body) (process t)
+    → AreChoices es zs (parts_from ps) (choices cs) → IsNumber es w (bare (placed d.weight)) → IsTerm es zs (expanded d.body.value) (process t)
     → AreChoices es zs (parts_from (ps ++ d ∷ [])) (choices (cs ++ (w, t) ∷ []))
 last_put es zs ps cs d w t h n p = record {
   spells =
@@ -157,7 +121,7 @@ none_put es zs cs e = subst (λ ds. AreChoices es zs x.no_part (choices ds)) (sy
 -- one more alternative is put
 pub alternative_put : (old mid new : List Expression) (zs : List Exception) (ps : List Part) (i : ℕ) (d : Part) (cs ds : List (ℕ × Term)) (w : ℕ) (t : Term) → i < length ps → d ≡ get_or ps i d
     → Keeps old mid → Keeps mid new
-    → AreChoices old zs (parts_from (take i ps)) (choices cs) → IsNumber mid w (bare (placed d.weight)) → IsTerm new zs (expanded d.body) (process t) → ds ≡ cs ++ (w, t) ∷ []
+    → AreChoices old zs (parts_from (take i ps)) (choices cs) → IsNumber mid w (bare (placed d.weight)) → IsTerm new zs (expanded d.body.value) (process t) → ds ≡ cs ++ (w, t) ∷ []
     → AreChoices new zs (parts_from (take (i + 1) ps)) (choices ds)
 alternative_put old mid new zs ps i d cs ds w t l is g h c n p e =
     let more : take (i + 1) ps ≡ take i ps ++ d ∷ [] = take_more ps i d l ∙ ap (λ y. take i ps ++ y ∷ []) (sym is) in
@@ -169,10 +133,3 @@ pub alternatives_put : (es : List Expression) (zs : List Exception) (p : Parts) 
     → AreChoices es zs (parts_from (take i ps)) (choices cs) → AreChoices es zs (parts p) (choices cs)
 alternatives_put es zs p ps i cs listed l h =
     subst (λ q. AreChoices es zs q (choices cs)) (ap parts_from (take_all i ps l ∙ listed) ∙ sym (parts_listed p)) h
-
--- and so a choice is
-pub choice_put : (es : List Expression) (zs : List Exception) (t : Expanded) (ps : x.Parts) (v : Vec (ℕ × Term) Global) → t ≡ x.any ps → AreChoices es zs ps (choices v.items)
-    → IsTerm es zs t (process (Any v))
-choice_put es zs t ps v e h =
-    subst (λ u. IsTerm es zs u (process (Any v))) (sym e)
-    (subst (λ q. IsTerm es zs (x.any ps) q) (sym (process_any v)) (record { spells = ap any h.spells; within = h.within }))

@@ -9,6 +9,7 @@ pub mod Spelled
 pub mod Shapes
 pub mod Grown
 pub mod Filled
+pub mod Puts
 pub mod Measures
 pub mod Throughout
 pub mod Unrefused

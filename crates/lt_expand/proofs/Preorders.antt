@@ -19,7 +19,7 @@ use denote.Hole.Carrier.{out}
 
 part_row-items : {n : Count} (k : Row_of-Part n) → items_in (part_row k) ≡ flat_map part_items (items-the_row-Part n k)
 part_row-items end_of-Part = refl
-part_row-items (more_of-Part w x rest) = ap (λ is. weight (placed w) ∷ (items (expanded x) ++ is)) (part_row-items rest)
+part_row-items (more_of-Part w p x rest) = ap (λ is. weight (placed w) ∷ (items (expanded x) ++ is)) (part_row-items rest)
 
 -- alternatives are a list of the code
 pub parts_items : (p : Parts) → items_in (parts p) ≡ flat_map part_items (out-Parts p).items.items

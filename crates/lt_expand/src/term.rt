@@ -1,15 +1,14 @@
 //! Traces of a tree as terms, whose expressions are numbers of a table.
 
-ghost use Rattle.std.specs.Prelude.{◌≡◌, IfOk, OnOk};
-ghost use Rattle.lt_formula.specs.View.{table_expressions, table_kinds};
+ghost use Rattle.std.specs.Prelude.{◌≡◌, IfOk};
+ghost use Rattle.lt_formula.specs.View.{table_kinds};
+ghost use Rattle.lt_macros.specs.Expanded as tree;
 ghost use Rattle.lt_macros.specs.Tree.{exception, expanded, parts};
-ghost use Rattle.lt_term.specs.View.{choices, process};
-ghost use Rattle.lt_term.specs.Named.{parts_in};
+ghost use Rattle.lt_term.specs.View.{process};
 ghost use Rattle.lt_expand.specs.Exceptions.{number_in};
-ghost use Rattle.lt_expand.specs.Scenes.{process_of};
 ghost use Rattle.lt_expand.specs.inner.Declarations.{exceptions};
-ghost use Rattle.lt_expand.specs.inner.Put.{AreChoices, IsFilled, IsGrown, IsTerm, parts_in_each};
-ghost use Rattle.lt_expand.specs.inner.Ready.{AreEachReady, AreReady, IsKnown};
+ghost use Rattle.lt_expand.specs.inner.Put.{IsPut};
+ghost use Rattle.lt_expand.specs.inner.Ready.{AreReady, IsKnown};
 
 use crate::exceptions::Exceptions;
 use crate::expressions::put_expression;
@@ -28,13 +27,8 @@ pub(crate) fn put_term(
     trace: &Expanded,
 ) -> Result<Term, Memory>
     requires { AreReady (table_kinds table.old) (exceptions known.now) (expanded trace.now) }
-    ensures term { IfOk result (λ made.
-        IsTerm (table_expressions table.new) (exceptions known.now) (expanded trace.now)
-        (process made)) }
-    ensures grown { OnOk result (IsGrown table.old table.new) }
-    ensures filled { OnOk result
-        (IsFilled (table_expressions table.old) (table_expressions table.new)
-        (parts_in (process_of (exceptions known.now) (expanded trace.now)))) }
+    ensures { IfOk result (λ made. IsPut table.old table.new (exceptions known.now)
+        (expanded trace.now) (process made)) }
 {
     match trace {
         Expanded::Eps => Ok(Term::Eps),
@@ -44,11 +38,7 @@ pub(crate) fn put_term(
             Ok(Term::Con(constraint))
         }
         Expanded::Raise(raised) => Ok(Term::Raise(exception_number(known, raised))),
-        Expanded::Seq(first, second) => {
-            let first = put_part(alloc, table, known, first)?;
-            let second = put_part(alloc, table, known, second)?;
-            Ok(Term::Seq(first, second))
-        }
+        Expanded::Seq(first, second) => put_seq(alloc, table, known, first, second),
         Expanded::Loop(body) => {
             let body = put_part(alloc, table, known, body)?;
             Ok(Term::Loop(body))
@@ -61,20 +51,9 @@ pub(crate) fn put_term(
                 body,
             })
         }
-        Expanded::Any(alternatives) => {
-            let alternatives = put_parts(alloc, table, known, alternatives)?;
-            Ok(Term::Any(alternatives))
-        }
-        Expanded::Pri(first, second) => {
-            let first = put_part(alloc, table, known, first)?;
-            let second = put_part(alloc, table, known, second)?;
-            Ok(Term::Pri(first, second))
-        }
-        Expanded::Par(first, second) => {
-            let first = put_part(alloc, table, known, first)?;
-            let second = put_part(alloc, table, known, second)?;
-            Ok(Term::Par(first, second))
-        }
+        Expanded::Any(alternatives) => put_any(alloc, table, known, alternatives),
+        Expanded::Pri(first, second) => put_pri(alloc, table, known, first, second),
+        Expanded::Par(first, second) => put_par(alloc, table, known, first, second),
         Expanded::Assert(constraint, body) => {
             let constraint = put_expression(table, constraint)?;
             let body = put_part(alloc, table, known, body)?;
@@ -89,25 +68,148 @@ pub(crate) fn put_term(
             })
         }
         Expanded::Catch(caught, body, otherwise) => {
-            let exception = exception_number(known, caught);
-            let body = put_part(alloc, table, known, body)?;
-            let otherwise = put_part(alloc, table, known, otherwise)?;
-            Ok(Term::Catch {
-                exception,
-                body,
-                otherwise,
-            })
+            put_catch(alloc, table, known, caught, body, otherwise)
         }
-        Expanded::Try(body, otherwise) => {
-            let body = put_part(alloc, table, known, body)?;
-            let otherwise = put_part(alloc, table, known, otherwise)?;
-            Ok(Term::Try { body, otherwise })
-        }
+        Expanded::Try(body, otherwise) => put_try(alloc, table, known, body, otherwise),
     }
 }
 
-// The same as a part of another term.
+// What has several parts is put by a function of its own, which is marked `inline(never)` for the stack: a level of
+// nesting takes 304 bytes so, and 448 at most where it has several parts. Where one function put all, each took 544.
+
+// One trace, and then another.
 #[cycle(terms)]
+#[inline(never)]
+fn put_seq(
+    alloc: Global,
+    table: &mut Table,
+    known: &Exceptions<'_>,
+    first: &Expanded,
+    second: &Expanded,
+) -> Result<Term, Memory>
+    requires { AreReady (table_kinds table.old) (exceptions known.now)
+        (tree.seq (expanded first.now) (expanded second.now)) }
+    ensures { IfOk result (λ made. IsPut table.old table.new (exceptions known.now)
+        (tree.seq (expanded first.now) (expanded second.now)) (process made)) }
+{
+    let first = put_part(alloc, table, known, first)?;
+    let second = put_part(alloc, table, known, second)?;
+    Ok(Term::Seq(first, second))
+}
+
+// Traces to choose from, each behind the number of its weight.
+#[cycle(terms)]
+#[inline(never)]
+fn put_any(
+    alloc: Global,
+    table: &mut Table,
+    known: &Exceptions<'_>,
+    alternatives: &Parts,
+) -> Result<Term, Memory>
+    requires { AreReady (table_kinds table.old) (exceptions known.now)
+        (tree.any (parts alternatives.now)) }
+    ensures { IfOk result (λ made. IsPut table.old table.new (exceptions known.now)
+        (tree.any (parts alternatives.now)) (process made)) }
+{
+    let mut made = Vec::with_capacity(alloc, alternatives.items.len())?;
+    for alternative in &alternatives.items {
+        let weight = put_expression(table, &alternative.weight)?;
+        let body = put_term(alloc, table, known, &alternative.body)?;
+        made.push((weight, body))?;
+    }
+    Ok(Term::Any(made))
+}
+
+// One trace, or another where nothing can be done in it.
+#[cycle(terms)]
+#[inline(never)]
+fn put_pri(
+    alloc: Global,
+    table: &mut Table,
+    known: &Exceptions<'_>,
+    first: &Expanded,
+    second: &Expanded,
+) -> Result<Term, Memory>
+    requires { AreReady (table_kinds table.old) (exceptions known.now)
+        (tree.pri (expanded first.now) (expanded second.now)) }
+    ensures { IfOk result (λ made. IsPut table.old table.new (exceptions known.now)
+        (tree.pri (expanded first.now) (expanded second.now)) (process made)) }
+{
+    let first = put_part(alloc, table, known, first)?;
+    let second = put_part(alloc, table, known, second)?;
+    Ok(Term::Pri(first, second))
+}
+
+// Two traces at once.
+#[cycle(terms)]
+#[inline(never)]
+fn put_par(
+    alloc: Global,
+    table: &mut Table,
+    known: &Exceptions<'_>,
+    first: &Expanded,
+    second: &Expanded,
+) -> Result<Term, Memory>
+    requires { AreReady (table_kinds table.old) (exceptions known.now)
+        (tree.par (expanded first.now) (expanded second.now)) }
+    ensures { IfOk result (λ made. IsPut table.old table.new (exceptions known.now)
+        (tree.par (expanded first.now) (expanded second.now)) (process made)) }
+{
+    let first = put_part(alloc, table, known, first)?;
+    let second = put_part(alloc, table, known, second)?;
+    Ok(Term::Par(first, second))
+}
+
+// A trace, and what takes the place of its rest once it raises an exception.
+#[cycle(terms)]
+#[inline(never)]
+fn put_catch(
+    alloc: Global,
+    table: &mut Table,
+    known: &Exceptions<'_>,
+    caught: &Exception,
+    body: &Expanded,
+    otherwise: &Expanded,
+) -> Result<Term, Memory>
+    requires { AreReady (table_kinds table.old) (exceptions known.now)
+        (tree.catch (exception caught.now) (expanded body.now) (expanded otherwise.now)) }
+    ensures { IfOk result (λ made. IsPut table.old table.new (exceptions known.now)
+        (tree.catch (exception caught.now) (expanded body.now) (expanded otherwise.now))
+        (process made)) }
+{
+    let exception = exception_number(known, caught);
+    let body = put_part(alloc, table, known, body)?;
+    let otherwise = put_part(alloc, table, known, otherwise)?;
+    Ok(Term::Catch {
+        exception,
+        body,
+        otherwise,
+    })
+}
+
+// A trace, and what takes the place of its rest once nothing can be done in it.
+#[cycle(terms)]
+#[inline(never)]
+fn put_try(
+    alloc: Global,
+    table: &mut Table,
+    known: &Exceptions<'_>,
+    body: &Expanded,
+    otherwise: &Expanded,
+) -> Result<Term, Memory>
+    requires { AreReady (table_kinds table.old) (exceptions known.now)
+        (tree.try (expanded body.now) (expanded otherwise.now)) }
+    ensures { IfOk result (λ made. IsPut table.old table.new (exceptions known.now)
+        (tree.try (expanded body.now) (expanded otherwise.now)) (process made)) }
+{
+    let body = put_part(alloc, table, known, body)?;
+    let otherwise = put_part(alloc, table, known, otherwise)?;
+    Ok(Term::Try { body, otherwise })
+}
+
+// A trace as a part of another term.
+#[cycle(terms)]
+#[inline(never)]
 fn put_part(
     alloc: Global,
     table: &mut Table,
@@ -115,42 +217,11 @@ fn put_part(
     trace: &Expanded,
 ) -> Result<Rc<Term>, Memory>
     requires { AreReady (table_kinds table.old) (exceptions known.now) (expanded trace.now) }
-    ensures term { IfOk result (λ made.
-        IsTerm (table_expressions table.new) (exceptions known.now) (expanded trace.now)
-        (process made.value)) }
-    ensures grown { OnOk result (IsGrown table.old table.new) }
-    ensures filled { OnOk result
-        (IsFilled (table_expressions table.old) (table_expressions table.new)
-        (parts_in (process_of (exceptions known.now) (expanded trace.now)))) }
+    ensures { IfOk result (λ made. IsPut table.old table.new (exceptions known.now)
+        (expanded trace.now) (process made.value)) }
 {
     let made = put_term(alloc, table, known, trace)?;
     Ok(Rc::new(alloc, made)?)
-}
-
-// Traces to choose from, each behind the number of its weight.
-#[cycle(terms)]
-fn put_parts(
-    alloc: Global,
-    table: &mut Table,
-    known: &Exceptions<'_>,
-    alternatives: &Parts,
-) -> Result<Vec<(u32, Term)>, Memory>
-    requires { AreEachReady (table_kinds table.old) (exceptions known.now) (parts alternatives.now) }
-    ensures terms { IfOk result (λ made.
-        AreChoices (table_expressions table.new) (exceptions known.now) (parts alternatives.now)
-        (choices made.items)) }
-    ensures grown { OnOk result (IsGrown table.old table.new) }
-    ensures filled { OnOk result
-        (IsFilled (table_expressions table.old) (table_expressions table.new)
-        (parts_in_each (exceptions known.now) (parts alternatives.now))) }
-{
-    let mut made = Vec::new(alloc);
-    for alternative in &alternatives.items {
-        let weight = put_expression(table, &alternative.weight)?;
-        let body = put_term(alloc, table, known, &alternative.body)?;
-        made.push((weight, body))?;
-    }
-    Ok(made)
 }
 
 // The number of an exception that is known.

@@ -122,7 +122,7 @@ loop_built old now k l t n m turns turn kept is bounds h =
 -- alternatives behind others
 items_onto-append : (items more : List Part) (rest : x.Parts) → items_onto (items ++ more) rest ≡ items_onto items (items_onto more rest)
 items_onto-append [] more rest = refl
-items_onto-append (q ∷ items) more rest = ap (x.part (placed q.weight) (expanded q.body)) (items_onto-append items more rest)
+items_onto-append (q ∷ items) more rest = ap (x.part (placed q.weight) (expanded q.body.value)) (items_onto-append items more rest)
 
 alternative_is : (env : Environment Denotation) (o : Option Expr) (t : TraceExpr) → trace_denotation env (trace_view t) ≡ alternative_denotation env (weighed o t)
 alternative_is env None t = refl
@@ -141,14 +141,14 @@ parts_from written place a h is =
 
 -- one more alternative is built
 pub part_built : (env : Environment Denotation) (written : List Alternative) (place : ℕ) (a : Alternative) (items more : List Part) (w : Expression) (b : code.Numbered) (n : Numbers) (all : NumberedParts) → place < length written → a ≡ get_or written place a
-    → more ≡ items ++ record { weight = w; body = b.expanded.value } ∷ [] → placed w ≡ weight_of env (part_of a) → numbered b ≡ as_trace (trace_denotation env (trace_view a.body)) n
+    → more ≡ items ++ record { weight = w; body = b.expanded } ∷ [] → placed w ≡ weight_of env (part_of a) → numbered b ≡ as_trace (trace_denotation env (trace_view a.body)) n
     → parts_onto items (parts_of env (alternatives_of (map part_of (drop place written))) n) ≡ all
     → parts_onto more (parts_of env (alternatives_of (map part_of (drop (place + 1) written))) (numbers_view b.after)) ≡ all
 part_built env written place a items more w b n all h is pushed weight body so_far =
     let rest = alternatives_of (map part_of (drop (place + 1) written)) in
     let left : NumberedParts = parts_of env rest (numbers_view b.after) in
     (λ i. record { parts = items_onto (pushed i) left.parts; after = left.after })
-    ∙ (λ i. record { parts = items_onto-append items (record { weight = w; body = b.expanded.value } ∷ []) left.parts i; after = left.after })
+    ∙ (λ i. record { parts = items_onto-append items (record { weight = w; body = b.expanded } ∷ []) left.parts i; after = left.after })
     ∙ (λ i. parts_onto items (before_parts (weight i) (body i) (parts_of env rest)))
     ∙ ap (λ denotation. parts_onto items (before_parts (weight_of env (part_of a)) (as_trace denotation n) (parts_of env rest))) (alternative_is env a.weight a.body)
     ∙ sym (ap (λ ps. parts_onto items (parts_of env ps n)) (parts_from written place a h is))
@@ -166,7 +166,7 @@ part_worked env written place a all h is so_far =
 -- the alternatives that the code has are those of the tree
 part_row-list : {m : Count} (row : Row_of-Part m) → part_row row ≡ items_onto (items-the_row-Part m row) x.no_part
 part_row-list end_of-Part = refl
-part_row-list (more_of-Part w a rest) = ap (x.part (placed w) (expanded a)) (part_row-list rest)
+part_row-list (more_of-Part w p a rest) = ap (x.part (placed w) (expanded a)) (part_row-list rest)
 
 pub parts_list : (ps : Parts) → parts ps ≡ items_onto (out-Parts ps).items.items x.no_part
 unfolding out-Parts out shown-the_row-Part-0

@@ -13,12 +13,12 @@ use Rattle.lt_macros.proofs.Built.{parts_list}
 
 -- one more alternative
 pub alternative_more : (f : Figure) (depth : ℕ) (ps : List Part) (i : ℕ) (p : Part) → i < length ps → p ≡ get_or ps i p
-    → alternatives_figure f depth (take (i + 1) ps) ≡ alternatives_figure f depth (take i ps) + (expression_figure f 1 (placed p.weight) + expanded_figure f depth (expanded p.body))
+    → alternatives_figure f depth (take (i + 1) ps) ≡ alternatives_figure f depth (take i ps) + (expression_figure f 1 (placed p.weight) + expanded_figure f depth (expanded p.body.value))
 alternative_more f depth [] i p h is = absurd (omega arith)
-alternative_more f depth (q ∷ ps) zero p h is = omega (arith, ap (λ (r : Part). expression_figure f 1 (placed r.weight)) is, ap (λ (r : Part). expanded_figure f depth (expanded r.body)) is)
+alternative_more f depth (q ∷ ps) zero p h is = omega (arith, ap (λ (r : Part). expression_figure f 1 (placed r.weight)) is, ap (λ (r : Part). expanded_figure f depth (expanded r.body.value)) is)
 alternative_more f depth (q ∷ ps) (suc i) p h is =
     let next : suc i + 1 ≡ suc (i + 1) = omega arith in
-    let more : alternatives_figure f depth (take (suc i + 1) (q ∷ ps)) ≡ expression_figure f 1 (placed q.weight) + (expanded_figure f depth (expanded q.body) + alternatives_figure f depth (take (i + 1) ps)) = ap (λ n. alternatives_figure f depth (take n (q ∷ ps))) next in
+    let more : alternatives_figure f depth (take (suc i + 1) (q ∷ ps)) ≡ expression_figure f 1 (placed q.weight) + (expanded_figure f depth (expanded q.body.value) + alternatives_figure f depth (take (i + 1) ps)) = ap (λ n. alternatives_figure f depth (take n (q ∷ ps))) next in
     omega (arith, more, alternative_more f depth ps i p (omega arith) is)
 
 -- one more variable
@@ -33,7 +33,7 @@ variable_more f (e ∷ ds) (suc i) d h is =
 
 listed : (f : Figure) (depth : ℕ) (ps : List Part) → parts_figure f depth (items_onto ps x.no_part) ≡ alternatives_figure f depth ps
 listed f depth [] = refl
-listed f depth (p ∷ ps) = ap (λ n. expression_figure f 1 (placed p.weight) + (expanded_figure f depth (expanded p.body) + n)) (listed f depth ps)
+listed f depth (p ∷ ps) = ap (λ n. expression_figure f 1 (placed p.weight) + (expanded_figure f depth (expanded p.body.value) + n)) (listed f depth ps)
 
 -- all alternatives are those of the tree
 pub alternatives_are : (f : Figure) (depth : ℕ) (p : Parts) (items : List Part) → items ≡ (out-Parts p).items.items → parts_figure f depth (parts p) ≡ alternatives_figure f depth items

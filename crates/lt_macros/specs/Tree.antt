@@ -44,12 +44,12 @@ abbrev mutual
   expanded (e.Raise z) = x.raise (exception z)
   expanded (e.Seq' p a q b) = x.seq (expanded a) (expanded b)
   expanded (e.Loop' p a) = x.loop (expanded a)
-  expanded (e.Count' i b p a) = x.count i (bounds b) (expanded a)
+  expanded (e.Count' i b p a) = x.count i (bounds b.value) (expanded a)
   expanded (e.Any ps) = x.any (parts ps)
   expanded (e.Pri' p a q b) = x.pri (expanded a) (expanded b)
   expanded (e.Par' p a q b) = x.par (expanded a) (expanded b)
   expanded (e.Assert' c p a) = x.assert (placed c) (expanded a)
-  expanded (e.Exist' i d p a) = x.exist i (declared d) (expanded a)
+  expanded (e.Exist' i d p a) = x.exist i (declared d.value) (expanded a)
   expanded (e.Catch' z p a q b) = x.catch (exception z) (expanded a) (expanded b)
   expanded (e.Try' p a q b) = x.try (expanded a) (expanded b)
 
@@ -60,7 +60,7 @@ abbrev mutual
   -- alternatives
   pub part_row : {m : _} → Row_of-Part m → x.Parts
   part_row end_of-Part = x.no_part
-  part_row (more_of-Part w a rest) = x.part (placed w) (expanded a) (part_row rest)
+  part_row (more_of-Part w p a rest) = x.part (placed w) (expanded a) (part_row rest)
 
 -- a node
 abbrev pub node : Node → x.Node

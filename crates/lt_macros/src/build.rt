@@ -423,7 +423,7 @@ fn put_loop(
 {
     let expanded = match turns {
         None => Expanded::Loop(body.expanded),
-        Some(bounds) => Expanded::Count(counter, bounds, body.expanded),
+        Some(bounds) => Expanded::Count(counter, Box::new(alloc, bounds)?, body.expanded),
     };
     put(alloc, expanded, body.after)
 }
@@ -491,7 +491,7 @@ fn build_parts<'a>(
         let weight = build_weight(builder, environment, part)?;
         let phrase = Phrase::Trace(&part.body);
         let built = build_trace(builder, numbers, environment, phrase)?;
-        let body = Box::into_inner(built.expanded);
+        let body = built.expanded;
         items.push(Part { weight, body })?;
         numbers = built.after;
     }
@@ -583,7 +583,8 @@ fn put_locals(
     let mut expanded = body.expanded;
     while let Some(local) = left.pop() {
         number -= 1;
-        expanded = Box::new(alloc, Expanded::Exist(number, local, expanded))?;
+        let declaration = Box::new(alloc, local)?;
+        expanded = Box::new(alloc, Expanded::Exist(number, declaration, expanded))?;
     }
     Ok(Numbered { expanded, after })
 }

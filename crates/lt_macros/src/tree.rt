@@ -87,7 +87,7 @@ pub enum Bounds {
     Around(Placed, Placed),
 }
 
-/// A trace.
+/// A trace. What only some traces have stands behind a box, so that all are small.
 #[cycle(expanded)]
 #[derive(Drop)]
 pub enum Expanded {
@@ -110,7 +110,7 @@ pub enum Expanded {
     Loop(Box<Expanded>),
 
     /// The same for each turn of a counter, which has this number.
-    Count(u32, Bounds, Box<Expanded>),
+    Count(u32, Box<Bounds>, Box<Expanded>),
 
     /// One of these, by weight.
     Any(Parts),
@@ -125,7 +125,7 @@ pub enum Expanded {
     Assert(Placed, Box<Expanded>),
 
     /// A local variable, which has this number.
-    Exist(u32, Declared, Box<Expanded>),
+    Exist(u32, Box<Declared>, Box<Expanded>),
 
     /// The second in place of the first's rest once the first raises the exception.
     Catch(Exception, Box<Expanded>, Box<Expanded>),
@@ -150,7 +150,7 @@ pub struct Part {
     pub weight: Placed,
 
     /// The trace.
-    pub body: Expanded,
+    pub body: Box<Expanded>,
 }
 
 /// A node.

@@ -17,4 +17,4 @@ items_view is = map item is
 
 -- an alternative behind its weight, and all parts of it
 abbrev pub part_items : Part → List Item
-part_items p = weight (placed p.weight) ∷ items (expanded p.body)
+part_items p = weight (placed p.weight) ∷ items (expanded p.body.value)

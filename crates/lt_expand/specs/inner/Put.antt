@@ -9,7 +9,7 @@ use Rattle.lt_macros.specs.Expanded.{Exception, Expanded, Parts, no_part, part}
 use Rattle.lt_macros.specs.Tree.{expanded, placed}
 use Rattle.lt_macros.specs.declared.tree.Part.{Part}
 use Rattle.lt_expand.specs.Scenes.{choices_of, process_of}
-use Rattle.lt_term.specs.Named.{expressions_in_each, with_parts}
+use Rattle.lt_term.specs.Named.{expressions_in_each, parts_in, with_parts}
 use Rattle.lt_term.specs.Process.{Process, Choices, choices_with_constraints, with_constraints}
 use Rattle.lt_term.specs.Within.{Tests, passes, each_passes}
 
@@ -37,6 +37,12 @@ pub record AreChoices (es : List Expression) (zs : List Exception) (ps : Parts) 
   pub spells : choices_with_constraints (spelled es) cs ≡ choices_of zs ps
   pub within : each_passes (among (length es) (length zs)) cs ≡ true
 
+-- A trace is put as this term: the table has kept what it had, and has no more new expressions than the trace has.
+pub record IsPut (old new : Table) (zs : List Exception) (x : Expanded) (p : Process ℕ) : Type 0 where
+  pub term : IsTerm (table_expressions new) zs x p
+  pub grown : IsGrown old new
+  pub filled : IsFilled (table_expressions old) (table_expressions new) (parts_in (process_of zs x))
+
 -- the expressions of alternatives and all their parts, where exceptions have this order
 abbrev pub parts_in_each : List Exception → Parts → List Expression
 parts_in_each zs ps = flat_map with_parts (expressions_in_each (choices_of zs ps))
@@ -44,4 +50,4 @@ parts_in_each zs ps = flat_map with_parts (expressions_in_each (choices_of zs ps
 -- alternatives of the code
 abbrev pub parts_from : List Part → Parts
 parts_from [] = no_part
-parts_from (p ∷ ps) = part (placed p.weight) (expanded p.body) (parts_from ps)
+parts_from (p ∷ ps) = part (placed p.weight) (expanded p.body.value) (parts_from ps)

@@ -49,7 +49,7 @@ in_all i (d ∷ ds) inside = x.exist i d (in_all (suc i) ds inside)
 -- alternatives before others
 abbrev pub items_onto : List Part → Parts → Parts
 items_onto [] rest = rest
-items_onto (p ∷ ps) rest = x.part (placed p.weight) (expanded p.body) (items_onto ps rest)
+items_onto (p ∷ ps) rest = x.part (placed p.weight) (expanded p.body.value) (items_onto ps rest)
 
 -- alternatives before others, which are numbered behind them
 abbrev pub parts_onto : List Part → NumberedParts → NumberedParts

@@ -1,6 +1,7 @@
 use Rattle.std.proofs.Common.{◌≡◌, ◌<◌, ◌≤◌, length, ap, arith}
 use Rattle.std.proofs.lemmas.List.{take_all}
-use Rattle.lt_macros.specs.inner.Figures.{choice_weight}
+use Rattle.lt_macros.specs.Tree.{expanded}
+use Rattle.lt_macros.specs.inner.Figures.{choice_weight, expanded_figure}
 use Rattle.lt_macros.specs.inner.Measured.{alternatives_figure}
 use Rattle.lt_macros.proofs.Measured.{alternative_more, alternatives_are, alternatives_count}
 use Rattle.lt_macros.proofs.measuring.+measure_trace.Goals as goal
@@ -22,6 +23,7 @@ count_parts-loop-alternative-preserved t c =
       c.loop-alternative.invariant f,
       c.in_ok-count_expression.ensures f,
       c.in_ok-count_trace.ensures f,
+      ap (λ b. expanded_figure f c.args.depth (expanded b)) c.deref.ensures,
     )
 
 pub count_parts-returns : goal.count_parts-returns
