@@ -1,5 +1,5 @@
 -- What is refused first, by what is refused first of each part.
-use Rattle.std.proofs.Common.{◌≡◌, ℕ, ◌+◌, ◌<◌, Bool, true, false, not, List, [], ◌∷◌, ◌++◌, Option, Some, None, Err, option_map, map, take, length, get_or, refl, ap, sym, ◌∙◌, subst}
+use Rattle.std.proofs.Common.{◌≡◌, ℕ, ◌+◌, ◌<◌, Bool, true, false, not, List, [], ◌∷◌, ◌++◌, Option, Some, None, Err, option_map, map, take, length, get_or, refl, ap, sym, ◌∙◌}
 use Rattle.std.specs.Option.{option_or}
 use Rattle.std.specs.List.{flat_map}
 use Rattle.std.proofs.lemmas.Grind.{flat_map-append}
@@ -212,9 +212,3 @@ refused n node p r h is = by r (first_refusal n node ∙ ap refusal_of (sym h) �
 -- and where there is none, nothing is refused
 pub unrefused_node : (n : ℕ) (node : Node) (p : FirstPlaces) → p ≡ node_places n node → refusal_of p ≡ None → judged_refusals n node ≡ []
 unrefused_node n node p h is = first_none (judged_refusals n node) (first_refusal n node ∙ ap refusal_of (sym h) ∙ is)
-
--- want of memory says nothing
-pub no_memory : (n : ℕ) (node : Node) (e : ExpandRefusal) → e ≡ Memory → IsFirst (Err e) (judged_refusals n node)
-no_memory n node e is = subst (λ e. IsFirst (Err e) (judged_refusals n node)) (sym is) tt
-
-pub ruleset answered = (refused, unrefused_node, no_memory)

@@ -4,12 +4,13 @@
 ghost use Rattle.std.specs.Prelude.{◌≡◌, [], ◌∷◌, IfOk, OnOk, map, option_map, option_to_list, string_bytes};
 ghost use Rattle.std.specs.List.{flat_map};
 ghost use Rattle.lt_expand.specs.Exceptions.{exception_names, number_in, numbered};
-ghost use Rattle.lt_macros.specs.Preorder.{caught_at, raised_at, term as a_term};
+ghost use Rattle.lt_macros.specs.Expanded as tree;
+ghost use Rattle.lt_macros.specs.Preorder.{caught_at, items, raised_at, term as a_term};
 ghost use Rattle.lt_expand.specs.inner.Items.{item, items_view};
 ghost use Rattle.lt_expand.specs.inner.Declarations.{exceptions, with_more, with_one};
 ghost use Rattle.lt_macros.specs.Tree.{exception, expanded};
 
-use crate::items::{Item, items_of};
+use crate::items::Item;
 use indexmap::IndexMap;
 use lt_formula::Memory;
 use lt_macros::{Exception, Expanded};
@@ -101,15 +102,14 @@ impl<'a> Exceptions<'a> {
     }
 }
 
-// The exceptions of a trace.
-#[tactic(auto, using(crate::proofs::Ranks::all_numbered))]
-pub(crate) fn numbered(alloc: Global, body: &Expanded) -> Result<Exceptions<'_>, Memory>
-    ensures { IfOk result (λ found. exceptions found ≡ numbered (expanded body.now)) }
+// The exceptions of a trace, all of whose parts these are.
+pub(crate) fn numbered<'a>(alloc: Global, parts: &[Item<'a>]) -> Result<Exceptions<'a>, Memory>
+    ensures { IfOk result (λ found. (trace : tree.Expanded) →
+        items_view parts.now ≡ items trace → exceptions found ≡ numbered trace) }
 {
-    let parts = items_of(alloc, body)?;
     let mut found = Exceptions::new(alloc);
-    put_all_raised(&mut found, &parts)?;
-    put_all_caught(&mut found, &parts)?;
+    put_all_raised(&mut found, parts)?;
+    put_all_caught(&mut found, parts)?;
     Ok(found)
 }
 

@@ -13,7 +13,9 @@ ghost use Rattle.lt_macros.specs.Tree.{expanded, node};
 ghost use Rattle.lt_typed.specs.TypedNode.{IsTypedNode};
 ghost use Rattle.lt_expand.specs.Answer.{IsAnswer};
 
+use crate::items::items_of;
 use crate::judging::judge;
+use crate::kinds::kinds_of;
 use crate::refusal::ExpandRefusal;
 use crate::scenario::scenario;
 use lt_macros::{Node, expanded_node, locals_are_inside, names_are_there, parts_are_numbered};
@@ -53,6 +55,8 @@ fn judged_scenario(alloc: Global, asked: &Node, decimals: u32) -> Result<Scenari
     requires typed { ∥ IsTypedNode (node asked.now) ∥₁ }
     ensures { IsAnswer decimals (Some (node asked.now)) result }
 {
-    judge(alloc, asked, decimals)?;
-    Ok(scenario(alloc, asked, decimals)?)
+    let parts = items_of(alloc, &asked.body)?;
+    let kinds = kinds_of(alloc, asked, &parts)?;
+    judge(&kinds, asked, &parts, decimals)?;
+    Ok(scenario(alloc, kinds, asked, &parts, decimals)?)
 }

@@ -2,25 +2,33 @@
 
 ghost use Rattle.std.specs.Prelude.{◌≡◌, ◌≤◌};
 ghost use Rattle.lt_num.specs.Bounds.{most_decimals};
+ghost use Rattle.lt_expand.specs.Classes.{kinds_of};
+ghost use Rattle.lt_macros.specs.Preorder.{items};
+ghost use Rattle.lt_expand.specs.inner.Items.{items_view};
+ghost use Rattle.lt_expand.specs.inner.Judged.{kinds};
 ghost use Rattle.lt_expand.specs.inner.Places.{IsFirst, judged_refusals, refusal_of};
-ghost use Rattle.lt_macros.specs.Tree.{node};
+ghost use Rattle.lt_macros.specs.Tree.{expanded, node};
 
-use crate::items::items_of;
-use crate::kinds::kinds_of;
+use crate::items::Item;
+use crate::kinds::Kinds;
 use crate::places::{FirstPlaces, node_places};
 use crate::refusal::ExpandRefusal;
 use lt_macros::Node;
-use std::alloc::Global;
 
-// What is refused first of a node that is within the limits, where reals have so many decimals.
-#[tactic(auto, using(crate::proofs::Refused::answered))]
-pub(crate) fn judge(alloc: Global, from: &Node, decimals: u32) -> Result<(), ExpandRefusal>
-    requires { decimals ≤ most_decimals }
+// What is refused first of a node that is within the limits, where reals have so many decimals. Its variables have these
+// kinds, and its trace these parts.
+pub(crate) fn judge(
+    over: &Kinds,
+    from: &Node,
+    parts: &[Item<'_>],
+    decimals: u32,
+) -> Result<(), ExpandRefusal>
+    requires few { decimals ≤ most_decimals }
+    requires kinds { kinds over.now ≡ kinds_of (node from.now) }
+    requires parts { items_view parts.now ≡ items (expanded from.now.body) }
     ensures { IsFirst result (judged_refusals decimals (node from.now)) }
 {
-    let parts = items_of(alloc, &from.body)?;
-    let over = kinds_of(alloc, from, &parts)?;
-    match refusal_of(node_places(&over, from, &parts, decimals)) {
+    match refusal_of(node_places(over, from, parts, decimals)) {
         Some(refusal) => Err(refusal),
         None => Ok(()),
     }

@@ -18,23 +18,23 @@ use Rattle.lt_expand.proofs.scenario.scenario.Goals as goal
 
 pub variables_of-requires-clause-fine : goal.variables_of-requires-clause-fine
 variables_of-requires-clause-fine c =
-    subst (λ ds. All (IsFine c.args.decimals) (map declared ds)) (sym c.deref-3.ensures.value) (inputs_fine c.args.decimals (node c.args.from.now) c.requires.named c.requires.judged)
+    subst (λ ds. All (IsFine c.args.decimals) (map declared ds)) (sym c.deref-2.ensures.value) (inputs_fine c.args.decimals (node c.args.from.now) c.requires.named c.requires.judged)
 
 pub variables_of-requires-2-clause-fine : goal.variables_of-requires-2-clause-fine
 variables_of-requires-2-clause-fine c =
-    subst (λ ds. All (IsFine c.args.decimals) (map declared ds)) (sym c.deref-4.ensures.value) (outputs_fine c.args.decimals (node c.args.from.now) c.requires.named c.requires.judged)
+    subst (λ ds. All (IsFine c.args.decimals) (map declared ds)) (sym c.deref-3.ensures.value) (outputs_fine c.args.decimals (node c.args.from.now) c.requires.named c.requires.judged)
 
 pub locals_of-requires-clause-fine : goal.locals_of-requires-clause-fine
 locals_of-requires-clause-fine c =
-    parts_are_fine c.args.decimals (node c.args.from.now) (items_view c.deref-5.result.now) (ap items_view c.deref-5.ensures.value ∙ c.in_ok-parts.ensures) c.requires.named c.requires.judged
+    parts_are_fine c.args.decimals (node c.args.from.now) (items_view c.args.parts.now) c.requires.parts c.requires.named c.requires.judged
 
 pub counters_of-requires-clause-fine : goal.counters_of-requires-clause-fine
 counters_of-requires-clause-fine c =
-    parts_are_fine c.args.decimals (node c.args.from.now) (items_view c.deref-6.result.now) (ap items_view c.deref-6.ensures.value ∙ c.in_ok-parts.ensures) c.requires.named c.requires.judged
+    parts_are_fine c.args.decimals (node c.args.from.now) (items_view c.args.parts.now) c.requires.parts c.requires.named c.requires.judged
 
 pub put_term-requires : goal.put_term-requires
 put_term-requires c =
-    put_ready (table_kinds c.new-table.result) (exceptions c.in_ok-known.known) (node c.args.from.now) (c.new-table.ensures.kinds ∙ c.in_ok-kinds.ensures) c.in_ok-known.ensures
+    put_ready (table_kinds c.new-table.result) (exceptions c.in_ok-known.known) (node c.args.from.now) (c.new-table.ensures.kinds ∙ c.requires.kinds) (c.in_ok-known.ensures (node c.args.from.now).body c.requires.parts)
     (node_ready (node c.args.from.now) (limited (node c.args.from.now) c.requires.limits) c.requires.named c.requires.numbered c.requires.inside)
 
 pub invariant_of-result : goal.invariant_of-result
@@ -48,17 +48,17 @@ invariant_of-result c =
     let table = c.put_term.new.table in
     let few = limited from c.requires.limits in
     let made : IsMade n from inputs outputs locals counters = record {
-      inputs_made = c.in_ok-inputs.ensures ∙ ap (λ ds. map (variable_of n) (map declared ds)) c.deref-3.ensures.value;
-      outputs_made = c.in_ok-outputs.ensures ∙ ap (λ ds. map (variable_of n) (map declared ds)) c.deref-4.ensures.value;
-      locals_made = own_locals n from (items_view c.deref-5.result.now) _ (ap items_view c.deref-5.ensures.value ∙ c.in_ok-parts.ensures) c.in_ok-locals.ensures;
-      counters_made = own_counters n from (items_view c.deref-6.result.now) _ (ap items_view c.deref-6.ensures.value ∙ c.in_ok-parts.ensures) c.in_ok-counters.ensures;
+      inputs_made = c.in_ok-inputs.ensures ∙ ap (λ ds. map (variable_of n) (map declared ds)) c.deref-2.ensures.value;
+      outputs_made = c.in_ok-outputs.ensures ∙ ap (λ ds. map (variable_of n) (map declared ds)) c.deref-3.ensures.value;
+      locals_made = own_locals n from (items_view c.args.parts.now) _ c.requires.parts c.in_ok-locals.ensures;
+      counters_made = own_counters n from (items_view c.args.parts.now) _ c.requires.parts c.in_ok-counters.ensures;
     } in
     let body : IsBody from table c.in_ok-body.body _ = body_made from table c.in_ok-body.body (exceptions c.in_ok-known.known) (map string_bytes c.in_ok-exceptions.exceptions.items)
-    c.in_ok-known.ensures c.in_ok-exceptions.ensures c.in_ok-body.ensures.term in
+    (c.in_ok-known.ensures (node c.args.from.now).body c.requires.parts) c.in_ok-exceptions.ensures c.in_ok-body.ensures.term in
     let process = process_over table c.in_ok-body.body in
-    let same = c.in_ok-body.ensures.grown.kinds ∙ c.new-table.ensures.kinds ∙ c.in_ok-kinds.ensures in
+    let same = c.in_ok-body.ensures.grown.kinds ∙ c.new-table.ensures.kinds ∙ c.requires.kinds in
     let filled : IsTable from table process =
-    table_made from (table_expressions c.new-table.result) table (exceptions c.in_ok-known.known) process c.new-table.ensures.expressions c.in_ok-known.ensures body.is same c.in_ok-body.ensures.filled in
+    table_made from (table_expressions c.new-table.result) table (exceptions c.in_ok-known.known) process c.new-table.ensures.expressions (c.in_ok-known.ensures (node c.args.from.now).body c.requires.parts) body.is same c.in_ok-body.ensures.filled in
     record {
       few_decimals = c.requires.few;
       few_inputs = inputs_few n from inputs outputs locals counters few made;
