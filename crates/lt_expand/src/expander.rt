@@ -23,26 +23,33 @@ use lt_spelled::texts_keep_types;
 use lt_term::Scenario;
 use lt_types::{Typed, well_typed_is_unrefused};
 use std::alloc::Global;
+use std::mem;
 
 /// The scenario of the node that is asked for, or of the first one where no name is given.
+///
+/// The program is let go of once the tree of its node is made. That tree isn't given back: a call expands one node.
 ///
 /// # Errors
 ///
 /// The first refusal: [`ExpandRefusal::UnknownNode`] where no node has the name; then, over the whole expanded node,
 /// the first limit that it is past, and the first place in preorder of each other cause, in the order of the causes.
 /// [`ExpandRefusal::Memory`] where memory ran out.
-pub fn expand(alloc: Global, typed: &Typed, node: Option<&str>) -> Result<Scenario, ExpandRefusal>
-    ensures { IsAnswer typed.now.decimals
-        (expanded_node typed.now.decimals (asked_name node.entry) (declarations typed.now.program))
-        result }
+pub fn expand(alloc: Global, typed: Typed, node: Option<&str>) -> Result<Scenario, ExpandRefusal>
+    ensures { IsAnswer typed.decimals
+        (expanded_node typed.decimals (asked_name node.entry) (declarations typed.program)) result }
 {
-    let asked = expanded_node(alloc, typed, node)?;
+    let asked = expanded_node(alloc, &typed, node)?;
+    let decimals = typed.decimals();
     parts_are_numbered();
     locals_are_inside();
     names_are_there();
     well_typed_is_unrefused();
     texts_keep_types();
-    judged_scenario(alloc, &asked, typed.decimals())
+    // The scenario takes the memory that the program had.
+    drop(typed);
+    let made = judged_scenario(alloc, &asked, decimals)?;
+    mem::forget(asked);
+    Ok(made)
 }
 
 // The scenario of a node that is within the limits, or what is refused of it first.

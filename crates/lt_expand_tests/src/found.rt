@@ -72,7 +72,7 @@ fn expanded(
     requires { decimals ≤ most_decimals }
 {
     let typed = typed_of(alloc, text, decimals)?;
-    Ok(expand(alloc, &typed, name))
+    Ok(expand(alloc, typed, name))
 }
 
 // The program of a well typed text.

@@ -35,7 +35,7 @@ pub fn scenario_of(
 {
     let program = parse(alloc, text)?;
     let typed = check(alloc, program, decimals)?;
-    Ok(expand(alloc, &typed, node)?)
+    Ok(expand(alloc, typed, node)?)
 }
 
 /// The program of a text as text: a line for each declaration, its tokens with one blank between two.

@@ -1,24 +1,33 @@
+use Rattle.std.proofs.Common.{Ok, subst, sym}
 use Rattle.std.proofs.Math.Logic.{∥∥₁_map}
 use Rattle.lt_ast.specs.View.{program as declarations}
 use Rattle.lt_macros.specs.Answer.{asked_name}
+use Rattle.lt_macros.specs.Expansion.{expanded_node}
 use Rattle.lt_macros.specs.Tree.{node}
+use Rattle.lt_expand.specs.Answer.{IsAnswer}
 use Rattle.lt_expand.proofs.expander.expand.Goals as goal
 
 pub judged_scenario-requires-clause-named : goal.judged_scenario-requires-clause-named
 judged_scenario-requires-clause-named c =
-    c.names_are_there.ensures c.args.typed.now.decimals (asked_name c.args.node) (declarations c.args.typed.now.program) (node c.in_ok-asked.asked) c.in_ok-asked.ensures.0
+    c.names_are_there.ensures c.args.typed.decimals (asked_name c.args.node) (declarations c.args.typed.program) (node c.in_ok-asked.asked) c.in_ok-asked.ensures.0
 
 pub judged_scenario-requires-clause-numbered : goal.judged_scenario-requires-clause-numbered
 judged_scenario-requires-clause-numbered c =
-    c.parts_are_numbered.ensures c.args.typed.now.decimals (asked_name c.args.node) (declarations c.args.typed.now.program) (node c.in_ok-asked.asked) c.in_ok-asked.ensures.0
+    c.parts_are_numbered.ensures c.args.typed.decimals (asked_name c.args.node) (declarations c.args.typed.program) (node c.in_ok-asked.asked) c.in_ok-asked.ensures.0
 
 pub judged_scenario-requires-clause-inside : goal.judged_scenario-requires-clause-inside
 judged_scenario-requires-clause-inside c =
-    c.locals_are_inside.ensures c.args.typed.now.decimals (asked_name c.args.node) (declarations c.args.typed.now.program) (node c.in_ok-asked.asked) c.in_ok-asked.ensures.0
+    c.locals_are_inside.ensures c.args.typed.decimals (asked_name c.args.node) (declarations c.args.typed.program) (node c.in_ok-asked.asked) c.in_ok-asked.ensures.0
 
 pub judged_scenario-requires-clause-typed : goal.judged_scenario-requires-clause-typed
 judged_scenario-requires-clause-typed c =
-    let typed = c.args.typed.now in
+    let typed = c.args.typed in
     let program = declarations typed.program in
     ∥∥₁_map typed.spelled (λ spelled. c.texts_keep_types.ensures spelled.0 typed.decimals (asked_name c.args.node) program (node c.in_ok-asked.asked)
     spelled.1 ((c.well_typed_is_unrefused.ensures typed.decimals program).1 typed.unrefused) c.in_ok-asked.ensures.0)
+
+pub returns : goal.returns
+returns c =
+    let asked = expanded_node c.args.typed.decimals (asked_name c.args.node) (declarations c.args.typed.program) in
+    subst (λ decimals. IsAnswer decimals asked (Ok c.in_ok-made.made)) c.decimals-decimals.ensures.same
+    (subst (λ node. IsAnswer c.decimals-decimals.result node (Ok c.in_ok-made.made)) (sym c.in_ok-asked.ensures.0) c.in_ok-made.ensures)
