@@ -464,8 +464,13 @@ pub(crate) fn reduce<'a>(
     ensures adds { OnOk result (AddsTo (rows scope.old) (rows scope.new)) }
     ensures right { OnOk result (AreRight (rows scope.new)) }
 {
+    // Most phrases are in head normal form already.
+    let bare = inside_cover(phrase);
+    if let Shape::HeadNormalForm = shape_of(bare) {
+        return Ok(fitting(position, form_at(environment, bare)));
+    }
     let mut environment = environment;
-    let mut phrase = phrase;
+    let mut phrase = bare;
     loop {
         match step_in(scope, position, environment, phrase)? {
             Advance::Met(form) => return Ok(form),
