@@ -1,8 +1,11 @@
 //! What literals, types and operators of a text are in a scenario.
 
 ghost use Rattle.std.specs.Prelude.{◌≡◌, ◌≤◌, IfOk, pos, neg_ℤ, if◌then◌else◌};
+ghost use Rattle.lt_ast.specs.Literals.{figure_text};
+ghost use Rattle.lt_ast.specs.Syntax.{Figure};
 ghost use Rattle.lt_ast.specs.View.{figure, written_range, written_step};
 ghost use Rattle.lt_num.specs.Bounds.{most_decimals, most_raw};
+ghost use Rattle.lt_num.specs.Literal.{IsLiteral};
 ghost use Rattle.lt_types.specs.Literal.{raw_of};
 ghost use Rattle.lt_macros.specs.Literals.{binary_operator as binary_of, capped, decimals_of as kind_decimals, from_to, kind_of as kind_for, limited, most_unranged, number_at as number_for, range_of as range_for, step_raw, unary_operator as unary_of, written_points};
 ghost use Rattle.lt_macros.specs.Placed.{meaningless as nothing_said, unwritten_weight as weight_for};
@@ -184,10 +187,25 @@ fn capped_raw(alloc: Global, decimals: u32, literal: &Literal) -> Result<i64, Me
     requires { decimals ≤ most_decimals }
     ensures { IfOk result (λ raw. raw ≡ capped (raw_of decimals (figure literal.now))) }
 {
-    let text = literal.signed_text(alloc)?;
-    match read(text.as_bytes(), decimals) {
-        Ok(number) => Ok(number.raw),
-        Err(_) => Ok(PAST_MOST),
+    // Without a minus its text is its letters.
+    if literal.minus {
+        let text = literal.signed_text(alloc)?;
+        Ok(capped_number(text.as_bytes(), decimals))
+    } else {
+        Ok(capped_number(literal.text.as_str().as_bytes(), decimals))
+    }
+}
+
+// The raw number that the text of a literal is read as; where it is past the bound, the first one that is.
+fn capped_number(text: &[u8], decimals: u32) -> i64
+    requires literal { IsLiteral text.now }
+    requires decimals { decimals ≤ most_decimals }
+    ensures { (f : Figure) → text.now ≡ figure_text f →
+        result ≡ capped (raw_of decimals f) }
+{
+    match read(text, decimals) {
+        Ok(number) => number.raw,
+        Err(_) => PAST_MOST,
     }
 }
 

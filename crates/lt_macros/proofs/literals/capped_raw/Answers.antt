@@ -1,13 +1,21 @@
-use Rattle.std.proofs.Common.{FitsSigned, w64, ◌∙◌, rules}
+use Rattle.std.proofs.Common.{◌≡◌, FitsSigned, w64, ap, sym, ◌∙◌, rules}
 use Rattle.std.proofs.lemmas.Int.{to_z-of_z}
+use Rattle.lt_ast.specs.Letters.{letters}
+use Rattle.lt_ast.specs.Literals.{figure_text}
 use Rattle.lt_ast.specs.View.{figure}
-use Rattle.lt_macros.proofs.Figures.{capped_read, past_read}
+use Rattle.lt_num.specs.Literal.{signed_text}
 use Rattle.lt_macros.proofs.literals.capped_raw.Goals as goal
 
-pub returns-in-Ok : goal.returns-in-Ok
-returns-in-Ok c =
-    let fits : FitsSigned w64 c.in-Ok.number.raw = search rules in
-    to_z-of_z w64 c.in-Ok.number.raw fits ∙ capped_read c.as_bytes.result.now (figure c.args.literal.now) c.args.decimals c.read.result c.in-Ok.number (search rules) c.in-Ok.is c.read.ensures
+pub returns-in_ok-text : goal.returns-in_ok-text
+returns-in_ok-text c =
+    let fits : FitsSigned w64 c.capped_number.result = search rules in
+    let read : c.as_bytes.result.now ≡ figure_text (figure c.args.literal.now) = search rules in
+    to_z-of_z w64 c.capped_number.result fits ∙ c.capped_number.ensures (figure c.args.literal.now) read
 
-pub returns : goal.returns
-returns c = past_read c.as_bytes.result.now (figure c.args.literal.now) c.args.decimals c.read.result _ (search rules) c.in-Err.is c.read.ensures
+-- without a minus the text is the letters
+pub returns-else-literal : goal.returns-else-literal
+returns-else-literal c =
+    let fits : FitsSigned w64 c.capped_number-else-literal.result = search rules in
+    let plain : c.as_bytes-else-literal.result.now ≡ letters c.args.literal.now.text = search rules in
+    to_z-of_z w64 c.capped_number-else-literal.result fits
+    ∙ c.capped_number-else-literal.ensures (figure c.args.literal.now) (plain ∙ ap (λ b. signed_text b (letters c.args.literal.now.text)) (sym c.if-literal.false))
