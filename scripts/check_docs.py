@@ -6,8 +6,8 @@ The programs are those that `rt ci` leaves in the checkout, where no option name
 stands after `$ ` in a block of a document, or after `-- $ ` in the comment of an example. What it
 writes, standard error among it, stands below, where a line `..` stands for any lines. A command in
 a sentence has to end well, or by an end of its run. The row of a table that has the text of a node
-is run too: it says the outputs and the end, or a refusal with its place. Commands with --unproved
-are left out, since each takes a minute or more, and so are those with a word in capitals.
+is run too: it says the outputs and the end, or a refusal with its place. Commands that ask for the
+program itself, as --prove, are left out, and so are those with a word in capitals.
 """
 
 import argparse
@@ -42,14 +42,8 @@ IN_A_LINE = """awk '/#outs/ {print $1} /#end/ {$1 = ""; print}' | xargs"""
 # The statuses of a run that ended in one of its ways, and of a call that went well.
 ENDED = (0, 1, 4, 5, 6, 7, 8, 10, 14)
 
-# What stands for the script `lurette` where commands are run.
-CALLED = """#!/bin/sh
-if [ "${1-}" = --explain ]; then
-    shift
-    exec python3 scripts/explain.py "PROGRAM" "$@"
-fi
-exec "PROGRAM" "$@"
-"""
+# Words that ask for the program, and not for what it does.
+OF_THE_SCRIPT = ("--unproved", "--is-proved", "--prove", "--version", "--which")
 
 
 def sessions(file, lines):
@@ -105,7 +99,7 @@ def command_of_row(file, number, line):
 
 
 def is_run(command):
-    return "--unproved" not in command and "--is-proved" not in command
+    return not any(it in command for it in OF_THE_SCRIPT)
 
 
 def commands_of_document(file, text):
@@ -146,13 +140,18 @@ def all_commands():
 
 
 def furnish(room, program, plant):
-    """Puts into a folder what commands at the top of the repository find there."""
+    """Puts into a folder what commands at the top of the repository find there. It is a tree as
+    `scripts/install` makes one: it has the scripts and the programs, and no source."""
     for name in ("docs", "examples", "scripts"):
         shutil.copytree(os.path.join(calls.TOP, name), os.path.join(room, name))
+    os.mkdir(os.path.join(room, "program"))
     for name, path in (("lurette", program), ("lt_plant", plant)):
-        with open(os.path.join(room, name), "w", encoding="utf-8") as file:
-            file.write(CALLED.replace("PROGRAM", path))
-        os.chmod(os.path.join(room, name), 0o755)
+        shutil.copy(os.path.join(calls.TOP, name), os.path.join(room, name))
+        kept = os.path.join(room, "program", name)
+        os.symlink(path, kept)
+        # The program says the same where nothing is proved of it, but for a line of the script's.
+        with open(f"{kept}.proved", "w", encoding="utf-8"):
+            pass
 
 
 def outcome(command, room):

@@ -3,6 +3,7 @@
 import io
 import os
 import shlex
+import shutil
 import subprocess
 import tempfile
 import unittest
@@ -10,7 +11,6 @@ import unittest
 import call_words
 import check_docs
 import prove
-import unproved
 
 TOP = os.path.dirname(os.path.dirname(os.path.abspath(__file__)))
 
@@ -38,40 +38,144 @@ class Words(unittest.TestCase):
         self.assertEqual(marked, ["--seed=<3>", "<run>", "<f>", "--replay=<g=h>", "-l", "<4>"])
 
 
-class Unproved(unittest.TestCase):
-    def elsewhere(self, *words):
-        with tempfile.TemporaryDirectory() as room:
-            found = unproved.words_from_elsewhere(words, room)
-            commands = {}
-            for name in os.listdir(room):
-                run = subprocess.run([os.path.join(room, name)], stdout=subprocess.PIPE, check=True)
-                commands[name] = run.stdout.decode()
-            return [it.replace(room, "ROOM") for it in found], commands
+# What stands for the kit's command: it builds a script in place of a program, keeps where it was
+# called, and runs the script at once, as `rt try` does. Where a file `refuses` is there it fails.
+RT = r"""#!/bin/sh
+echo "$1" >>"$LURETTE_TEST/calls"
+[ ! -e "$LURETTE_TEST/refuses" ] || { echo 'the text has an error' >&2; exit 1; }
+case $1 in
+    version) echo 'kit-0 logic 0' ;;
+    try)
+        while [ "$1" != -- ]; do shift; done
+        shift
+        mkdir "$TMPDIR/rt-try"
+        printf '#!/bin/sh\n%s\n' "$(cat src/main.rt)" >"$TMPDIR/rt-try/program"
+        chmod +x "$TMPDIR/rt-try/program"
+        LURETTE_WAITS=5 "$TMPDIR/rt-try/program" "$@"
+        rm -r "$TMPDIR/rt-try"
+        ;;
+    ci)
+        for name in lurette lt_plant; do
+            [ -d "crates/$name" ] || continue
+            mkdir "crates/$name/out"
+            printf '#!/bin/sh\necho proved "$@"\n' >"crates/$name/out/$name"
+            echo "rt: $name proved"
+        done
+        ;;
+esac
+"""
 
-    def test_files_have_whole_paths(self):
-        here = os.getcwd()
-        words, _ = self.elsewhere("-l", "3", "run", "a/f", "--replay=t")
-        self.assertEqual(words, ["-l", "3", "run", f"{here}/a/f", f"--replay={here}/t"])
-        self.assertEqual(self.elsewhere("run", "/f")[0], ["run", "/f"])
-        self.assertEqual(self.elsewhere("run", "")[0], ["run", ""])
-        self.assertEqual(self.elsewhere("stress", "6")[0], ["stress", "6"])
+# The text of a program: it waits while it is built, and else it says with which words it runs.
+SOURCE = 'if [ -n "${LURETTE_WAITS-}" ]; then sleep "$LURETTE_WAITS"; fi; echo unproved "$@"'
 
-    def test_commands_run_as_the_caller_would_run_them(self):
-        os.environ["LURETTE_TEST"] = "it's\nthere"
-        named = "printenv LURETTE_TEST"
-        words, said = self.elsewhere("run", "/f", "--sut", "pwd -P", f"--oracle={named}")
-        self.assertEqual(words, ["run", "/f", "--sut", "ROOM/sut", "--oracle=ROOM/oracle"])
-        self.assertEqual(said["sut"].strip(), os.path.realpath(os.getcwd()))
-        self.assertEqual(said["oracle"], "it's\nthere\n")
 
-    def test_what_cannot_be_started_stays(self):
-        for command in ("no-such-program x", "  ", ""):
-            words = ["run", "/f", "--sut", command]
-            self.assertEqual(self.elsewhere(*words)[0], words)
+def write(path, text):
+    os.makedirs(os.path.dirname(path), exist_ok=True)
+    with open(path, "w", encoding="utf-8") as file:
+        file.write(text)
+    os.chmod(path, 0o755)
 
-    def test_a_plant_without_a_proof_is_refused(self):
-        with self.assertRaises(unproved.Refused):
-            self.elsewhere("run", "/f", "--sut", f"{TOP}/lt_plant --unproved gate")
+
+class Repository(unittest.TestCase):
+    """A small repository, whose programs are scripts, with what stands for the kit's command."""
+
+    def setUp(self):
+        room = tempfile.TemporaryDirectory(prefix="lurette-")
+        self.addCleanup(room.cleanup)
+        self.room, self.top = room.name, os.path.join(room.name, "top")
+        for name in ("lurette", "lt_plant", "scripts", "VERSION"):
+            path = os.path.join(TOP, name)
+            copy = shutil.copytree if os.path.isdir(path) else shutil.copy
+            os.makedirs(self.top, exist_ok=True)
+            copy(path, os.path.join(self.top, name))
+        for name in ("lurette", "lt_plant"):
+            write(f"{self.top}/crates/{name}/src/main.rt", SOURCE)
+        write(f"{self.top}/crates.txt", "lurette:\nlt_plant:\n")
+        write(f"{self.room}/bin/rt", RT)
+        self.path = f"{self.room}/bin:{os.environ['PATH']}"
+
+    def start(self, *words, name="lurette", **changed):
+        """A call of a script that has begun."""
+        how = {it: subprocess.PIPE for it in ("stdout", "stderr")}
+        env = {"PATH": self.path, "LURETTE_TEST": self.room, **changed}
+        call = [os.path.join(self.top, name), *words]
+        return subprocess.Popen(call, env=env, stdin=subprocess.DEVNULL, text=True, **how)
+
+    def call(self, *words, **how):
+        """The status of a call, what it wrote, and the lines that it said."""
+        run = self.start(*words, **how)
+        output, errors = run.communicate()
+        return run.returncode, output, errors.splitlines()
+
+    def calls_of_rt(self):
+        path = f"{self.room}/calls"
+        return check_docs.read(path).split() if os.path.exists(path) else []
+
+
+class Starting(Repository):
+    def test_the_first_call_builds_and_the_second_runs_at_once(self):
+        status, output, said = self.call("run", "f")
+        self.assertEqual((status, output, len(said)), (0, "unproved run f\n", 2))
+        self.assertIn("without a proof, once", said[0])
+        self.assertRegex(said[1], r"^lurette: not proved: \./lurette --prove proves it, in .+hour")
+        status, output, again = self.call("--unproved", "print", "g")
+        self.assertEqual((status, output, again), (0, "unproved print g\n", said[1:]))
+        self.assertEqual(self.calls_of_rt(), ["try"])
+        self.assertEqual(self.call("gate", name="lt_plant")[:2], (0, "unproved gate\n"))
+
+    def test_it_needs_no_kit_once_it_is_there(self):
+        self.assertEqual(self.call("run", "f")[0], 0)
+        os.remove(f"{self.room}/bin/rt")
+        self.path = "/usr/bin:/bin"
+        self.assertEqual(self.call("run", "g")[:2], (0, "unproved run g\n"))
+
+    def test_once_it_is_proved_nothing_is_said(self):
+        self.assertEqual(self.call("--is-proved")[0], 1)
+        self.assertEqual(self.call("--prove")[:2], (0, ""))
+        self.assertEqual(self.call("--is-proved")[0], 0)
+        self.assertEqual(self.call("run", "f"), (0, "proved run f\n", []))
+        self.assertEqual(self.call("--prove", "run", "f"), (0, "proved run f\n", []))
+        self.assertEqual(self.call("--unproved", "run", "f")[:2], (0, "unproved run f\n"))
+        self.assertEqual(self.calls_of_rt(), ["ci", "try"])
+
+    def test_a_stale_program_is_not_run(self):
+        self.call("run", "f")
+        self.call("--prove")
+        write(f"{self.top}/crates/lurette/src/main.rt", SOURCE.replace("unproved", "changed"))
+        self.assertEqual(self.call("--is-proved")[0], 1)
+        self.assertEqual(self.call("run", "f")[:2], (0, "changed run f\n"))
+        write(f"{self.top}/out/lurette", "#!/bin/sh\necho made by hand\n")
+        self.assertEqual(self.call("run", "f")[:2], (0, "changed run f\n"))
+
+    def test_two_calls_at_once_build_once(self):
+        runs = [self.start("run", str(it)) for it in range(4)]
+        outputs = [run.communicate()[0] for run in runs]
+        self.assertEqual(outputs, [f"unproved run {it}\n" for it in range(4)])
+        self.assertEqual(self.calls_of_rt(), ["try"])
+
+    def test_a_build_that_fails_leaves_nothing(self):
+        write(f"{self.room}/refuses", "")
+        for words in (["run", "f"], ["--prove"]):
+            status, output, said = self.call(*words)
+            self.assertEqual((status, output), (125, ""))
+            self.assertIn("the text has an error", said)
+        left = [it for it in os.listdir(f"{self.top}/out") if not it.endswith(".lock")]
+        self.assertEqual(left, [])
+        os.remove(f"{self.room}/refuses")
+        self.assertEqual(self.call("run", "f")[:2], (0, "unproved run f\n"))
+
+    def test_help_and_version_need_no_program(self):
+        for words in (["--help"], ["-h"]):
+            status, output, said = self.call(*words, PATH="/usr/bin:/bin")
+            self.assertEqual((status, output, said), (0, check_docs.read("scripts/lurette.help"), []))
+        status, output, said = self.call(PATH="/usr/bin:/bin")
+        self.assertEqual((status, output), (2, ""))
+        self.assertEqual("\n".join(said) + "\n", check_docs.read("scripts/lurette.help"))
+        version = check_docs.read("VERSION").strip()
+        _, output, _ = self.call("--version")
+        self.assertEqual(output, f"lurette {version}, not proved; kit-0 logic 0\n")
+        self.assertEqual(self.call("--help", name="lt_plant")[0], 0)
+        self.assertEqual(self.calls_of_rt(), ["version"])
 
 
 class Proving(unittest.TestCase):

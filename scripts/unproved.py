@@ -1,152 +1,133 @@
-"""Runs the source of a program as it stands, with no proof, by `rt try`.
+"""Builds a program of the source as it stands, with no proof, and keeps it.
 
-    python3 scripts/unproved.py lurette [--explain] WORD ..
-    python3 scripts/unproved.py lt_plant WORD ..
+    python3 scripts/unproved.py NAME TO
 
-`rt try` builds the program anew for each run, and runs it in a new folder without an environment.
-So files are named to it by whole paths, and each command is put into a file that goes back to the
-caller's folder and environment before it starts.
+The program is put into the file TO. `rt try` alone builds one without a proof: it runs it at once
+and removes it when it has ended. So it is given a call that doesn't end for some seconds, and while
+that runs its file is there and is copied. The program runs with the checks of `rt try`: it stops at
+an overflow or a bad access. It stands alone, and no limit of `rt try` bounds its later runs.
 """
 
 import os
-import shlex
 import shutil
 import signal
 import subprocess
 import sys
 import tempfile
-
-import call_words
-import explain
+import time
 
 TOP = os.path.dirname(os.path.dirname(os.path.abspath(__file__)))
 NO_PROGRAM = 125
 BLANKS = " \t\r\n"
 
+# A scenario that waits for its controller, and a controller that waits.
+SCENARIO = b"node n(a: bool) returns (b: bool) = b"
+WAITS = "sleep 60"
 
-class Refused(Exception):
-    """Why a call can't be run without a proof."""
-
-
-def say(name, line):
-    print(f"{name}: {line}", file=sys.stderr, flush=True)
-
-
-def whole_path(path):
-    """The path from the root, where there is a path at all."""
-    return os.path.join(os.getcwd(), path) if path else path
-
-
-def program_of(command):
-    """The file that a command starts, or None where none can be started."""
-    words = command.split()
-    return shutil.which(words[0]) if words else None
-
-
-def is_plant(program):
-    return os.path.realpath(program) == os.path.join(TOP, "lt_plant")
-
-
-def refuse_plant(command):
-    """Refuses a plant that doesn't answer within a run of `rt try`."""
-    if "--unproved" in command.split():
-        raise Refused("a plant without a proof replies only when its input has ended")
-    if subprocess.run([os.path.join(TOP, "lt_plant"), "--is-proved"], check=False).returncode:
-        raise Refused(
-            "./lt_plant is not proved yet. Call ./lt_plant gate </dev/null once, which takes some"
-            " minutes; or use python3 examples/controllers/thermostat.py as the controller"
-        )
-
-
-def going_back(command):
-    """A script that starts a command as the caller would: in the same folder and environment."""
-    known = [f"{name}={value}" for name, value in os.environ.items()]
-    words = ["exec", "env", "-i", *known, *command.split()]
-    return f"#!/bin/sh\ncd {shlex.quote(os.getcwd())} || exit 126\n{shlex.join(words)}\n"
-
-
-def started_from(room, role, command):
-    """The command that stands for another one in a run of `rt try`."""
-    program = program_of(command)
-    if program is None:
-        return command
-    if is_plant(program):
-        refuse_plant(command)
-    path = os.path.join(room, role.strip("-"))
-    with open(path, "w", encoding="utf-8", errors="surrogateescape") as file:
-        file.write(going_back(command))
-    os.chmod(path, 0o700)
-    return path
-
-
-def words_from_elsewhere(words, room):
-    """The words of a call of lurette that mean the same from any folder."""
-    names_file = call_words.text_of(words, "mode") != "stress"
-
-    def change(part):
-        if part.role == "--replay" or part.role == "file" and names_file:
-            return whole_path(part.text)
-        if part.role in ("--sut", "--oracle"):
-            return started_from(room, part.role, part.text)
-        return part.text
-
-    return call_words.with_texts(words, change)
+# What a plant replies to for some seconds: `rt try` hands no more than 64 MiB to a program.
+LINES = (b"1" * 4000 + b"\n") * 12_000
 
 
 def room_without_blanks():
-    """A new folder for scripts, whose path can stand in a command, which is split at blanks."""
+    """A new folder for programs, whose path can stand in a command, which is split at blanks."""
     parent = tempfile.gettempdir()
     parent = "/tmp" if any(it in parent for it in BLANKS) else parent
     return tempfile.TemporaryDirectory(prefix="lurette-", dir=parent)
 
 
-def tried(name, words, reads_input):
-    """Runs a program by `rt try`. Returns its status, or that there was none, and what was said."""
-    # In a session of its own, so that all of it can be stopped.
-    run = subprocess.Popen(
-        ["rt", "try", "--", *words],
-        cwd=os.path.join(TOP, "crates", name),
-        stdin=None if reads_input else subprocess.DEVNULL,
-        stderr=subprocess.PIPE,
-        start_new_session=True,
-    )
-    for number in (signal.SIGINT, signal.SIGTERM, signal.SIGHUP):
-        signal.signal(number, lambda told, _: stop(run, told))
-    said = []
-    for line in run.stderr:
-        sys.stderr.buffer.write(line)
-        sys.stderr.flush()
-        said.append(line)
-    status = run.wait()
-    has_ended = said and said[-1].startswith(b"run=ended ")
-    return (status if has_ended else NO_PROGRAM), b"".join(said)
+def long_call(name, room):
+    """The words of a call that doesn't end at once, and the file that is its standard input."""
+    given = os.path.join(room, "given")
+    with open(given, "wb") as file:
+        file.write(SCENARIO if name == "lurette" else LINES)
+    if name != "lurette":
+        return ["constant", "1"], given
+    first, *rest = WAITS.split()
+    return ["run", given, "--sut", " ".join([shutil.which(first) or first, *rest])], os.devnull
 
 
-def stop(run, number):
-    os.killpg(run.pid, signal.SIGTERM)
+def words_of_processes():
+    """The words with which each process that runs was started."""
+    for number in filter(str.isdigit, os.listdir("/proc")):
+        try:
+            with open(f"/proc/{number}/cmdline", "rb") as file:
+                yield os.fsdecode(file.read()).split("\0")[:-1]
+        except OSError:
+            continue
+
+
+def running_program(room, call):
+    """The file of the program that runs this call out of a folder, or None where none runs."""
+    for words in words_of_processes():
+        if words[-len(call) :] == call and words[-len(call) - 1].startswith(room + os.sep):
+            return words[-len(call) - 1]
+    return None
+
+
+def is_kept(program, to):
+    """Copies a program that runs, under a name of its own first, so that no half of it is there."""
+    own = f"{to}.{os.getpid()}"
+    try:
+        shutil.copyfile(program, own)
+        os.chmod(own, 0o755)
+        os.replace(own, to)
+    except FileNotFoundError:
+        return False
+    finally:
+        if os.path.exists(own):
+            os.remove(own)
+    return True
+
+
+def stop(run):
+    """Stops `rt try` and all that it started. It removes its folder."""
+    if run.poll() is None:
+        os.killpg(run.pid, signal.SIGTERM)
     run.wait()
+
+
+def build(name, to, room):
+    """Whether the program was built and kept. What `rt try` said stands in the folder if not."""
+    call, given = long_call(name, room)
+    built = os.path.join(room, "built")
+    os.mkdir(built)
+    with open(given, "rb") as stdin, open(os.path.join(room, "said"), "wb") as said:
+        # In a session of its own, so that all of it can be stopped.
+        run = subprocess.Popen(
+            ["rt", "try", "--steps", "1", "--", *call],
+            cwd=os.path.join(TOP, "crates", name),
+            env={**os.environ, "TMPDIR": built},
+            stdin=stdin,
+            stdout=subprocess.DEVNULL,
+            stderr=said,
+            start_new_session=True,
+        )
+    try:
+        while run.poll() is None:
+            program = running_program(built, call)
+            if program and is_kept(program, to):
+                return True
+            time.sleep(0.05)
+    finally:
+        stop(run)
+    return False
+
+
+def end_by(number, _):
     sys.exit(128 + number)
 
 
-def main(name, *words):
-    explains = words[:1] == ("--explain",)
-    words = words[explains:]
-    if shutil.which("rt") is None:
-        say(name, "the command rt of the Rattle kit is not found: README.md says what is needed")
-        return NO_PROGRAM
+def main(name, to):
+    for number in (signal.SIGINT, signal.SIGTERM, signal.SIGHUP):
+        signal.signal(number, end_by)
+    os.makedirs(os.path.dirname(os.path.abspath(to)), exist_ok=True)
     with room_without_blanks() as room:
-        try:
-            given = words_from_elsewhere(words, room) if name == "lurette" else words
-        except Refused as why:
-            say(name, why)
-            return NO_PROGRAM
-        say(name, "nothing is proved of this run. The program is built first, in a minute or more.")
-        say(name, "What it writes comes when it has ended")
-        status, said = tried(name, given, reads_input=name != "lurette")
-    if explains and status:
-        for line in explain.explanation(explain.line_of(said), words):
-            print(line, file=sys.stderr)
-    return status
+        if build(name, to, room):
+            return 0
+        with open(os.path.join(room, "said"), "rb") as file:
+            shutil.copyfileobj(file, sys.stderr.buffer)
+    print(f"{name}: the program can't be built, so there is none to run", file=sys.stderr)
+    return NO_PROGRAM
 
 
 if __name__ == "__main__":
