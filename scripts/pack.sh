@@ -1,0 +1,33 @@
+# What `scripts/install` and `scripts/release` share: a tree with the programs and without a source,
+# in which `./lurette` runs at once, also where there is no kit.
+#
+# The script that calls it says `top`, the folder of the repository.
+
+# What whoever runs the program needs of the scripts.
+FOR_USERS='start.sh lurette.help lt_plant.help explain.py call_words.py draw_trace.py'
+
+# Puts a program into a tree, with its stamp, which has the sum of the text that it was built of.
+pack_program() {
+    name=$1 tree=$2
+    program=$("$top/$name" --which 2>/dev/null) || return
+    cp -p "$program" "$tree/program/$name"
+    for kind in proved unproved; do
+        [ ! -e "$program.$kind" ] || cp "$program.$kind" "$tree/program/$name.$kind"
+    done
+}
+
+# Makes a tree anew.
+pack() {
+    tree=$1
+    rm -rf "$tree"
+    mkdir -p "$tree/program" "$tree/scripts"
+    for name in lurette lt_plant; do
+        pack_program "$name" "$tree" || return
+        cp -p "$top/$name" "$tree/$name"
+    done
+    for file in $FOR_USERS; do
+        cp -p "$top/scripts/$file" "$tree/scripts/"
+    done
+    cp -Rp "$top/docs" "$top/examples" "$top/README.md" "$top/CHANGELOG.md" "$top/VERSION" "$tree/"
+    "$top/lurette" --version >"$tree/program/version"
+}

@@ -1,0 +1,74 @@
+"""That what is installed, or unpacked, runs where there is no kit."""
+
+import os
+import shutil
+import subprocess
+import unittest
+
+import check_docs
+import manual
+from test_start import TOP, Repository
+
+
+class Packed(Repository):
+    """Trees that have programs and no source, called where there is no kit."""
+
+    BARE = "/usr/bin:/bin"
+
+    def setUp(self):
+        super().setUp()
+        for name in ("docs", "examples"):
+            shutil.copytree(os.path.join(TOP, name), os.path.join(self.top, name))
+        for name in ("README.md", "CHANGELOG.md"):
+            shutil.copy(os.path.join(TOP, name), self.top)
+
+    def made(self, script, *words):
+        """What a script says that ends well, in its last line."""
+        status, output, said = self.call(*words, name=f"scripts/{script}")
+        self.assertEqual(status, 0, said)
+        return output.splitlines()[-1]
+
+    def test_what_is_installed_runs_without_a_kit(self):
+        place = f"{self.room}/a place"
+        self.assertIn("not proved; kit-0", self.made("install", place))
+        status, output, said = self.call("run", "f", name=f"{place}/bin/lurette", PATH=self.BARE)
+        self.assertEqual((status, output, len(said)), (0, "unproved run f\n", 1))
+        self.assertIn("proved with kit-0", self.made("install", "--prove", place))
+        found = self.call("run", "f", name=f"{place}/bin/lurette", PATH=self.BARE)
+        self.assertEqual(found, (0, "proved run f\n", []))
+        found = self.call("gate", name=f"{place}/bin/lt_plant", PATH=self.BARE)
+        self.assertEqual(found, (0, "proved gate\n", []))
+        self.assertEqual(self.call("--unproved", name=f"{place}/bin/lurette")[0], 2)
+        found = self.call("--unproved", "run", "f", name=f"{place}/bin/lurette")
+        self.assertEqual(found[0], 125)
+        for path in ("man/man1/lurette.1", "zsh/site-functions/_lurette"):
+            self.assertTrue(os.path.getsize(f"{place}/share/{path}"))
+
+    def test_a_release_runs_without_a_kit(self):
+        self.assertEqual(self.call(name="scripts/release")[0], 1)
+        self.call("--prove")
+        self.call("--prove", name="lt_plant")
+        archive = self.made("release")
+        version = check_docs.read("VERSION").strip()
+        self.assertEqual(archive, f"out/lurette-{version}.tar.gz")
+        subprocess.run(["tar", "-C", self.room, "-xzf", f"{self.top}/{archive}"], check=True)
+        shutil.rmtree(self.top)
+        tree = f"{self.room}/lurette-{version}"
+        found = self.call("run", "f", name=f"{tree}/lurette", PATH=self.BARE)
+        self.assertEqual(found, (0, "proved run f\n", []))
+        _, output, _ = self.call("--version", name=f"{tree}/lurette", PATH=self.BARE)
+        self.assertEqual(output, f"lurette {version}, proved with kit-0 logic 0\n")
+        self.assertEqual(self.call("--is-proved", name=f"{tree}/lurette")[0], 0)
+        self.assertTrue(check_docs.read(f"{tree}/program/lurette.proved"))
+
+    def test_what_completes_words_is_read_by_a_shell(self):
+        bash = shutil.which("bash")
+        if bash is None:
+            self.skipTest("there is no bash")
+        line = 'COMP_WORDS=(lurette --pre); COMP_CWORD=1; _lurette; echo "${COMPREPLY[@]}"'
+        run = subprocess.run([bash, "-c", manual.bash() + line], capture_output=True, text=True)
+        self.assertEqual((run.stdout, run.stderr), ("--precision\n", ""))
+
+
+if __name__ == "__main__":
+    unittest.main()
