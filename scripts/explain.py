@@ -3,7 +3,9 @@
     python3 scripts/explain.py PROGRAM WORD ..
 
 Standard output, standard error and the status are the program's own. What is said more comes behind
-its last line, on standard error: a sentence, and the line of the file with a caret at the place.
+its last line, on standard error: a sentence, the line of the file with a caret at the place, and
+behind a run that found something the call that plays it again. On a terminal it is also said where
+the program waits long for a controller or an oracle.
 """
 
 import os
@@ -13,6 +15,8 @@ import sys
 import threading
 
 import call_words
+import next_calls
+import waiting
 
 # Each code of a refusal.
 CODES = {
@@ -165,19 +169,34 @@ def copied(stream, kept):
         kept[:] = (kept + chunk)[-65536:]
 
 
+def say(line):
+    print(line, file=sys.stderr, flush=True)
+
+
+def watch(run, words):
+    """Has it said where a run waits long for a side."""
+    names = {"--sut": "controller", "--oracle": "oracle"}
+    sides = [name for role, name in names.items() if call_words.text_of(words, role) is not None]
+    if sides:
+        threading.Thread(target=waiting.tell_once, args=(run, sides, say), daemon=True).start()
+
+
 def main(program, *words):
     # What the terminal sends goes to the program too. It ends by it, and this with it.
     signal.signal(signal.SIGINT, lambda *_: None)
     run = subprocess.Popen([program, *words], stderr=subprocess.PIPE)
+    if sys.stderr.isatty():
+        watch(run, words)
     kept = bytearray()
     copier = threading.Thread(target=copied, args=(run.stderr, kept), daemon=True)
     copier.start()
     status = run.wait()
     # A program that still runs may hold standard error open.
     copier.join(1)
+    line = line_of(bytes(kept))
     if status > 0:
-        for line in explanation(line_of(bytes(kept)), words):
-            print(line, file=sys.stderr)
+        for told in explanation(line, words) + next_calls.lines(line, words, next_calls.trace_file()):
+            say(told)
     return status if status >= 0 else 128 - status
 
 

@@ -4,7 +4,8 @@
 # The script that calls it says `top`, the folder of the repository.
 
 # What whoever runs the program needs of the scripts.
-FOR_USERS='start.sh lurette.help lt_plant.help explain.py call_words.py draw_trace.py'
+FOR_USERS='start.sh lurette.help lt_plant.help explain.py call_words.py next_calls.py
+    waiting.py draw_trace.py'
 
 # Puts a program into a tree, with its stamp, which has the sum of the text that it was built of.
 pack_program() {

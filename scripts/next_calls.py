@@ -1,0 +1,61 @@
+"""What to type behind a run that found something: the same again, and a picture of its trace."""
+
+import os
+import re
+import shlex
+import stat
+
+import call_words
+
+TOP = os.path.dirname(os.path.dirname(os.path.abspath(__file__)))
+
+# The lines of the statuses 1, 4 to 8 and 10, which name a step.
+FOUND = re.compile(
+    r"(?:(?:oracle|deadlock|(?:raise|fault|ended|budget) \S+|malformed \S+ \S+)) (\d+)(?: at \d+)?"
+)
+
+
+def shown(path):
+    """A path as it is typed here: the short one of a file below this folder."""
+    near = os.path.relpath(path)
+    return path if near.startswith(os.pardir + os.sep) else near
+
+
+def again(words, step):
+    """The words of the same run up to a step."""
+    parts = call_words.parts_of(words)
+    if any(it.role == "-l" for it in parts):
+        change = lambda part: step if part.role == "-l" else part.text
+        return call_words.with_texts(words, change)
+    file = next(it.index for it in parts if it.role == "file")
+    at = 0 if "--" in words[:file] else file + 1
+    return [*words[:at], "-l", step, *words[at:]]
+
+
+def called(words):
+    script = shown(os.path.join(TOP, "lurette"))
+    return shlex.join([script if os.sep in script else f"./{script}", *words])
+
+
+def trace_file():
+    """The file that standard output goes to, or None where it is no file."""
+    try:
+        is_file = stat.S_ISREG(os.fstat(1).st_mode)
+        path = os.readlink("/proc/self/fd/1")
+    except OSError:
+        return None
+    return path if is_file and os.path.exists(path) else None
+
+
+def lines(line, words, trace):
+    """What to type behind a line of the program; none where it names no step."""
+    found = FOUND.fullmatch(line)
+    if found is None or call_words.text_of(words, "mode") != "run":
+        return []
+    seed, step = call_words.text_of(words, "--seed") or "0", found[1]
+    told = [f"Seed {seed}, step {step}. The same again:", f"    {called(again(words, step))}"]
+    if trace:
+        drawing = shown(os.path.join(TOP, "scripts", "draw_trace.py"))
+        call = shlex.join(["python3", drawing, shown(trace)])
+        told += ["A picture of the trace:", f"    {call} >picture.svg"]
+    return told
