@@ -1,0 +1,71 @@
+"""That what the prover's processes use is counted for their crates, and shown in a table."""
+
+import os
+import subprocess
+import tempfile
+import unittest
+from importlib.machinery import SourceFileLoader
+from importlib.util import module_from_spec, spec_from_loader
+
+from test_start import TOP, write
+
+PATH = os.path.join(TOP, "scripts", "gate_minutes")
+
+# What stands for the kit's command, and for its prover, which is busy for a second.
+RT = """#!/bin/sh
+echo "rt: $*"
+rattle build --crate-name low src/lib.rt & rattle build --crate-name low --test src/lib.rt
+wait
+exit 3
+"""
+RATTLE = """#!/usr/bin/env python3
+import time
+while time.process_time() < 1:
+    pass
+"""
+
+
+def module():
+    loader = SourceFileLoader("gate_minutes", PATH)
+    found = module_from_spec(spec_from_loader("gate_minutes", loader))
+    loader.exec_module(found)
+    return found
+
+
+class Minutes(unittest.TestCase):
+    def test_what_a_process_works_for(self):
+        kind_of = module().kind_of
+        check = ["/kit/rattle", "check", "--crate-name", "low", "src/lib.rt"]
+        self.assertEqual(kind_of(check, "/top/crates/low"), ("low", "proof"))
+        self.assertEqual(kind_of([*check, "--test"], "/top/crates/low"), ("low", "tests"))
+        self.assertEqual(kind_of(check, "/tmp/rt-edit-7-x"), ("low", "wrong bodies"))
+        self.assertIsNone(kind_of(["/kit/clang", "--crate-name", "low"], "/tmp"))
+        self.assertIsNone(kind_of([""], ""))
+
+    def test_the_table_begins_with_the_dearest(self):
+        crates = {
+            "a": {"proof": 60, "tests": 0, "wrong bodies": 30},
+            "b": {"proof": 600, "tests": 6, "wrong bodies": 0},
+        }
+        wanted = [
+            "| `b` | 10.0 | 0.1 |  | 10.1 |",
+            "| `a` | 1.0 |  | 0.5 | 1.5 |",
+            "| all crates | 11.0 | 0.1 | 0.5 | 11.6 |",
+            "| what else is done | | | | 1.0 |",
+        ]
+        self.assertEqual(module().table(crates, 756)[2:], wanted)
+
+    def test_a_run_is_watched(self):
+        with tempfile.TemporaryDirectory(prefix="lurette-") as room:
+            for name, text in (("rt", RT), ("rattle", RATTLE)):
+                write(f"{room}/bin/{name}", text)
+            env = {**os.environ, "PATH": f"{room}/bin:{os.environ['PATH']}"}
+            run = subprocess.run([PATH], env=env, capture_output=True, text=True, check=False)
+        self.assertEqual((run.returncode, run.stderr), (3, ""))
+        lines = run.stdout.splitlines()
+        self.assertEqual(lines[0], "rt: ci")
+        self.assertTrue(any(it.startswith("| `low` | ") for it in lines), lines)
+
+
+if __name__ == "__main__":
+    unittest.main()
