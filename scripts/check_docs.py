@@ -1,8 +1,9 @@
 """Runs every command that the documents and the examples print, and compares what comes of it.
 
-    python3 scripts/check_docs.py [--program PATH] [--plant PATH]
+    python3 scripts/check_docs.py [--program PATH] [--plant PATH] [--quick]
 
-The programs are those that `rt ci` leaves in the checkout, where no option names others. A command
+The programs are those that `rt ci` leaves in the checkout, where no option names others. With
+--quick other tests leave out what takes long where nothing is proved of the program. A command
 stands after `$ ` in a block of a document, or after `-- $ ` in the comment of an example. What it
 writes, standard error among it, stands below, where a line `..` stands for any lines. A command in
 a sentence has to end well, or by an end of its run. The row of a table that has the text of a node
@@ -202,13 +203,22 @@ def check(program, plant):
     return count, faults
 
 
-def programs(words):
-    """The paths of the programs `lurette` and `lt_plant` that words of the command line name."""
+def given(words):
+    """What words of the command line say: the paths of both programs, and whether what takes long
+    is left out."""
     parser = argparse.ArgumentParser(prog="check_docs.py")
     parser.add_argument("--program", default=calls.built("lurette"))
     parser.add_argument("--plant", default=calls.built("lt_plant"))
-    given = parser.parse_args(words)
-    return os.path.abspath(given.program), os.path.abspath(given.plant)
+    parser.add_argument("--quick", action="store_true")
+    found = parser.parse_args(words)
+    found.program, found.plant = os.path.abspath(found.program), os.path.abspath(found.plant)
+    return found
+
+
+def programs(words):
+    """The paths of the programs `lurette` and `lt_plant` that words of the command line name."""
+    found = given(words)
+    return found.program, found.plant
 
 
 def main(words):

@@ -193,9 +193,9 @@ def main(program, *words):
     status = run.wait()
     # A program that still runs may hold standard error open.
     copier.join(1)
-    line = line_of(bytes(kept))
     if status > 0:
-        for told in explanation(line, words) + next_calls.lines(line, words, next_calls.trace_file()):
+        line, trace = line_of(bytes(kept)), next_calls.trace_file()
+        for told in explanation(line, words) + next_calls.lines(line, words, trace):
             say(told)
     return status if status >= 0 else 128 - status
 

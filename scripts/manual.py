@@ -60,8 +60,11 @@ def table(head):
 
 def words():
     """The words of a call, as COMMAND's table has them."""
-    rows = [(*cells[0].strip("`").partition(" "), cells[1]) for cells in table("| Word | Meaning |")]
-    return [Word(name, operand, meaning) for name, _, operand, meaning in rows]
+    found = []
+    for head, meaning in table("| Word | Meaning |"):
+        name, _, operand = head.strip("`").partition(" ")
+        found.append(Word(name, operand, meaning))
+    return found
 
 
 def options():

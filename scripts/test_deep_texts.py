@@ -1,10 +1,12 @@
 """That the deepest and the widest texts need no more than the stack that a program has by default.
 
-    python3 scripts/test_deep_texts.py [--program PATH] [--plant PATH]
+    python3 scripts/test_deep_texts.py [--program PATH] [--plant PATH] [--quick]
 
 Each call has 8 MB of stack, whatever the shell allows. What is to come of a row follows from the
 documents. The program is the one that `rt ci` leaves in the checkout, where no option names
-another, and without it nothing is tried. The options are those of check_docs.py.
+another, and without it nothing is tried. The options are those of check_docs.py. With --quick the
+program may be one without a proof, whose checks need time and stack: then constructs in one another
+are tried, and nothing that is larger.
 """
 
 import os
@@ -17,7 +19,7 @@ import calls
 import check_docs
 from large_texts import DECLARED, MIB, NODE, NUMBERS, end_of, names, nested
 
-PROGRAM = check_docs.programs([])[0]
+GIVEN = check_docs.given([])
 STACK = 8 * MIB
 
 ONE = ("run", "-l", "1")
@@ -270,11 +272,15 @@ COMMENTS = {
 }
 
 
+# The test that a program without a proof ends soon.
+QUICK = "test_constructs_in_one_another"
+
+
 class Deep(unittest.TestCase):
     @classmethod
     def setUpClass(cls):
-        if not os.access(PROGRAM, os.X_OK):
-            raise unittest.SkipTest(f"{PROGRAM} is not there")
+        if not os.access(GIVEN.program, os.X_OK):
+            raise unittest.SkipTest(f"{GIVEN.program} is not there")
         cls.limits = resource.getrlimit(resource.RLIMIT_STACK)
         resource.setrlimit(resource.RLIMIT_STACK, (STACK, cls.limits[1]))
 
@@ -282,10 +288,14 @@ class Deep(unittest.TestCase):
     def tearDownClass(cls):
         resource.setrlimit(resource.RLIMIT_STACK, cls.limits)
 
+    def setUp(self):
+        if GIVEN.quick and self._testMethodName != QUICK:
+            self.skipTest("it takes too long without a proof")
+
     def check(self, name, text, end, words=ONE):
         with self.subTest(name, end=end, words=words):
             made = text.encode("latin-1")
-            found = calls.outcome(PROGRAM, made, *words, seconds=calls.PATIENCE)
+            found = calls.outcome(GIVEN.program, made, *words, seconds=calls.PATIENCE)
             self.assertEqual(end_of(found), end)
 
     def check_chains(self, chains):
@@ -383,5 +393,5 @@ class Deep(unittest.TestCase):
 
 
 if __name__ == "__main__":
-    PROGRAM = check_docs.programs(sys.argv[1:])[0]
+    GIVEN = check_docs.given(sys.argv[1:])
     unittest.main(argv=["test_deep_texts.py", "--quiet"])

@@ -1,11 +1,12 @@
 """That calls end as docs/COMMAND.md has it where what is outside really fails.
 
-    python3 scripts/test_faults.py [--program PATH] [--plant PATH]
+    python3 scripts/test_faults.py [--program PATH] [--plant PATH] [--quick]
 
 Folders stand for files, programs die, pipes are closed, devices are full. No test depends on how
 fast something is: where the order of two processes counts, one of them waits for the other. The
 program is the one that `rt ci` leaves in the checkout, where no option names another, and without
-it nothing is tried. The options are those of check_docs.py.
+it nothing is tried. The options are those of check_docs.py. With --quick what takes a program
+without a proof too long is left out.
 """
 
 import os
@@ -22,7 +23,7 @@ from collections import namedtuple
 
 import check_docs
 
-PROGRAM = check_docs.programs([])[0]
+GIVEN = check_docs.given([])
 SECONDS = 60
 
 # -- Sides -----------------------------------------------------------------------------------------
@@ -139,8 +140,8 @@ class Fault(unittest.TestCase):
     """Tests of which each has a folder, where the program is called."""
 
     def setUp(self):
-        if not os.access(PROGRAM, os.X_OK):
-            self.skipTest(f"{PROGRAM} is not there")
+        if not os.access(GIVEN.program, os.X_OK):
+            self.skipTest(f"{GIVEN.program} is not there")
         self.room = tempfile.mkdtemp(prefix="faults-")
         self.addCleanup(shutil.rmtree, self.room)
         os.chmod(self.room, 0o755)
@@ -177,7 +178,7 @@ class Fault(unittest.TestCase):
     def begin(self, words, how):
         """Calls the program. Its standard error and output are pipes, unless `how` has others."""
         given = {"stdin": subprocess.DEVNULL, "stdout": subprocess.PIPE, "stderr": subprocess.PIPE}
-        given.update(cwd=self.room, start_new_session=True, executable=PROGRAM)
+        given.update(cwd=self.room, start_new_session=True, executable=GIVEN.program)
         call = subprocess.Popen(["lurette", *words], **{**given, **how})
         self.addCleanup(give_up, call)
         return call
@@ -243,7 +244,7 @@ class Files(Fault):
         """How the program is called by one who may not read everything."""
         if os.access(self.path("f"), os.R_OK):
             how = {"preexec_fn": become_nobody, "executable": self.path("program")}
-            shutil.copy(PROGRAM, how["executable"])
+            shutil.copy(GIVEN.program, how["executable"])
             os.chmod(how["executable"], 0o755)
             try:
                 self.call(**how)
@@ -255,6 +256,8 @@ class Files(Fault):
     def test_a_file_without_end(self):
         if not os.path.exists("/dev/zero"):
             self.skipTest("no file without end is known")
+        if GIVEN.quick:
+            self.skipTest("it reads 64 MiB")
         self.check_each("/dev/zero", 3, "refused file.TooLong")
 
     def test_a_file_without_bytes(self):
@@ -506,6 +509,8 @@ class Sides(Fault):
                 self.assertTrue(found.output.endswith(f"{role.replied}\n#end {end}\n"))
 
     def test_a_side_that_takes_its_lines_late(self):
+        if GIVEN.quick:
+            self.skipTest("it makes 30,000 steps")
         # They are more than a pipe has room for, and its answers are fewer than 65,536 bytes.
         for role in ROLES:
             with self.subTest(role.who):
@@ -739,5 +744,5 @@ def grow_to(most):
 
 
 if __name__ == "__main__":
-    PROGRAM = check_docs.programs(sys.argv[1:])[0]
+    GIVEN = check_docs.given(sys.argv[1:])
     unittest.main(argv=["test_faults.py", "--quiet"])

@@ -1,12 +1,15 @@
 """That each limit of docs/LIMITS.md stands where it has it: at its value, and one past it.
 
-    python3 scripts/test_limits.py [--program PATH] [--plant PATH]
+    python3 scripts/test_limits.py [--program PATH] [--plant PATH] [--quick]
 
 The program is the one that `rt ci` leaves in the checkout, where no option names another, and
 without it nothing is tried. The options are those of check_docs.py. What is to come of a row
 follows from the documents. Where tests of crates show a limit in each of its kinds, it has few rows
 here: the document names those tests, and that they are there is tested too. The memory that each
 refused text takes is measured, and it is printed which one comes nearest to what it may take.
+
+With --quick the program may be one without a proof. It has checks, so that it takes minutes for the
+largest texts, and more memory: these rows are left out, and memory isn't measured.
 """
 
 import glob
@@ -21,7 +24,7 @@ import calls
 import check_docs
 from large_texts import MIB, NODE, doubled, end_of, names, padded
 
-PROGRAM = check_docs.programs([])[0]
+GIVEN = check_docs.given([])
 DOCUMENT = os.path.join(calls.TOP, "docs", "LIMITS.md")
 
 # A text, how its call ends, and the words of that call. The replies are those of an earlier trace.
@@ -296,6 +299,24 @@ LIMITS = {
 }
 
 
+# Limits that are reached only after much work.
+FAR = ("terms and expressions", "depth of terms", "depth of an expression")
+
+
+def is_tried(name, row):
+    """Whether a row of a limit is tried."""
+    is_far = name in FAR or len(row.text) > 100_000 or "1000000" in row.words
+    return not (GIVEN.quick and is_far)
+
+
+def rows_to_try():
+    """The rows that are tried, each with the name of its limit and its number there."""
+    for name, rows in LIMITS.items():
+        for number, row in enumerate(rows):
+            if is_tried(name, row):
+                yield name, number, row
+
+
 def memory_for(text):
     """How many bytes of memory a call may take that refuses a text."""
     return 8_000_000 + 64 * len(text)
@@ -303,8 +324,8 @@ def memory_for(text):
 
 class Limits(unittest.TestCase):
     def setUp(self):
-        if not os.access(PROGRAM, os.X_OK):
-            self.skipTest(f"{PROGRAM} is not there")
+        if not os.access(GIVEN.program, os.X_OK):
+            self.skipTest(f"{GIVEN.program} is not there")
 
     def check(self, row):
         with tempfile.NamedTemporaryFile(prefix="lurette-") as replies:
@@ -313,43 +334,45 @@ class Limits(unittest.TestCase):
                 replies.write(row.replies)
                 replies.flush()
                 words = (*words, "--replay", replies.name)
-            found = calls.outcome(PROGRAM, row.text.encode(), *words, seconds=calls.PATIENCE)
+            found = calls.outcome(GIVEN.program, row.text.encode(), *words, seconds=calls.PATIENCE)
         self.assertEqual(end_of(found), row.end)
 
     def test_each_limit_at_its_value_and_past_it(self):
-        for name, rows in LIMITS.items():
-            for number, row in enumerate(rows):
-                with self.subTest(name, number=number, text=row.text[:60], words=row.words):
-                    self.check(row)
+        for name, number, row in rows_to_try():
+            with self.subTest(name, number=number, text=row.text[:60], words=row.words):
+                self.check(row)
 
     def test_memory_of_refused_texts(self):
+        if GIVEN.quick:
+            self.skipTest("a program without a proof takes more memory")
         shares = []
-        for name, rows in LIMITS.items():
-            for number, row in enumerate(rows):
-                if not row.end.startswith("3 "):
-                    continue
-                with self.subTest(name, number=number, text=row.text[:60], words=row.words):
-                    taken = calls.memory_of(PROGRAM, row.text.encode(), *row.words)
-                    most = memory_for(row.text)
-                    shares.append((taken / most, f"{taken:,} of {most:,} bytes ({name})"))
-                    self.assertLessEqual(taken, most)
+        for name, number, row in rows_to_try():
+            if not row.end.startswith("3 "):
+                continue
+            with self.subTest(name, number=number, text=row.text[:60], words=row.words):
+                taken = calls.memory_of(GIVEN.program, row.text.encode(), *row.words)
+                most = memory_for(row.text)
+                shares.append((taken / most, f"{taken:,} of {most:,} bytes ({name})"))
+                self.assertLessEqual(taken, most)
         print(f"memory of {len(shares)} refused texts, the nearest to its limit: {max(shares)[1]}")
 
     def test_the_number_of_a_large_run(self):
         # It stands in the place of a file.
         for word, status in (("0", 0), ("999999", 0), ("1000000", 2), ("-1", 2)):
             with self.subTest(word):
-                found = calls.outcome_of(PROGRAM, "stress", word, seconds=calls.PATIENCE)
+                found = calls.outcome_of(GIVEN.program, "stress", word, seconds=calls.PATIENCE)
                 self.assertEqual(found.status, status)
 
     def test_bytes_of_an_earlier_trace(self):
+        if GIVEN.quick:
+            self.skipTest("it reads 64 MiB")
         # Its end isn't read over: the file has one reply, and zeros after it.
         for length, end in ((64 * MIB, "0 limit 1"), (64 * MIB + 1, "3 refused file.TooLong")):
             with self.subTest(length), tempfile.NamedTemporaryFile(prefix="lurette-") as replies:
                 replies.write(b"1 #outs 5\n")
                 replies.truncate(length)
                 words = one_step("--replay", replies.name)
-                found = calls.outcome(PROGRAM, ECHO.encode(), *words, seconds=calls.PATIENCE)
+                found = calls.outcome(GIVEN.program, ECHO.encode(), *words, seconds=calls.PATIENCE)
                 self.assertEqual(end_of(found), end)
 
 
@@ -383,5 +406,5 @@ def has_test(path, name):
 
 
 if __name__ == "__main__":
-    PROGRAM = check_docs.programs(sys.argv[1:])[0]
+    GIVEN = check_docs.given(sys.argv[1:])
     unittest.main(argv=["test_limits.py", "--quiet"])

@@ -59,7 +59,8 @@ class Program(unittest.TestCase):
         line = "lurette MODE FILE " + " ".join(
             f"[{it.name}{' ' + it.operand if it.operand else ''}]" for it in manual.options()
         )
-        self.assertIn(sorted(line.split()), [sorted(it.split()) for it in manual.page().splitlines()])
+        shown = [sorted(it.split()) for it in manual.page().splitlines()]
+        self.assertIn(sorted(line.split()), shown)
 
 
 class Page(unittest.TestCase):

@@ -75,7 +75,8 @@ side.stdout.read(1)
                 found.append(watch.line())
             run.kill()
         self.assertEqual(found[:3], [None] * 3)
-        self.assertRegex(found[3], r"^lurette: waiting for the controller since \d\d:\d\d:\d\d: .*flush")
+        wanted = r"^lurette: waiting for the controller since \d\d:\d\d:\d\d: .*flush"
+        self.assertRegex(found[3], wanted)
 
     def test_a_process_that_is_gone_waits_for_nobody(self):
         self.assertIsNone(waiting.side_read(0))

@@ -165,12 +165,10 @@ class Starting(Repository):
         self.assertEqual(self.call("run", "f")[:2], (0, "unproved run f\n"))
 
     def test_help_and_version_need_no_program(self):
+        text = check_docs.read("scripts/lurette.help")
         for words in (["--help"], ["-h"]):
-            status, output, said = self.call(*words, PATH="/usr/bin:/bin")
-            self.assertEqual((status, output, said), (0, check_docs.read("scripts/lurette.help"), []))
-        status, output, said = self.call(PATH="/usr/bin:/bin")
-        self.assertEqual((status, output), (2, ""))
-        self.assertEqual("\n".join(said) + "\n", check_docs.read("scripts/lurette.help"))
+            self.assertEqual(self.call(*words, PATH="/usr/bin:/bin"), (0, text, []))
+        self.assertEqual(self.call(PATH="/usr/bin:/bin"), (2, "", text.splitlines()))
         version = check_docs.read("VERSION").strip()
         _, output, _ = self.call("--version")
         self.assertEqual(output, f"lurette {version}, not proved; kit-0 logic 0\n")
