@@ -58,21 +58,21 @@ text_sum() (
         LC_ALL=C sort | cksum
 )
 
-# Whether a program, with its stamp, is of the text that has this sum.
-is_of() {
-    [ -x "$1" ] && [ "$(cat "$2" 2>/dev/null)" = "$3 $(cksum <"$1")" ]
+# Whether a program, with its stamp, is there and of the text that stands here now.
+is_of_text() {
+    [ -x "$1" ] && [ "$(cat "$2" 2>/dev/null)" = "$(text_sum) $(cksum <"$1")" ]
 }
 
 is_proved() {
     if is_packed; then
         [ -e "$packed.proved" ]
     else
-        is_of "$proved" "$proved.proved" "$(text_sum)"
+        is_of_text "$proved" "$proved.proved"
     fi
 }
 
 is_built() {
-    is_of "$unproved" "$unproved.unproved" "$(text_sum)"
+    is_of_text "$unproved" "$unproved.unproved"
 }
 
 # Has a script build a program of the text as it stands now.
@@ -82,7 +82,10 @@ build() {
     text=$(text_sum)
     python3 "$top/scripts/$script" "$name" "$program" || exit 125
     echo "$text $(cksum <"$program")" >"$stamp"
-    is_of "$program" "$stamp" "$(text_sum)" || fail "the text changed meanwhile; start again"
+    is_of_text "$program" "$stamp" || {
+        rm -f "$program" "$stamp"
+        fail "the text changed meanwhile; start again"
+    }
 }
 
 # Builds by two functions: the first one says whether there is a program, and the second one makes
