@@ -215,14 +215,9 @@ def given(words):
     return found
 
 
-def programs(words):
-    """The paths of the programs `lurette` and `lt_plant` that words of the command line name."""
-    found = given(words)
-    return found.program, found.plant
-
-
 def main(words):
-    program, plant = programs(words)
+    named = given(words)
+    program, plant = named.program, named.plant
     for path in (program, plant):
         if not os.access(path, os.X_OK):
             print(f"check_docs: {path} is not there, so no command can be run", file=sys.stderr)

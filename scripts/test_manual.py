@@ -1,10 +1,24 @@
-"""That the text of help says what COMMAND's tables say, and what the program takes."""
+"""That the text of help says what COMMAND's tables say, and what the program takes.
 
+    python3 scripts/test_manual.py [--program PATH] [--plant PATH] [--quick]
+
+The options are those of check_docs.py. Where no program is there, it isn't called.
+"""
+
+import os
 import re
+import sys
 import unittest
 
 import call_words
+import calls
+import check_docs
 import manual
+
+GIVEN = check_docs.given([])
+
+# A run in which each option with a default makes a difference.
+SCENARIO = b"node n() returns (x: real [0.0; 9.0]; y: int [0; 9]) = loop x > 0.005"
 
 
 def said_of(option):
@@ -15,18 +29,19 @@ def said_of(option):
     return default, ends and tuple(it for it in ends.groups() if it)
 
 
-class Help(unittest.TestCase):
-    def lines(self):
-        """What the text says of each option: its word, its default and the ends of its numbers."""
-        for line in manual.part("Options of run"):
-            name, operand = re.match(r"  (\S+)( [A-Z]+)?", line).groups()
-            ends = re.search(r"(\d+) \.\. (\d+)$", line)
-            default = re.search(r"  +(\d+)  +\d+ \.\. ", line)
-            yield name, (operand or "").strip(), default and default[1], ends and ends.groups()
+def lines_of_help():
+    """What the text of help says of each option: its words, its default, the ends of its numbers."""
+    for line in manual.part("Options of run"):
+        name, operand = re.match(r"  (\S+)( [A-Z]+)?", line).groups()
+        ends = re.search(r"(\d+) \.\. (\d+)$", line)
+        default = re.search(r"  +(\d+)  +\d+ \.\. ", line)
+        yield name, (operand or "").strip(), default and default[1], ends and ends.groups()
 
+
+class Help(unittest.TestCase):
     def test_options_are_those_of_the_table(self):
         wanted = {(it.name, it.operand, *said_of(it)) for it in manual.options()}
-        self.assertEqual(set(self.lines()), wanted)
+        self.assertEqual(set(lines_of_help()), wanted)
         self.assertEqual(len(wanted), 10)
 
     def test_modes_are_those_of_the_table(self):
@@ -53,14 +68,35 @@ class Help(unittest.TestCase):
 
 
 class Program(unittest.TestCase):
-    """That the table has the options that the program's own line has, which documents show."""
+    def setUp(self):
+        if not os.access(GIVEN.program, os.X_OK):
+            self.skipTest(f"{GIVEN.program} is not there")
 
-    def test_the_second_line_of_a_fault_has_them(self):
-        line = "lurette MODE FILE " + " ".join(
-            f"[{it.name}{' ' + it.operand if it.operand else ''}]" for it in manual.options()
-        )
-        shown = [sorted(it.split()) for it in manual.page().splitlines()]
-        self.assertIn(sorted(line.split()), shown)
+    def outcome(self, *words):
+        return calls.outcome(GIVEN.program, SCENARIO, "run", *words, seconds=calls.PATIENCE)
+
+    def test_its_own_line_has_these_options(self):
+        shown = calls.outcome_of(GIVEN.program, seconds=calls.PATIENCE).errors.decode().splitlines()
+        wanted = [f"{name} {operand}".strip() for name, operand, *_ in lines_of_help()]
+        self.assertEqual(sorted(re.findall(r"\[(.*?)\]", shown[1])), sorted(wanted))
+
+    def test_a_default_is_what_it_does_without_the_option(self):
+        usual = self.outcome()
+        self.assertEqual(usual.status, 0)
+        tried = [(name, default) for name, _, default, _ in lines_of_help() if default]
+        self.assertEqual(len(tried), 5)
+        for name, default in tried:
+            found = self.outcome(f"{name}={default}")
+            self.assertEqual((found.status, found.output), (0, usual.output), name)
+
+    def test_the_ends_of_numbers_are_taken_and_no_more(self):
+        for name, _, _, ends in lines_of_help():
+            for number, status in ((int(ends[1]) + 1, 2), (int(ends[0]) - 1, 2)) if ends else ():
+                self.assertEqual(self.outcome(f"{name}={number}").status, status, name)
+            for number in ends or ():
+                words = [] if name == "-l" else ["-l", "0"]
+                if (name, number) != ("-l", "1000000"):
+                    self.assertEqual(self.outcome(*words, f"{name}={number}").status, 0, name)
 
 
 class Page(unittest.TestCase):
@@ -72,4 +108,5 @@ class Page(unittest.TestCase):
 
 
 if __name__ == "__main__":
-    unittest.main()
+    GIVEN = check_docs.given(sys.argv[1:])
+    unittest.main(argv=["test_manual.py", "--quiet"])
