@@ -11,7 +11,7 @@ from test_start import TOP, write
 
 PATH = os.path.join(TOP, "scripts", "gate_minutes")
 
-# What stands for the kit's command, and for its prover, which is busy for a second.
+# What stands for the kit's command, and for its prover, which is busy for a while.
 RT = """#!/bin/sh
 echo "rt: $*"
 rattle build --crate-name low src/lib.rt & rattle build --crate-name low --test src/lib.rt
@@ -20,7 +20,7 @@ exit 3
 """
 RATTLE = """#!/usr/bin/env python3
 import time
-while time.process_time() < 1:
+while time.process_time() < 1.5:
     pass
 """
 
