@@ -124,7 +124,9 @@ find_program() {
         program=$unproved
     fi
     [ -e "$program.unproved" ] || return 0
-    say "not proved: ./$name --prove proves it, in $takes"
+    way="./$name --prove proves it, in $takes"
+    ! is_packed || way='it was built without a proof'
+    say "not proved: $way"
     # With its checks it needs several times the stack on deep texts.
     ulimit -s unlimited 2>/dev/null || ulimit -s "$(ulimit -H -s)" 2>/dev/null || :
 }
@@ -160,7 +162,7 @@ answer_at_once() {
 # Runs the program on the words given, behind those of the script's own.
 start() {
     explains='' is_unproved='' was_proved=''
-    [ -t 2 ] && [ "$name" = lurette ] && command -v python3 >/dev/null && explains=yes
+    [ -t 2 ] && command -v python3 >/dev/null && explains=yes
     while :; do
         case ${1-} in
             --explain) explains=yes ;;
@@ -173,6 +175,8 @@ start() {
         esac
         shift
     done
+    # What a line means is known of this program alone.
+    [ "$name" = lurette ] || explains=''
     [ -z "$was_proved" ] || [ $# -gt 0 ] || exit 0
     answer_at_once "$@"
     find_program "$is_unproved"

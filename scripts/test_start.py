@@ -122,6 +122,8 @@ class Starting(Repository):
         self.assertEqual((status, output, again), (0, "unproved print g\n", said[1:]))
         self.assertEqual(self.calls_of_rt(), ["try"])
         self.assertEqual(self.call("gate", name="lt_plant")[:2], (0, "unproved gate\n"))
+        found = self.call("--explain", "gate", name="lt_plant")
+        self.assertEqual(found[:2], (0, "unproved gate\n"))
 
     def test_it_needs_no_kit_once_it_is_there(self):
         self.assertEqual(self.call("run", "f")[0], 0)

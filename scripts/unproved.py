@@ -59,8 +59,9 @@ def words_of_processes():
 def running_program(room, call):
     """The file of the program that runs this call out of a folder, or None where none runs."""
     for words in words_of_processes():
-        if words[-len(call) :] == call and words[-len(call) - 1].startswith(room + os.sep):
-            return words[-len(call) - 1]
+        before, behind = words[: -len(call)], words[-len(call) :]
+        if behind == call and before and before[-1].startswith(room + os.sep):
+            return before[-1]
     return None
 
 
