@@ -25,6 +25,9 @@ import calls
 
 DOCUMENTS = ("README.md", "docs/LANGUAGE.md", "docs/COMMAND.md", "docs/TRACE.md")
 
+# How long a command is waited for, also on a machine that does much else.
+SECONDS = 600
+
 # A command, with the file and the line where it stands, and the lines that are to come of it; or
 # None in their place, where nothing is printed.
 Shown = namedtuple("Shown", "file line command wanted")
@@ -159,9 +162,9 @@ def outcome(command, room):
     """The status of a command, and the lines that it writes."""
     how = {"stdout": subprocess.PIPE, "stderr": subprocess.STDOUT, "stdin": subprocess.DEVNULL}
     try:
-        run = subprocess.run(["sh", "-c", command], cwd=room, timeout=120, check=False, **how)
+        run = subprocess.run(["sh", "-c", command], cwd=room, timeout=SECONDS, check=False, **how)
     except subprocess.TimeoutExpired:
-        return None, ["(it had not ended after 120 seconds)"]
+        return None, [f"(it had not ended after {SECONDS} seconds)"]
     return run.returncode, run.stdout.decode("utf-8", "replace").splitlines()
 
 
