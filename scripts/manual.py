@@ -17,6 +17,7 @@ MODES = ("run", "print", "stress")
 
 BASH = """_lurette() {
     local word=${COMP_WORDS[COMP_CWORD]} before=${COMP_WORDS[COMP_CWORD - 1]}
+    COMPREPLY=()
     case $before in
         PLAIN) return ;;
         COMMANDS) COMPREPLY=($(compgen -c -- "$word")); return ;;
