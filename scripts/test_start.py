@@ -1,4 +1,4 @@
-"""That the scripts that start the program read its words, and tell how far a proof is."""
+"""That the scripts at the top build a program once and run it, and tell how far a proof is."""
 
 import io
 import os
