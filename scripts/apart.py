@@ -252,7 +252,7 @@ Draws = namedtuple("Draws", "seed rule", defaults=(0, 1))
 
 
 class Stopped(Exception):
-    """That a run ends at a leaf, by a fault or since a search is over the budget: how it ends."""
+    """That a run ends at a leaf, by a fault: how it ends."""
 
 
 class Instance:

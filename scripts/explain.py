@@ -9,6 +9,7 @@ the program waits long for a controller or an oracle.
 """
 
 import os
+import re
 import signal
 import subprocess
 import sys
@@ -82,7 +83,7 @@ ENDS = {
     "deadlock": "No values do for this instant. Look at what its constraints and ranges leave.",
     "raise": "The scenario raised this exception, and no `catch` is for it.",
     "ended": "It closed its output, or ended, where an answer was due.",
-    "budget": "The search would be over the budget: give the numbers of its equations smaller ranges.",
+    "budget": "The search for these values was given up: whether there are any isn't known.",
     "memory": "Memory ran out.",
     "toolarge": "This instant offers more than 65,536 alternatives.",
 }
@@ -95,6 +96,17 @@ TABLES = {
     "malformed": REPLIES,
     "device": DEVICES,
 }
+
+# The greatest budget that a call may have, and how many lines of hard constraints are shown.
+MOST_BUDGET, MOST_LINES = 10**12, 3
+
+# What is no part of a scenario's text, and what stands between the parts that are looked at one by
+# one; a comparison, and a name whose value isn't that of the instant before.
+COMMENT = re.compile(r"--[^\n]*|\(\*.*?\*\)", re.S)
+BETWEEN = re.compile(r"&>|\|>|=>|[;:|{}]|\b(?:and|or|xor|fby|in|do|then|else)\b")
+COMPARES = re.compile(r"<>|<=|>=|[<>=]")
+NAMES = re.compile(r"(?<!\bpre )\b[A-Za-z_]\w*")
+WORDS = "assert bool div else exist if int let loop mod node not pre real ref returns then trace"
 
 
 def sentence(line):
@@ -136,11 +148,55 @@ def caret_below(line, column):
     return "".join("\t" if it == "\t" else " " for it in line[: column - 1].ljust(column - 1)) + "^"
 
 
+def joins_numbers(part):
+    """Whether a part of a text compares something of at least two names."""
+    names = set(NAMES.findall(part)) - set(WORDS.split())
+    return COMPARES.search(part) is not None and len(names) > 1
+
+
+def hard_lines(text, node):
+    """The lines, with their numbers from 1, in which a node compares something of several names."""
+    bare = COMMENT.sub(lambda it: "\n" * it[0].count("\n"), text)
+    starts = [it for it in re.finditer(r"\bnode\s+(\w+)", bare) if node in (None, it[1])]
+    if not starts:
+        return []
+    others = re.compile(r"\bnode\b").search(bare, starts[0].end())
+    body = bare[starts[0].start() : others.start() if others else len(bare)]
+    first, lines = bare[: starts[0].start()].count("\n"), text.split("\n")
+    return [
+        (number, lines[number - 1].rstrip("\r"))
+        for number, line in enumerate(body.split("\n"), first + 1)
+        if any(map(joins_numbers, BETWEEN.split(line)))
+    ]
+
+
+def help_of_search(line, words):
+    """What helps where a search was given up, and the lines that may have made it hard."""
+    need = line.split()[1]
+    raised = f"; or --budget {need}" if int(need) <= MOST_BUDGET else ""
+    helps = f"What helps: fewer constraints at once, or smaller ranges of their numbers{raised}."
+    name = call_words.text_of(words, "file")
+    try:
+        with open(name or "", encoding="utf-8", errors="replace", newline="") as file:
+            found = hard_lines(file.read(), call_words.text_of(words, "--node"))
+    except OSError:
+        return [helps]
+    if not found:
+        return [helps]
+    shown = [f"{name}:{number}: {text.strip()}" for number, text in found[:MOST_LINES]]
+    more = len(found) - len(shown)
+    rest = [f".. and {more} lines more"] if more > 1 else [".. and a line more"] * more
+    head = "These constraints join several numbers, so they may be the hard ones:"
+    return [helps, head, *shown, *rest]
+
+
 def explanation(line, words):
     """The lines that explain a line of the program."""
     meant, place, name = sentence(line), place_in(line), file_of(line, words)
     if meant is None:
         return []
+    if line.startswith("budget "):
+        return [meant, *help_of_search(line, words)]
     try:
         with open(name or "", "rb") as file:
             text = file.read()

@@ -2,6 +2,8 @@
 
 from collections import namedtuple
 
+from hard_texts import pigeons
+
 # A call: its name, its words, the status that it ends with, the files that it has beside those of
 # all calls, and the words of a call that writes the trace `earlier` before it.
 Call = namedtuple("Call", "name words status files earlier", defaults=({}, None))
@@ -102,7 +104,7 @@ CALLS = (
     on("fault", INT + "i = 1 div 0", 6),
     Call("malformed", ["run", "f", "--sut", "./side got.controller maybe"], 7, {"f": INPUT}),
     Call("ended", ["run", "f", "--replay", "earlier"], 8, {"f": INPUT, "earlier": "t t\nf"}),
-    on("budget", "node n() returns (x, y: int [0; 99]) = x + 2 * y = 9", 10, "run f --budget 1000"),
+    on("budget", pigeons(10, 9), 10),
     on("toolarge", LARGE, 14),
     # The other modes.
     Call("print", ["print", "full"], 0),

@@ -1,7 +1,8 @@
 """Problems for a search: a scenario of apart.py with the words of its call, and what comes of it.
 
 The constraints are expressions of constraints.py. The outcome is worked out apart from lurette, and
-values are found by going through all points in the order from the targets.
+values are found by going through all points in the order from the targets. So these are few, and no
+search is given up: the outcome is the same by each budget.
 """
 
 import functools
@@ -84,21 +85,20 @@ def words_of(problem):
 # -- What comes of a problem -----------------------------------------------------------------------
 
 # The status of a run by the first word of its end.
-STATUSES = {"normal": 0, "limit": 0, "deadlock": 4, "fault": 6, "budget": 10}
+STATUSES = {"normal": 0, "limit": 0, "deadlock": 4, "fault": 6}
 
-DEFAULT_BUDGET = 10_000_000
 MOST_BUDGET = 10**12
 
 
 class Instance(apart.Instance):
-    """An instant whose values are found by going through all points, within a budget.
+    """An instant whose values are found by going through all points.
 
     `looked_at` gets what is looked at, leaf by leaf.
     """
 
-    def __init__(self, decimals, budget, looked_at, *more):
+    def __init__(self, decimals, looked_at, *more):
         super().__init__(*more)
-        self.decimals, self.budget, self.looked_at = decimals, budget, looked_at
+        self.decimals, self.looked_at = decimals, looked_at
 
     def solution(self, leaf):
         setting = constraints.Setting(self.decimals, self.known_of(leaf.entered))
@@ -110,8 +110,6 @@ class Instance(apart.Instance):
         variables = [it for _, it in numbered]
         need = constraints.need_of(formula, variables)
         self.looked_at.append(Looked(formula, variables, need))
-        if need > self.budget:
-            raise apart.Stopped(f"budget {need}")
         orders = [self.order(number, it) for number, it in numbered]
         point = constraints.first_solution(formula, variables, orders)
         return None if point is None else dict(zip((it.name for it in variables), point))
@@ -119,8 +117,7 @@ class Instance(apart.Instance):
 
 def worked_out(problem, looked_at):
     """The outcome of a problem's call, worked out apart from the program."""
-    budget = DEFAULT_BUDGET if problem.budget is None else problem.budget
-    instance = functools.partial(Instance, problem.decimals, budget, looked_at)
+    instance = functools.partial(Instance, problem.decimals, looked_at)
     call = problem.scenario, apart.NOBODY, problem.limit, problem.draws
     steps, end = apart.steps_of(*call, instance)
     shown = problem.draws, problem.decimals, problem.has_locals

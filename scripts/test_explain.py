@@ -102,6 +102,39 @@ class Places(unittest.TestCase):
         self.assertEqual(found, [explain.REPLIES["NotAValue"]])
         self.assertEqual(len(explain.explanation("refused lex.BadByte at 0", ["run", ""])), 1)
 
+    def test_lines_are_shown_that_may_be_hard(self):
+        text = b"""-- x = y, in a comment
+node m() returns (x, y: int) = x <> y
+node n(a: int) returns (x, y: int [0; 9] = 5; b: bool) =
+    loop { x > 3 and b fby x + y = 7 }
+    fby (* x < y
+    *) { | 3: x = pre y | b => 2 * x < a + y }
+node o() returns (x, y: int) = x < y
+"""
+        found = self.explained(text, "budget 1000 2", ["run", "f", "--node", "n"])
+        self.assertEqual(found[0], explain.ENDS["budget"])
+        self.assertTrue(found[1].endswith("; or --budget 1000."))
+        self.assertEqual(
+            found[3:],
+            [
+                "f:4: loop { x > 3 and b fby x + y = 7 }",
+                "f:6: *) { | 3: x = pre y | b => 2 * x < a + y }",
+            ],
+        )
+
+    def test_few_of_many_lines_are_shown(self):
+        rows = "".join(f"    x < y + {it} and\n" for it in range(9))
+        text = f"node n() returns (x, y: int) =\n{rows}    true\n".encode()
+        found = self.explained(text, f"budget {10**12 + 1} 1", ["run", "f"])
+        self.assertNotIn("--budget", found[1])
+        shown = [f"f:{it + 2}: x < y + {it} and" for it in range(3)]
+        self.assertEqual(found[3:], [*shown, ".. and 6 lines more"])
+
+    def test_without_such_a_line_what_helps_stands_alone(self):
+        text = b"node n() returns (b, c: bool) = b and c or not b"
+        for words in (["run", "f"], ["run", "f", "--node", "m"], ["run", "nothing"]):
+            self.assertEqual(len(self.explained(text, "budget 1000 1", words)), 2)
+
 
 class Programs(unittest.TestCase):
     def test_the_last_line_of_the_program_counts(self):

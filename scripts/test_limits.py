@@ -22,6 +22,7 @@ from collections import namedtuple
 
 import calls
 import check_docs
+from hard_texts import pigeons, pigeons_need
 from large_texts import MIB, NODE, doubled, end_of, names, padded
 
 GIVEN = check_docs.given([])
@@ -267,9 +268,10 @@ LIMITS = {
     "decimals": options("--precision"),
     "budget": [
         *options("--budget"),
-        # It needs 180 * 4 * 216.
+        # It needs 180 * 4 * 216, and its search is done within the allowance.
         Row(SUM, ONCE, ("run", "--budget=155520")),
-        Row(SUM, "10 budget 155520 1", ("run", "--budget=155519")),
+        Row(SUM, ONCE, ("run", "--budget=155519")),
+        Row(pigeons(10, 9), f"10 budget {pigeons_need(10)} 1"),
     ],
     "rules of drawing": options("--draw"),
     "bytes of a reply": [

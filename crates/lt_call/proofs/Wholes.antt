@@ -13,7 +13,10 @@ use Rattle.lt_drive.specs.Told as told_streams
 use Rattle.lt_drive.specs.declared.drive_end.DriveEnd.TheVariants as drive_end
 use Rattle.lt_io.specs.Causes.{Rose, WhereTold}
 use Rattle.lt_loop.specs.Play.{Piece, Play, Stop, ends, step_count}
-use Rattle.lt_loop.specs.CoreState.{CoreState}
+use Rattle.lt_loop.specs.CoreState.{CoreState, IsAhead}
+use Rattle.lt_instant.specs.Affordable.{AffordableInstantsAreNotGivenUp}
+use Rattle.lt_loop.specs.GivingUp.{AffordableRunsAreTheSame, PlaysKeepToTheirRules}
+use Rattle.lt_loop.specs.Machine.{GivenUp}
 use Rattle.lt_loop.specs.declared.event.Destination.TheVariants as destination
 use Rattle.lt_rif.specs.declared.end.End.{End}
 use Rattle.lt_rif.specs.declared.end.End.TheVariants as end
@@ -36,8 +39,9 @@ use Rattle.lt_call.specs.Due as cause
 use Rattle.lt_call.specs.Due.{Answer, Contents, IsDue, Work, has_file, refuses, writes, plays, stresses}
 use Rattle.lt_call.specs.Given as given
 use Rattle.lt_call.specs.Given.{Gives, IsDone, PutsNothing, status_of}
-use Rattle.lt_call.specs.Laws.{ContentsHaveOneDueAnswer, IsCutEarly, IsUnbroken, IsUncut, IsWhole, RefusalsAreExact, SameCallSameBytes, SidesTell, Tell, TellsText, TellsTrace, UncutCallsAreWhole, UndisturbedCallsAreUncut}
+use Rattle.lt_call.specs.Laws.{AffordableCallsAreNotGivenUp, AffordableCallsAreWhole, ContentsHaveOneDueAnswer, IsCutEarly, IsUnbroken, IsUncut, IsWhole, RefusalsAreExact, SameCallSameBytes, SidesTell, Tell, TellsText, TellsTrace, UncutCallsAreWhole, UndisturbedCallsAreUncut, WantOfMemoryWritesNothing}
 use Rattle.lt_call.specs.Lines.{status_lines}
+use Rattle.lt_call.proofs.Budgets.{never_given_up, nothing_given_up}
 use Rattle.lt_call.specs.declared.status.Status.{Status}
 use Rattle.lt_call.specs.declared.status.Status.TheVariants as status
 use Rattle.lt_call.specs.declared.status.Refusal.{Refusal}
@@ -77,13 +81,15 @@ unbroken : (e : End) → IsUnbroken e → (w : Who) → e ≢ end.Device w
 unbroken e h w is = let P : End → Type 0 = λ x. IsUnbroken x in absurd (subst P is h)
 
 -- a run that ended by itself
-ended_whole : UndisturbedSessionsAreWhole State → (r : Request) (trace : List ℕ) (c o : List ℕ) (scene : Scene) (k : Continuation) (core : CoreState State) (e : End) (old new : Outside Sources) → IsContinuationOf r scene k →
+ended_whole : UndisturbedSessionsAreWhole State → (r : Request) (trace : List ℕ) (c o : List ℕ) (scene : Scene) (k : Continuation) (core : CoreState State) (e : End) (old new : Outside Sources) (course : IsContinuationOf r scene k) → IsAhead core course.gives_up →
     IsPlayed k (with_contents r.inputs trace) (oracle_of r.oracle) (without_files old) (without_files new) core (session_end.Driven (drive_end.Ended e)) → IsUnbroken e → SidesTell r (record { scenario = []; replay = trace }) old.inputs.programs c o →
     IsWhole r trace c o (plays scene) scene.exceptions old new (status_of (session_end.Driven (drive_end.Ended e)) core.written)
-ended_whole law r trace c o scene k core e old new course is whole tell =
+ended_whole law r trace c o scene k core e old new course ahead is whole tell =
+    let none : course.gives_up ≡ None = nothing_given_up k (with_contents r.inputs trace) (oracle_of r.oracle) (without_files old) (without_files new) core e course.gives_up is ahead whole in
     let l = law k (with_contents r.inputs trace) (oracle_of r.oracle) (without_files old) (without_files new) core e c o is (unbroken e whole) tell.0 tell.1 in
-    let same : k.play (told_streams.closed c) (told_streams.closed o) ≡ run_of r scene (told_streams.closed c) (told_streams.closed o) = course.plays (told_streams.closed c) (told_streams.closed o) in
-    let steps : core.written ≡ step_count (run_of r scene (told_streams.closed c) (told_streams.closed o)).pieces =
+    let same : k.play (told_streams.closed c) (told_streams.closed o) ≡ run_of r scene None (told_streams.closed c) (told_streams.closed o) =
+    course.plays (told_streams.closed c) (told_streams.closed o) ∙ ap (λ (u : Option GivenUp). run_of r scene u (told_streams.closed c) (told_streams.closed o)) none in
+    let steps : core.written ≡ step_count (run_of r scene None (told_streams.closed c) (told_streams.closed o)).pieces =
     (let a = l.2 in let b = course.unwritten in omega arith) ∙ ap (λ (p : Play). step_count p.pieces) same in (
       e,
       sym (ap (λ (p : Play). p.stop) same) ∙ l.0,
@@ -93,13 +99,13 @@ ended_whole law r trace c o scene k core e old new course is whole tell =
       subst (λ (p : Play). AreSent (with_contents r.inputs trace) (oracle_of r.oracle) p.pieces 0 0 old.inputs.programs new.inputs.programs) same l.3,
     )
 
-played_whole : UndisturbedSessionsAreWhole State → (r : Request) (trace : List ℕ) (c o : List ℕ) (scene : Scene) (k : Continuation) (core : CoreState State) (how : SessionEnd) (old new : Outside Sources) → IsContinuationOf r scene k →
+played_whole : UndisturbedSessionsAreWhole State → (r : Request) (trace : List ℕ) (c o : List ℕ) (scene : Scene) (k : Continuation) (core : CoreState State) (how : SessionEnd) (old new : Outside Sources) (course : IsContinuationOf r scene k) → IsAhead core course.gives_up →
     IsPlayed k (with_contents r.inputs trace) (oracle_of r.oracle) (without_files old) (without_files new) core how → IsUncut (status_of how core.written) → SidesTell r (record { scenario = []; replay = trace }) old.inputs.programs c o →
     IsWhole r trace c o (plays scene) scene.exceptions old new (status_of how core.written)
-played_whole law r trace c o scene k core (session_end.Driven (drive_end.Ended e)) old new course is u tell = ended_whole law r trace c o scene k core e old new course is u tell
-played_whole law r trace c o scene k core (session_end.Driven (drive_end.TraceWriteFailed step)) old new course is u tell = absurd u
-played_whole law r trace c o scene k core (session_end.StartFailed w) old new course is u tell = absurd u
-played_whole law r trace c o scene k core session_end.Memory old new course is u tell = absurd u
+played_whole law r trace c o scene k core (session_end.Driven (drive_end.Ended e)) old new course ahead is u tell = ended_whole law r trace c o scene k core e old new course ahead is u tell
+played_whole law r trace c o scene k core (session_end.Driven (drive_end.TraceWriteFailed step)) old new course ahead is u tell = absurd u
+played_whole law r trace c o scene k core (session_end.StartFailed w) old new course ahead is u tell = absurd u
+played_whole law r trace c o scene k core session_end.Memory old new course ahead is u tell = absurd u
 
 -- a text that is kept grows by nothing
 pub kept_appends : (old new : Option (List ℕ)) → Keeps old new → Appends old new []
@@ -113,7 +119,7 @@ done_whole : UndisturbedSessionsAreWhole State → (r : Request) (trace : List �
 done_whole law r trace c o work names old new s (given.refused reason puts) u tell = (refl, refl, puts)
 done_whole law r trace c o work names old new s (given.written text same all) u tell = (refl, refl, all)
 done_whole law r trace c o work names old new s (given.cut text same part) u tell = absurd u
-done_whole law r trace c o work names old new s (given.ran scene k core how course is) u tell = played_whole law r trace c o scene k core how old new course is u tell
+done_whole law r trace c o work names old new s (given.ran scene k core how course ahead is) u tell = played_whole law r trace c o scene k core how old new course ahead is u tell
 done_whole law r trace c o work names old new s (given.told n scene ps run same all) u tell = (ps, run, refl, refl, all, same)
 done_whole law r trace c o work names old new s (given.told_in_part n scene ps run same part) u tell = absurd u
 
@@ -126,6 +132,28 @@ gives_whole law r contents c o answer asked names old new s (given.by_memory k f
 pub uncut_calls_are_whole : ContentsHaveOneDueAnswer → UndisturbedSessionsAreWhole State → UncutCallsAreWhole
 uncut_calls_are_whole due law r contents told names asked old new s c o answer tell gives u sides is =
     gives_whole law r contents c o answer asked names old new s (gives_this due r contents told asked names old new s answer tell gives is) u sides
+
+-- Where the budget affords the searches, no instant is given up, and only want of memory is left.
+pub affordable_calls_are_not_given_up : ContentsHaveOneDueAnswer → PlaysKeepToTheirRules State → AffordableRunsAreTheSame State → AffordableInstantsAreNotGivenUp → UndisturbedSessionsAreWhole State → AffordableCallsAreNotGivenUp
+affordable_calls_are_not_given_up due keep alike law whole r contents told names asked old new s c o answer need at tell gives sides is within =
+    never_given_up keep alike law whole r contents c o answer asked names old new s need at sides (gives_this due r contents told asked names old new s answer tell gives is) within
+
+memory_or_not : (s : Status) → (s ≡ status.Memory) ⊎ (s ≢ status.Memory)
+memory_or_not status.Done = inr (λ e. cc e)
+memory_or_not (status.Ran ending) = inr (λ e. cc e)
+memory_or_not (status.Usage kind) = inr (λ e. cc e)
+memory_or_not (status.Refused reason) = inr (λ e. cc e)
+memory_or_not (status.Device what at) = inr (λ e. cc e)
+memory_or_not status.Memory = inl refl
+
+pub affordable_calls_are_whole : AffordableCallsAreNotGivenUp → UndisturbedCallsAreUncut → UncutCallsAreWhole → WantOfMemoryWritesNothing → AffordableCallsAreWhole
+affordable_calls_are_whole spared uncut whole want r contents told names asked old new s c o answer tell gives sides is within counts calm = by_memory (memory_or_not s)
+  where
+    by_memory : (s ≡ status.Memory) ⊎ (s ≢ status.Memory) → IsWhole r contents.replay c o answer.work names old new s ⊎ ((s ≡ status.Memory) × Keeps old.trace.written new.trace.written)
+    by_memory (inl e) = inr (e, want r told names asked old new (subst (λ (t : Status). GivesDue r told asked old new names t) e gives))
+    by_memory (inr lasts) =
+        let never : (need at : ℕ) → s ≢ status.Ran (record { end = end.Budget need; at = at }) = λ need at. spared r contents told names asked old new s c o answer need at tell gives sides is within in
+        inl (whole r contents told names asked old new s c o answer tell gives (uncut s old new counts calm lasts never) sides is)
 
 -- Two calls.
 
@@ -143,7 +171,7 @@ appends_all (Some xs) (Some ys) before now text e f h = let a : xs ≡ before = 
 abbrev bytes_of : (r : Request) (trace c o : List ℕ) (work : Work) (names : List (List ℕ)) (old new : Outside Sources) (s : Status) → IsWhole r trace c o work names old new s → List ℕ
 bytes_of r trace c o (refuses reason) names old new s h = []
 bytes_of r trace c o (writes text) names old new s h = text
-bytes_of r trace c o (plays scene) names old new s h = text_to destination.Trace (run_of r scene (told_streams.closed c) (told_streams.closed o)).pieces
+bytes_of r trace c o (plays scene) names old new s h = text_to destination.Trace (run_of r scene None (told_streams.closed c) (told_streams.closed o)).pieces
 bytes_of r trace c o (stresses n scene) names old new s h = stress_line n (sum_told h.0)
 
 whole_bytes : (r : Request) (trace c o : List ℕ) (work : Work) (names : List (List ℕ)) (old new : Outside Sources) (s : Status) (before now : List ℕ) → old.trace.written ≡ Some before → new.trace.written ≡ Some now → (h : IsWhole r trace c o work names old new s) → now ≡ before ++ bytes_of r trace c o work names old new s h
@@ -185,8 +213,8 @@ same_status : (r : Request) (trace c o : List ℕ) (work : Work) (names names' :
 same_status r trace c o (refuses reason) names names' old new old' new' s s' one h k = (h.0 ∙ sym k.0, h.1 ∙ sym k.1)
 same_status r trace c o (writes text) names names' old new old' new' s s' one h k = (h.0 ∙ sym k.0, h.1 ∙ sym k.1)
 same_status r trace c o (plays scene) names names' old new old' new' s s' one h k =
-    let steps = step_count (run_of r scene (told_streams.closed c) (told_streams.closed o)).pieces in
-    let e : h.0 ≡ k.0 = same_end (run_of r scene (told_streams.closed c) (told_streams.closed o)).stop h.0 k.0 h.1 k.1 in
+    let steps = step_count (run_of r scene None (told_streams.closed c) (told_streams.closed o)).pieces in
+    let e : h.0 ≡ k.0 = same_end (run_of r scene None (told_streams.closed c) (told_streams.closed o)).stop h.0 k.0 h.1 k.1 in
     (h.2 ∙ ap (λ x. status.Ran (record { end = x; at = end_number x steps })) e ∙ sym k.2, h.3 ∙ sym k.3)
 same_status r trace c o (stresses n scene) names names' old new old' new' s s' one h k =
     (h.2 ∙ sym k.2, h.3 ∙ sym k.3)
@@ -214,7 +242,7 @@ refusal_done : (r : Request) (trace : List ℕ) (work : Work) (reason : Refusal)
 refusal_done r trace work reason names old new s e (given.refused other puts) = (puts, let same : other ≡ reason = cc in ap (λ x. status.Refused x) same)
 refusal_done r trace work reason names old new s e (given.written text same all) = absurd (cc)
 refusal_done r trace work reason names old new s e (given.cut text same part) = absurd (cc)
-refusal_done r trace work reason names old new s e (given.ran scene k core how course is) = absurd (cc)
+refusal_done r trace work reason names old new s e (given.ran scene k core how course ahead is) = absurd (cc)
 refusal_done r trace work reason names old new s e (given.told n scene ps run same all) = absurd (cc)
 refusal_done r trace work reason names old new s e (given.told_in_part n scene ps run same part) = absurd (cc)
 
@@ -238,25 +266,26 @@ no_side : (w : Who) (at before now : ℕ) → (Rose before now → ⊥) → IsCo
 no_side who.Controller at before now none counts = none counts
 no_side who.Oracle at before now none counts = none counts
 
-calm_end : (e : End) (at : ℕ) (old new : Outside Sources) → ((what : Device) → IsCounted what (blames (status.Ran (record { end = e; at = at })) what) (faults_of what old) (faults_of what new)) → ((what : Device) → Rose (faults_of what old) (faults_of what new) → ⊥) → IsUnbroken e
-calm_end (end.Device w) at old new counts none = no_side w at old.inputs.programs.faults new.inputs.programs.faults (none (device.Program w)) (counts (device.Program w))
-calm_end end.Normal at old new counts none = tt
-calm_end end.Limit at old new counts none = tt
-calm_end end.Oracle at old new counts none = tt
-calm_end end.Deadlock at old new counts none = tt
-calm_end (end.Raise x) at old new counts none = tt
-calm_end (end.Fault f) at old new counts none = tt
-calm_end end.TooLarge at old new counts none = tt
-calm_end (end.Malformed v f place) at old new counts none = tt
-calm_end (end.Ended v n) at old new counts none = tt
-calm_end (end.Budget n) at old new counts none = tt
+calm_end : (e : End) (at : ℕ) (old new : Outside Sources) → ((what : Device) → IsCounted what (blames (status.Ran (record { end = e; at = at })) what) (faults_of what old) (faults_of what new)) → ((what : Device) → Rose (faults_of what old) (faults_of what new) → ⊥) →
+    ((need n : ℕ) → status.Ran (record { end = e; at = at }) ≢ status.Ran (record { end = end.Budget need; at = n })) → IsUnbroken e
+calm_end (end.Device w) at old new counts none spared = no_side w at old.inputs.programs.faults new.inputs.programs.faults (none (device.Program w)) (counts (device.Program w))
+calm_end end.Normal at old new counts none spared = tt
+calm_end end.Limit at old new counts none spared = tt
+calm_end end.Oracle at old new counts none spared = tt
+calm_end end.Deadlock at old new counts none spared = tt
+calm_end (end.Raise x) at old new counts none spared = tt
+calm_end (end.Fault f) at old new counts none spared = tt
+calm_end end.TooLarge at old new counts none spared = tt
+calm_end (end.Malformed v f place) at old new counts none spared = tt
+calm_end (end.Ended v n) at old new counts none spared = tt
+calm_end (end.Budget n) at old new counts none spared = absurd (spared n at refl)
 
 pub undisturbed_calls_are_uncut : UndisturbedCallsAreUncut
-undisturbed_calls_are_uncut status.Done old new counts none lasts = tt
-undisturbed_calls_are_uncut (status.Ran ending) old new counts none lasts = calm_end ending.end ending.at old new counts none
-undisturbed_calls_are_uncut (status.Usage kind) old new counts none lasts = tt
-undisturbed_calls_are_uncut (status.Refused reason) old new counts none lasts = tt
-undisturbed_calls_are_uncut (status.Device device.File at) old new counts none lasts = none device.File (counts device.File)
-undisturbed_calls_are_uncut (status.Device (device.Program w) at) old new counts none lasts = no_program w old.inputs.programs.faults new.inputs.programs.faults (none (device.Program w)) (counts (device.Program w))
-undisturbed_calls_are_uncut (status.Device device.Trace at) old new counts none lasts = none device.Trace (counts device.Trace)
-undisturbed_calls_are_uncut status.Memory old new counts none lasts = lasts refl
+undisturbed_calls_are_uncut status.Done old new counts none lasts spared = tt
+undisturbed_calls_are_uncut (status.Ran ending) old new counts none lasts spared = calm_end ending.end ending.at old new counts none spared
+undisturbed_calls_are_uncut (status.Usage kind) old new counts none lasts spared = tt
+undisturbed_calls_are_uncut (status.Refused reason) old new counts none lasts spared = tt
+undisturbed_calls_are_uncut (status.Device device.File at) old new counts none lasts spared = none device.File (counts device.File)
+undisturbed_calls_are_uncut (status.Device (device.Program w) at) old new counts none lasts spared = no_program w old.inputs.programs.faults new.inputs.programs.faults (none (device.Program w)) (counts (device.Program w))
+undisturbed_calls_are_uncut (status.Device device.Trace at) old new counts none lasts spared = none device.Trace (counts device.Trace)
+undisturbed_calls_are_uncut status.Memory old new counts none lasts spared = lasts refl

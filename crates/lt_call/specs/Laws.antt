@@ -1,5 +1,5 @@
 -- What follows for whole calls.
-use Rattle.std.specs.Prelude.{◌≡◌, ◌≢◌, ℕ, ◌⊎◌, Bool, true, false, List, [], ◌++◌, Some}
+use Rattle.std.specs.Prelude.{◌≡◌, ◌≢◌, ℕ, ◌⊎◌, Bool, true, false, List, [], ◌++◌, None, Some}
 use Rattle.lt_rif.specs.Trace.{end_number}
 use Rattle.std.specs.Io.KnownBytes.{Appends, Keeps}
 use Rattle.std.specs.declared.option.Option.{Option}
@@ -23,7 +23,7 @@ use Rattle.lt_stress.specs.Run.{IsRunOf, sum_told}
 use Rattle.lt_args.specs.Words.{Request}
 use Rattle.lt_call.specs.Call.{GivesDue, IsCounted, blames}
 use Rattle.lt_loop.specs.InputSource.{InputSource, from_trace, with_contents}
-use Rattle.lt_call.specs.Run.{oracle_of, plan_of, run_of}
+use Rattle.lt_call.specs.Run.{RunIsAffordable, oracle_of, plan_of, run_of}
 use Rattle.lt_call.specs.Due.{Answer, Contents, IsDue, Work, refuses, writes, plays, stresses, has_file}
 use Rattle.lt_call.specs.Given.{PutsNothing}
 use Rattle.lt_call.specs.Lines.{status_lines}
@@ -60,12 +60,13 @@ SidesTell request contents programs c o =
     Tells (with_contents request.inputs contents.replay) programs c
     × TellsBeside (with_contents request.inputs contents.replay) (oracle_of request.oracle) programs o
 
--- no run ended by the fault of a side
+-- no run was ended by the fault of a side, and no instant of one was given up
 abbrev pub IsUnbroken : End → Type 0
 IsUnbroken (end.Device w) = ⊥
+IsUnbroken (end.Budget need) = ⊥
 IsUnbroken _ = Unit {0}
 
--- no device failed, and memory lasted
+-- no device failed, memory lasted, and no instant was given up
 abbrev pub IsUncut : Status → Type 0
 IsUncut (status.Device what at) = ⊥
 IsUncut status.Memory = ⊥
@@ -78,17 +79,17 @@ abbrev pub IsWhole : Request → List ℕ → List ℕ → List ℕ → Work →
 IsWhole request trace c o (refuses reason) names old new s = (s ≡ status.Refused reason) × (names ≡ []) × PutsNothing (without_files old) (without_files new)
 IsWhole request trace c o (writes text) names old new s = (s ≡ status.Done) × (names ≡ []) × Appends old.trace.written new.trace.written text
 IsWhole request trace c o (plays scene) names old new s =
-    (e : End) × ((run_of request scene (closed c) (closed o)).stop ≡ ends e)
-    × (s ≡ status.Ran (record { end = e; at = end_number e (step_count (run_of request scene (closed c) (closed o)).pieces) }))
+    (e : End) × ((run_of request scene None (closed c) (closed o)).stop ≡ ends e)
+    × (s ≡ status.Ran (record { end = e; at = end_number e (step_count (run_of request scene None (closed c) (closed o)).pieces) }))
     × (names ≡ scene.exceptions)
-    × Appends old.trace.written new.trace.written (text_to destination.Trace (run_of request scene (closed c) (closed o)).pieces)
-    × AreSent (with_contents request.inputs trace) (oracle_of request.oracle) (run_of request scene (closed c) (closed o)).pieces 0 0 old.inputs.programs new.inputs.programs
+    × Appends old.trace.written new.trace.written (text_to destination.Trace (run_of request scene None (closed c) (closed o)).pieces)
+    × AreSent (with_contents request.inputs trace) (oracle_of request.oracle) (run_of request scene None (closed c) (closed o)).pieces 0 0 old.inputs.programs new.inputs.programs
 IsWhole request trace c o (stresses n scene) names old new s =
     (ps : List Piece) × IsRunOf n scene ps end.Limit × (s ≡ status.Done) × (names ≡ [])
     × Appends old.trace.written new.trace.written (stress_line n (sum_told ps)) × Same old.inputs.programs new.inputs.programs
 
--- What isn't cut is whole: where files and sides tell what they have, a call that neither a device nor want of memory cuts
--- short does its work whole.
+-- What isn't cut is whole: where files and sides tell what they have, a call that neither a device nor want of memory nor a
+-- budget cuts short does its work whole.
 abbrev pub UncutCallsAreWhole : Type 0
 UncutCallsAreWhole =
     (request : Request) (contents : Contents) (told : List ℕ → Option (List ℕ)) (names asked : List (List ℕ)) (old new : Outside Sources) (s : Status) (c o : List ℕ) (answer : Answer) →
@@ -96,8 +97,8 @@ UncutCallsAreWhole =
     IsWhole request contents.replay c o answer.work names old new s
 
 -- Two calls that ask for the same of the same contents, of which the same comes of both sides, and that neither a device nor
--- want of memory cuts short, have the same status, say the same, and append the same bytes to their traces, whatever these
--- held before.
+-- want of memory nor a budget cuts short, have the same status, say the same, and append the same bytes to their traces,
+-- whatever these held before.
 abbrev pub SameCallSameBytes : Type 0
 SameCallSameBytes =
     (request : Request) (contents : Contents) (told told' : List ℕ → Option (List ℕ)) (names names' asked asked' : List (List ℕ)) (old new old' new' : Outside Sources) (before now before' now' : List ℕ) (s s' : Status) (c o : List ℕ) →
@@ -120,21 +121,54 @@ RefusalsAreExact =
     Tell request told contents → GivesDue request told asked old new names s → IsDue request contents (record { work = refuses reason; files = files }) →
     PutsNothing (without_files old) (without_files new) × ((s ≡ status.Refused reason) ⊎ IsCutEarly s)
 
--- Where no device's count of faults rose, and memory didn't run out, a call isn't cut.
+-- Where no device's count of faults rose, memory didn't run out, and no instant was given up, a call isn't cut.
 abbrev pub UndisturbedCallsAreUncut : Type 0
 UndisturbedCallsAreUncut =
     (s : Status) (old new : Outside Sources) → ((what : Device) → IsCounted what (blames s what) (faults_of what old) (faults_of what new)) →
-    ((what : Device) → Rose (faults_of what old) (faults_of what new) → ⊥) → s ≢ status.Memory → IsUncut s
+    ((what : Device) → Rose (faults_of what old) (faults_of what new) → ⊥) → s ≢ status.Memory →
+    ((need at : ℕ) → s ≢ status.Ran (record { end = end.Budget need; at = at })) → IsUncut s
 
--- Where files and sides tell what they have, a call that neither a device nor want of memory cuts short ends by a reply of a
--- side that is refused, or missing, only where that is the next one that its run needs: one whole reply of that side for each
+-- the run of work, if it is one of a scenario, affords its searches on these streams
+abbrev pub WorkIsAffordable : Request → List ℕ → List ℕ → Work → Type 0
+WorkIsAffordable request c o (plays scene) = RunIsAffordable request scene (closed c) (closed o)
+WorkIsAffordable request c o other = Unit {0}
+
+-- Where files and sides tell what they have, and each leaf at which the draws of the run arrive has a
+-- need within the budget, a call gives no instant up.
+abbrev pub AffordableCallsAreNotGivenUp : Type 0
+AffordableCallsAreNotGivenUp =
+    (request : Request) (contents : Contents) (told : List ℕ → Option (List ℕ))
+    (names asked : List (List ℕ)) (old new : Outside Sources) (s : Status) (c o : List ℕ)
+    (answer : Answer) (need at : ℕ) →
+    Tell request told contents → GivesDue request told asked old new names s →
+    SidesTell request contents old.inputs.programs c o → IsDue request contents answer →
+    WorkIsAffordable request c o answer.work →
+    s ≢ status.Ran (record { end = end.Budget need; at = at })
+
+-- Where, besides, no device's count of faults rose, a call does its work whole, or memory ran out and
+-- nothing was written.
+abbrev pub AffordableCallsAreWhole : Type 0
+AffordableCallsAreWhole =
+    (request : Request) (contents : Contents) (told : List ℕ → Option (List ℕ))
+    (names asked : List (List ℕ)) (old new : Outside Sources) (s : Status) (c o : List ℕ)
+    (answer : Answer) →
+    Tell request told contents → GivesDue request told asked old new names s →
+    SidesTell request contents old.inputs.programs c o → IsDue request contents answer →
+    WorkIsAffordable request c o answer.work →
+    ((what : Device) → IsCounted what (blames s what) (faults_of what old) (faults_of what new)) →
+    ((what : Device) → Rose (faults_of what old) (faults_of what new) → ⊥) →
+    IsWhole request contents.replay c o answer.work names old new s
+    ⊎ ((s ≡ status.Memory) × Keeps old.trace.written new.trace.written)
+
+-- Where files and sides tell what they have, a call that neither a device nor want of memory nor a budget cuts short ends by
+-- a reply of a side that is refused, or missing, only where that is the next one that its run needs: one whole reply of that side for each
 -- of the run's steps stands before.
 abbrev pub RepliesAreMissedOnlySo : Type 0
 RepliesAreMissedOnlySo =
     (request : Request) (contents : Contents) (told : List ℕ → Option (List ℕ)) (names asked files : List (List ℕ)) (old new : Outside Sources) (s : Status) (c o : List ℕ) (scene : Scene) (e : End) (at : ℕ) →
     Tell request told contents → GivesDue request told asked old new names s → IsUncut s → SidesTell request contents old.inputs.programs c o →
     IsDue request contents (record { work = plays scene; files = files }) → s ≡ status.Ran (record { end = e; at = at }) →
-    IsMissed (plan_of request scene) (stream_of (closed c)) (stream_of (closed o)) (step_count (run_of request scene (closed c) (closed o)).pieces) e
+    IsMissed (plan_of request scene) (stream_of (closed c)) (stream_of (closed o)) (step_count (run_of request scene None (closed c) (closed o)).pieces) e
 
 -- Where memory ran out, nothing was written. A run has not begun then; only a large one may have ended, whose line comes after it.
 abbrev pub WantOfMemoryWritesNothing : Type 0

@@ -4,12 +4,14 @@ use Rattle.std.specs.Option.{is_some}
 use Rattle.std.specs.declared.option.Option.{Option}
 use Rattle.lt_drive.specs.Drive.{Continuation}
 use Rattle.lt_loop.specs.CoreView.{stream_of}
+use Rattle.lt_loop.specs.Machine.{GivenUp, giving_up}
 use Rattle.lt_loop.specs.Plan.{Plan}
-use Rattle.lt_loop.specs.Play.{Play, play_of}
+use Rattle.lt_loop.specs.Places.{ComesTo, EachInstant, Place, first_place}
+use Rattle.lt_loop.specs.Play.{Piece, Play, play_of}
 use Rattle.lt_loop.specs.Side.{Rest}
 use Rattle.lt_play.specs.Rules.{known_scene, scenario_rules}
 use Rattle.lt_loop.specs.InputSource.{InputSource, from_nobody, from_program, from_trace, talk_of}
-use Rattle.lt_step.specs.Machine.{started}
+use Rattle.lt_step.specs.Machine.{CanAfford, State, started}
 use Rattle.lt_term.specs.Scene.{Scene}
 use Rattle.lt_args.specs.Words.{Request}
 
@@ -34,13 +36,34 @@ plan_of request scene = record {
   has_oracle = is_some request.oracle;
 }
 
--- the run of a scenario on the two streams: what it puts out, and how it ends
-abbrev pub run_of : Request → Scene → Rest → Rest → Play
-run_of request scene controller oracle =
-    play_of scenario_rules (plan_of request scene) request.limit (started scene request.seed request.budget request.draw) (stream_of controller) (stream_of oracle)
+-- the machine of a scenario before its first instant
+abbrev pub first_machine : Request → Scene → State
+first_machine request scene = started scene request.seed request.budget request.draw
 
--- this is the course of that run, of which nothing was put out
+-- the run of a scenario on the two streams, in which this instant is given up, or none: what it puts
+-- out, and how it ends
+abbrev pub run_of : Request → Scene → Option GivenUp → Rest → Rest → Play
+run_of request scene u controller oracle =
+    play_of (giving_up u scenario_rules) (plan_of request scene) request.limit
+    (first_machine request scene) (stream_of controller) (stream_of oracle)
+
+-- The run, of which none is given up, comes to an instant at this place: these are the pieces before
+-- that instant.
+abbrev pub RunComesTo : Request → Scene → Rest → Rest → List Piece → Place State → Type 0
+RunComesTo request scene controller oracle ps p =
+    ComesTo scenario_rules (plan_of request scene) request.limit (first_machine request scene)
+    (stream_of controller) (stream_of oracle) ps p
+
+-- each leaf at which the draws of the run arrive has a need within the budget
+abbrev pub RunIsAffordable : Request → Scene → Rest → Rest → Type 0
+RunIsAffordable request scene controller oracle =
+    EachInstant CanAfford scenario_rules (plan_of request scene) request.limit
+    (first_place (plan_of request scene) (first_machine request scene)
+    (stream_of controller) (stream_of oracle))
+
+-- this is the course of such a run, of which nothing was put out
 pub record IsContinuationOf (request : Request) (scene : Scene) (k : Continuation) : Type 0 where
   pub plan : k.plan ≡ plan_of request scene
   pub unwritten : k.written ≡ 0
-  pub plays : (controller oracle : Rest) → k.play controller oracle ≡ run_of request scene controller oracle
+  pub gives_up : Option GivenUp
+  pub plays : (controller oracle : Rest) → k.play controller oracle ≡ run_of request scene gives_up controller oracle

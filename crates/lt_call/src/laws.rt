@@ -1,9 +1,11 @@
 //! Laws of whole calls. The functions do nothing: their contracts say it.
 
 ghost use Rattle.lt_call.specs.Cut.{CutCallsAreFronts};
-ghost use Rattle.lt_call.specs.Laws.{ContentsHaveOneDueAnswer, RefusalsAreExact, RepliesAreMissedOnlySo, SameCallSameBytes, UncutCallsAreWhole, UndisturbedCallsAreUncut, WantOfMemoryWritesNothing};
+ghost use Rattle.lt_call.specs.Laws.{AffordableCallsAreNotGivenUp, AffordableCallsAreWhole, ContentsHaveOneDueAnswer, RefusalsAreExact, RepliesAreMissedOnlySo, SameCallSameBytes, UncutCallsAreWhole, UndisturbedCallsAreUncut, WantOfMemoryWritesNothing};
 
 use lt_frontend::{texts_have_one_printed_answer, texts_have_one_scenario_answer};
+use lt_instant::affordable_instants_are_not_given_up;
+use lt_loop::{affordable_runs_are_the_same, budgets_have_a_cause, plays_keep_to_their_rules};
 use lt_play::Player;
 use lt_session::{cut_sessions_are_fronts, plays_never_break, undisturbed_sessions_are_whole};
 use lt_stress::{large_runs_are_one, numbers_have_scenes};
@@ -17,7 +19,8 @@ pub fn contents_have_one_due_answer()
     numbers_have_scenes();
 }
 
-/// Where files and programs tell what they have, what no device and no want of memory cuts short is done whole.
+/// Where files and programs tell what they have, what no device, no want of memory and no budget cuts short is done
+/// whole.
 pub fn uncut_calls_are_whole()
     ensures { UncutCallsAreWhole }
 {
@@ -26,13 +29,16 @@ pub fn uncut_calls_are_whole()
 }
 
 /// Where files and programs tell what they have, a call that a device cuts short writes nothing before its run, and in it the
-/// first texts of what it would write, up to what cuts it, and the end line of a side's fault.
+/// first texts of what it would write, up to what cuts it, and the end line of a side's fault. One of which an instant is given
+/// up writes the texts before that instant, which may be given up with that need, and the end line of a budget.
 pub fn cut_calls_are_fronts()
     ensures { CutCallsAreFronts }
 {
     contents_have_one_due_answer();
     cut_sessions_are_fronts::<Player>();
     plays_never_break::<Player>();
+    undisturbed_sessions_are_whole::<Player>();
+    budgets_have_a_cause::<Player>();
 }
 
 /// Where files and programs tell what they have, a call that nothing cuts short ends by a reply that is refused, or missing,
@@ -61,10 +67,32 @@ pub fn refusals_are_exact()
     contents_have_one_due_answer();
 }
 
-/// Where no device failed and memory lasted, nothing is cut short.
+/// Where no device failed, memory lasted and no instant was given up, nothing is cut short.
 pub fn undisturbed_calls_are_uncut()
     ensures { UndisturbedCallsAreUncut }
 {}
+
+/// Where files and programs tell what they have, and each leaf at which the draws of the run arrive has a need within the
+/// budget, no instant is given up.
+pub fn affordable_calls_are_not_given_up()
+    ensures { AffordableCallsAreNotGivenUp }
+{
+    contents_have_one_due_answer();
+    plays_keep_to_their_rules::<Player>();
+    affordable_runs_are_the_same::<Player>();
+    affordable_instants_are_not_given_up();
+    undisturbed_sessions_are_whole::<Player>();
+}
+
+/// Where, besides, no device failed, such a call does its work whole, or memory ran out and nothing was written.
+pub fn affordable_calls_are_whole()
+    ensures { AffordableCallsAreWhole }
+{
+    affordable_calls_are_not_given_up();
+    undisturbed_calls_are_uncut();
+    uncut_calls_are_whole();
+    want_of_memory_writes_nothing();
+}
 
 /// Where memory ran out, nothing was written.
 pub fn want_of_memory_writes_nothing()

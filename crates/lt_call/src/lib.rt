@@ -18,9 +18,9 @@ mod system;
 mod top;
 
 pub use laws::{
-    contents_have_one_due_answer, cut_calls_are_fronts, refusals_are_exact,
-    replies_are_missed_only_so, same_call_same_bytes, uncut_calls_are_whole,
-    undisturbed_calls_are_uncut,
+    affordable_calls_are_not_given_up, affordable_calls_are_whole, contents_have_one_due_answer,
+    cut_calls_are_fronts, refusals_are_exact, replies_are_missed_only_so, same_call_same_bytes,
+    uncut_calls_are_whole, undisturbed_calls_are_uncut,
 };
 pub use lt_rif::{End, Who};
 pub use status::{Device, Ending, Refusal, Status};

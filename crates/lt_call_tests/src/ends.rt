@@ -8,7 +8,7 @@ fn runs_end_for_their_reasons(rt: HostRuntime) -> Result<(), Fail> {
     check_rows(
         &rt,
         "",
-        34,
+        38,
         r#"
 ## a run is written to its end or limit
 f is node n() returns (b: bool) = b fby not b
@@ -150,7 +150,7 @@ f is node n() returns (b: bool) = { | {<<14 times  &> { |1: b |1: b }>> } | {<<1
 > #end toolarge 1
 = 14 lurette: toolarge 1
 
-## a search over the budget ends a run
+## a search begins at once, whatever it needs
 > #seed 0\n#inputs "x":int "y":int "z":int\n#outputs
 
 -- An equation of three variables of six values each needs 180 * 4 * 216.
@@ -164,12 +164,18 @@ f is node n() returns (x, y, z: int [0;5]) = 2 * x + 2 * y + 2 * z = 7
 > #end deadlock 1
 = 4 lurette: deadlock 1
 
-$ run f --budget 155519
+$ run f --budget 1
 f is node n() returns (x, y, z: int [0;5]) = 2 * x + 2 * y + 2 * z = 7
-> #end budget 155520 1
-= 10 lurette: budget 155520 1
+> #end deadlock 1
+= 4 lurette: deadlock 1
 
--- Differences need no more than that, whatever the ranges are.
+-- No sum of even numbers is odd, whatever the ranges are.
+$ run f
+f is node n() returns (x, y, z: int) = 2 * x + 2 * y - 2 * z = 7
+> #end deadlock 1
+= 4 lurette: deadlock 1
+
+-- Differences need no more than 720, whatever the ranges are.
 $ run f
 f is node n() returns (x, y, z: int) = x < y and y < z and z < x
 > #end deadlock 1
@@ -181,16 +187,35 @@ f is node n() returns (x, y, z: int) = false
 > #end deadlock 1
 = 4 lurette: deadlock 1
 
--- It is compared before the search, also where any point would do ..
-$ run f --budget 719
-f is node n() returns (x, y, z: int [0;5]) = true
-> #end budget 720 1
-= 10 lurette: budget 720 1
+-- The first number that does for x is 1, and then the first one for y from its target is 3.
+$ run f
+f is node n() returns (x, y, z: int) = x + 2 * y + 3 * z = 100 and x > 0 and y > 0 and z > 0
+> #step 1\n1 3 31 #outs\n#end normal 1
 
--- .. and not for what isn't looked at.
+-- Any point does, so the targets are taken.
+$ run f --budget 1
+f is node n() returns (x, y, z: int [0;5]) = true
+> #step 1\n4 0 0 #outs\n#end normal 1
+
 $ run f --budget 1
 f is node n() returns (x, y, z: int [0;5]) = loop [0,0] true
 > #end normal 0
+
+## numbers of many values run too
+-- The target of x is 41.68, and half of the way from 20.00 to it is 30.84.
+$ run f
+f is node n() returns (x, y: real [0.0;42.0] = 20.0) = y = (pre y + x) / 2.0
+> #seed 0\n#inputs "x":real "y":real\n#outputs
+> #step 1\n41.68 30.84 #outs\n#end normal 1
+
+## a search that isn't done within its allowance is given up where its need is over the budget
+-- Ten numbers of nine values are all to differ. Each of the 45 comparisons is a choice: it needs 180 * 11 * 3^45.
+$ run f
+f is node n() returns (a, b, c, d, e, f, g, h, i, j: int [1;9]) = a = 1 and b = 1 and c = 1 and d = 1 and e = 1 and f = 1 and g = 1 and h = 1 and i = 1 and j = 1 fby a <> b and a <> c and a <> d and a <> e and a <> f and a <> g and a <> h and a <> i and a <> j and b <> c and b <> d and b <> e and b <> f and b <> g and b <> h and b <> i and b <> j and c <> d and c <> e and c <> f and c <> g and c <> h and c <> i and c <> j and d <> e and d <> f and d <> g and d <> h and d <> i and d <> j and e <> f and e <> g and e <> h and e <> i and e <> j and f <> g and f <> h and f <> i and f <> j and g <> h and g <> i and g <> j and h <> i and h <> j and i <> j
+> #seed 0\n#inputs "a":int "b":int "c":int "d":int "e":int "f":int "g":int "h":int "i":int "j":int\n#outputs
+> #step 1\n1 1 1 1 1 1 1 1 1 1 #outs
+> #end budget 5849539158970650723313140 2
+= 10 lurette: budget 5849539158970650723313140 2
 "#,
     )
 }

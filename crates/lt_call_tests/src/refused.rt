@@ -141,8 +141,8 @@ f is a or b or c or d or e or f or g or h or i or j or k or l or m or n or o or 
 f is a or b or c or d or e or f or g or h or i or j or k or l or m or n or o or p
 = 3 lurette: refused run.NeedsController
 
-## there may be 16 atoms, and any number of conjuncts, where the budget lets them
-$ --budget 1000000000000
+## there may be 16 atoms, and any number of conjuncts, whatever they need
+$ --budget 1
 f is node z() returns (a, b, c, d, e, f, g, h, i, j, k, l, m, n, o, p: bool) =
 > #seed 0\n#inputs "a":bool "b":bool "c":bool "d":bool "e":bool "f":bool "g":bool "h":bool "i":bool "j":bool "k":bool "l":bool "m":bool "n":bool "o":bool "p":bool\n#outputs
 > #step 1\n<<16 times t >>#outs

@@ -1,5 +1,6 @@
 -- One instant of a run.
-use Rattle.std.specs.Prelude.{ℕ, ◌+◌, nat_lt, Bool, true, false, if◌then◌else◌, is_some, ℤ, List, None, Some}
+use Rattle.std.specs.Prelude.{ℕ, ◌+◌, nat_eq, nat_lt, ◌&&◌, Bool, true, false, if◌then◌else◌, is_some, ℤ, List, [], None, Some}
+use Rattle.std.specs.List.{list_any}
 use Rattle.std.specs.declared.option.Option.{Option}
 use Rattle.lt_num.specs.declared.fault.Arith.{Arith}
 use Rattle.lt_num.specs.declared.value.Value.{Value}
@@ -16,7 +17,7 @@ use Rattle.lt_term.specs.Offers.{TermTree, offers_of}
 use Rattle.lt_term.specs.Process.{Process}
 use Rattle.lt_term.specs.Scene.{Scene}
 use Rattle.lt_term.specs.Tree.{Lasts, size}
-use Rattle.lt_instant.specs.Drawn.{Draw, Met, draw_of, taken_of}
+use Rattle.lt_instant.specs.Drawn.{Draw, Met, draw_of}
 use Rattle.lt_instant.specs.Solved.{locals_by, need_of, outputs_by, scoped, solution_of, values_of}
 
 -- what an instant is
@@ -33,8 +34,6 @@ pub data Instant : Type 0 where
   fault : Arith → Instant
   -- what the term offers has too many nodes
   too_large : Instant
-  -- a search would need this much, which is over the budget
-  budget : ℕ → Instant
 
 -- what leaves and trees of an instant are, once they are evaluated
 abbrev pub Leaf : Type 0
@@ -63,11 +62,6 @@ is_live s draw word (raised z) = true
 is_live s draw word (faulty f) = true
 is_live s draw word (go f ls n) = is_some (solution_of s draw word ls f)
 
--- whether the search at a leaf would need more than the budget
-abbrev pub is_over : Scene → ℕ → Leaf → Bool
-is_over s most (go f ls n) = nat_lt most (need_of s ls f)
-is_over s most other = false
-
 -- the words of an instant, by slot
 abbrev pub words_of : ℕ → Configuration → ℕ → ℕ
 words_of seed c slot = word_at seed c.step slot
@@ -89,28 +83,51 @@ abbrev pub go_instant : Scene → Configuration → List Value → Lasts → Pro
 go_instant s c inputs ls n None = deadlock
 go_instant s c inputs ls n (Some raws) = values (outputs_by s raws) (scoped ls 0 (locals_by s raws)) (next_configuration s c inputs ls n raws)
 
--- The instant that takes a leaf. The need of a search is compared with the budget before the search.
-abbrev pub leaf_instant : Scene → ℕ → rule.Draw → ℕ → Configuration → List Value → Leaf → Instant
-leaf_instant s seed draw most c inputs vanish = normal
-leaf_instant s seed draw most c inputs nothing = deadlock
-leaf_instant s seed draw most c inputs (raised z) = raise z
-leaf_instant s seed draw most c inputs (faulty f) = fault f
-leaf_instant s seed draw most c inputs (go f ls n) = if nat_lt most (need_of s ls f) then budget (need_of s ls f) else go_instant s c inputs ls n (solution_of s draw (words_of seed c) ls f)
+-- the instant that takes a leaf
+abbrev pub leaf_instant : Scene → ℕ → rule.Draw → Configuration → List Value → Leaf → Instant
+leaf_instant s seed draw c inputs vanish = normal
+leaf_instant s seed draw c inputs nothing = deadlock
+leaf_instant s seed draw c inputs (raised z) = raise z
+leaf_instant s seed draw c inputs (faulty f) = fault f
+leaf_instant s seed draw c inputs (go f ls n) = go_instant s c inputs ls n (solution_of s draw (words_of seed c) ls f)
 
 -- the instant that takes this leaf, if any
-abbrev pub taken_instant : Scene → ℕ → rule.Draw → ℕ → Configuration → List Value → Option (Met Formula (Process Expression)) → Instant
-taken_instant s seed draw most c inputs None = deadlock
-taken_instant s seed draw most c inputs (Some m) = leaf_instant s seed draw most c inputs m.outlook
+abbrev pub taken_instant : Scene → ℕ → rule.Draw → Configuration → List Value → Option (Met Formula (Process Expression)) → Instant
+taken_instant s seed draw c inputs None = deadlock
+taken_instant s seed draw c inputs (Some m) = leaf_instant s seed draw c inputs m.outlook
 
 -- whether what a term offers has too many nodes
 abbrev pub is_too_large : Scene → Configuration → Bool
 is_too_large s c = nat_lt most_tree_nodes (size (offered s c))
 
--- the leaf that an instant takes
-abbrev pub taken_in : Scene → ℕ → rule.Draw → ℕ → Configuration → List Value → Option (Met Formula (Process Expression))
-taken_in s seed draw most c inputs = taken_of (is_over s most) (drawn_of s draw (words_of seed c) (judged s c inputs))
+-- what is drawn in an instant
+abbrev pub drawn_in : Scene → ℕ → rule.Draw → Configuration → List Value → Draw Formula (Process Expression)
+drawn_in s seed draw c inputs = drawn_of s draw (words_of seed c) (judged s c inputs)
 
--- The instant of a configuration in which the inputs have these values, by a seed, a rule of drawing, and a budget of at most so
--- much for a search.
-abbrev pub instant_of : Scene → ℕ → rule.Draw → ℕ → Configuration → List Value → Instant
-instant_of s seed draw most c inputs = if is_too_large s c then too_large else taken_instant s seed draw most c inputs (taken_in s seed draw most c inputs)
+-- the leaf that an instant takes
+abbrev pub taken_in : Scene → ℕ → rule.Draw → Configuration → List Value → Option (Met Formula (Process Expression))
+taken_in s seed draw c inputs = (drawn_in s seed draw c inputs).drawn
+
+-- The instant of a configuration in which the inputs have these values, by a seed and a rule of drawing.
+abbrev pub instant_of : Scene → ℕ → rule.Draw → Configuration → List Value → Instant
+instant_of s seed draw c inputs = if is_too_large s c then too_large else taken_instant s seed draw c inputs (taken_in s seed draw c inputs)
+
+-- ---- instants that are given up
+
+-- whether the search at a leaf has this need
+abbrev pub has_need : Scene → ℕ → Leaf → Bool
+has_need s n (go f ls next) = nat_eq (need_of s ls f) n
+has_need s n other = false
+
+-- The leaves at which the draw of an instant arrives, in order. Where what the term offers is too
+-- large, nothing is drawn.
+abbrev pub looked_in : Scene → ℕ → rule.Draw → Configuration → List Value →
+    List (Met Formula (Process Expression))
+looked_in s seed draw c inputs =
+    if is_too_large s c then [] else (drawn_in s seed draw c inputs).looked_at
+
+-- Whether an instant may be given up with this need: it is over the budget, and the draw arrives at a
+-- leaf whose search has it.
+abbrev pub may_give_up : Scene → ℕ → rule.Draw → ℕ → Configuration → List Value → ℕ → Bool
+may_give_up s seed draw budget c inputs n =
+    nat_lt budget n && list_any (λ m. has_need s n m.outlook) (looked_in s seed draw c inputs)

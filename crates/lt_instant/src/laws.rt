@@ -1,5 +1,6 @@
 //! What follows from the definitions. The functions do nothing: their contracts say it.
 
+ghost use Rattle.lt_instant.specs.Affordable.{AffordableInstantsAreNotGivenUp};
 ghost use Rattle.lt_instant.specs.Legal.{DeadlockMeansNoneLive, DrawIsLegal};
 
 use lt_formula::first_solution_is_first;
@@ -12,10 +13,15 @@ pub fn draw_is_legal()
     first_solution_is_first();
 }
 
-/// An instant is a deadlock exactly where what the term offers is not too large, no live leaf of it can be reached, and
-/// none at which the draw arrives is over the budget. A leaf in a part of weight 0 cannot be reached.
+/// An instant is a deadlock exactly where what the term offers is not too large, and no live leaf of it can be reached. A leaf
+/// in a part of weight 0 cannot be reached.
 pub fn deadlock_means_none_live()
     ensures { DeadlockMeansNoneLive }
 {
     first_solution_is_first();
 }
+
+/// An instant may not be given up where each leaf at which its draw arrives has a need within the budget.
+pub fn affordable_instants_are_not_given_up()
+    ensures { AffordableInstantsAreNotGivenUp }
+{}

@@ -1,22 +1,27 @@
 -- What cores put out.
-use Rattle.std.proofs.Common.{◌≡◌, Bool, ◌+◌, ◌-◌, ◌<◌, ◌≤◌, ℕ, suc, true, false, List, [], ◌∷◌, ◌++◌, Some, Option, ap, ◌∙◌, refl, arith}
+use Rattle.std.proofs.Common.{◌≡◌, Bool, ◌+◌, ◌-◌, ◌<◌, ◌≤◌, ◌==◌, ℕ, suc, true, false, List, [], ◌∷◌, ◌++◌, None, Some, Option, ap, ◌∙◌, sym, subst, refl, arith}
+use Rattle.std.proofs.lemmas.Bool.{eq-eqb, eqb-true}
 use Rattle.lt_num.specs.declared.value.Value.{Value}
 use Rattle.lt_rif.specs.Reply.{Stream, reply_of}
 use Rattle.lt_rif.specs.Reading.{Reading, answer, between}
 use Rattle.lt_rif.specs.Trace.{end_number}
+use Rattle.lt_rif.specs.declared.end.End.{End}
 use Rattle.lt_rif.specs.declared.end.End.TheVariants as end
 use Rattle.lt_rif.specs.declared.slot.Slot.{Slot}
 use Rattle.lt_loop.specs.CoreView.{stream_of}
-use Rattle.lt_loop.specs.Machine.{Instant, values, over, Rules, MayStep, StepTells, end_of, most_steps}
+use Rattle.lt_loop.specs.Machine.{GivenUp, Instant, values, over, Rules, MayStep, StepTells, end_of, giving_up, instant_giving_up, most_steps}
 use Rattle.lt_loop.specs.Plan.{Plan, outputs_line, step_line, traced_step, closing_text, opening_text, reply_slots}
-use Rattle.lt_loop.specs.Play.{Play, piece_then, ended, play_of, instant_made, made_by, controller_asked, play_from}
+use Rattle.lt_loop.specs.Play.{piece_then, ended, play_of, instant_made, play_from}
 use Rattle.lt_loop.specs.Scene.{first_inputs, verdict_slots}
 use Rattle.lt_loop.specs.Stands.{Stands}
 use Rattle.lt_loop.specs.Side.{SideState, Rest, coming, side_answer, side_stream, unless_closed, IsBetween}
-use Rattle.lt_loop.specs.CoreState.{CoreState, play_once_answered, play_once_made, from_here, play_once_judged, resume, resume_in, PutsOut}
+use Rattle.lt_loop.specs.CoreState.{CoreState, core_giving_up, given_up, play_once_answered, play_once_made, from_here, play_once_judged, resume, resume_in, IsAheadIn, IsBehind, PutsOut}
 use Rattle.lt_loop.specs.declared.event.PieceKind.TheVariants as piece_kind
 use Rattle.lt_loop.specs.declared.machine.Outcome.TheVariants as outcome
 use Rattle.lt_loop.specs.declared.machine.ScenarioEnd.{ScenarioEnd}
+use Rattle.lt_loop.specs.declared.machine.ScenarioEnd.TheVariants as scenario_end
+use Rattle.lt_loop.specs.Event.{goes_on as is_going}
+use Rattle.lt_loop.specs.declared.phase.Phase.{Phase}
 use Rattle.lt_loop.specs.declared.phase.Phase.TheVariants as phase
 use Rattle.lt_loop.specs.declared.setup.Talk.TheVariants as talk
 
@@ -45,6 +50,57 @@ may_step made k left is few some = rw is (omega (arith, few, some))
 -- one more step was put out, and one fewer may begin
 pub stands_on : (k left : ℕ) (c o : Reading) → 0 < left → Stands phase.Ready k left c o → Stands phase.Ready (k + 1) (left - 1) c o
 stands_on k left c o some s = (s.0, ((omega (arith, s.1.0.0), omega (arith, s.1.0.1)), omega (arith, some, s.1.1)))
+
+-- ---- what is ahead
+
+-- an instant behind others that were made is none of them
+not_behind : (n behind : ℕ) → n + 1 ≤ behind → (n == behind) ≡ false
+not_behind n behind later = by_test (n == behind) refl
+  where
+    by_test : (b : Bool) → (n == behind) ≡ b → b ≡ false
+    by_test true e = absurd (let same = eqb-true n behind e in omega (arith, same, later))
+    by_test false e = refl
+
+-- where nothing is given up
+none_ahead : (p : Phase) (k : ℕ) → is_going p ≡ true → IsAheadIn p k None
+none_ahead phase.Fresh k on = tt
+none_ahead phase.Ready k on = tt
+none_ahead phase.Made k on = tt
+none_ahead phase.Controller k on = tt
+none_ahead phase.Answered k on = tt
+none_ahead phase.Oracle k on = tt
+none_ahead (phase.Over e) k on = absurd (cc on)
+
+-- what is told by an end is behind the steps that were put out
+told_behind : (e : End) (k : ℕ) → IsBehind k (given_up e k)
+told_behind end.Normal k = tt
+told_behind end.Limit k = tt
+told_behind end.Oracle k = tt
+told_behind end.Deadlock k = tt
+told_behind (end.Raise z) k = tt
+told_behind (end.Fault f) k = tt
+told_behind end.TooLarge k = tt
+told_behind (end.Malformed w f place) k = tt
+told_behind (end.Ended w n) k = tt
+told_behind (end.Device w) k = tt
+told_behind (end.Budget need) k = omega arith
+
+-- in another phase that is the same, and with as many steps
+pub same_ahead : (p q : Phase) (k n : ℕ) (u : Option GivenUp) → p ≡ q → k ≡ n → IsAheadIn p k u → IsAheadIn q n u
+same_ahead p q k n u a b h = subst (λ (x : Phase). IsAheadIn x n u) a (subst (λ (j : ℕ). IsAheadIn p j u) b h)
+
+-- where the run ended otherwise than by an instant that is given up
+pub ended_ahead : (p q : Phase) (k n : ℕ) (e : End) (u : Option GivenUp) → is_going p ≡ true → q ≡ phase.Over e → given_up e n ≡ None → IsAheadIn q n u → IsAheadIn p k u
+ended_ahead p q k n e u on is none h =
+    let told : u ≡ given_up e n = subst (λ (x : Phase). IsAheadIn x n u) is h in
+    subst (λ (v : Option GivenUp). IsAheadIn p k v) (sym (told ∙ none)) (none_ahead p k on)
+
+-- where the next instant ended it
+pub ended_next : (q : Phase) (k n : ℕ) (e : End) (u : Option GivenUp) → q ≡ phase.Over e → n ≡ k → IsAheadIn q n u → u ≡ given_up e k
+ended_next q k n e u is same h = same_ahead q (phase.Over e) n k u is same h
+
+pub told_ahead : (k : ℕ) (e : End) (u : Option GivenUp) → u ≡ given_up e k → IsBehind k u
+told_ahead k e u is = subst (λ (v : Option GivenUp). IsBehind k v) (sym is) (told_behind e k)
 
 module _ {State : Type 0} where
   -- the oracle is told a step
@@ -75,32 +131,41 @@ module _ {State : Type 0} where
       → play_from rules plan left k m y c o ≡ instant_made rules plan k (rules.instant m y) (play_from rules plan before (k + 1)) c o
   some_left rules plan left before k m y c o e = rw e refl
 
-  -- an instant with outputs
-  values_made : (rules : Rules State) (plan : Plan) (k : ℕ) (i : Instant State) (go : State → List Value → Stream → Stream → Play) (c o : Stream) (m : State) → StepTells i outcome.Values m
-      → instant_made rules plan k i go c o ≡ controller_asked plan.controller plan (made_by rules k m) (go m) c o
-  values_made rules plan k (values next) go c o m e = rw e refl
-  values_made rules plan k (over f) go c o m e = absurd e
+  -- ---- an instant that is given up
 
-  -- an instant at which the scenario is over
-  over_made : (rules : Rules State) (plan : Plan) (k : ℕ) (i : Instant State) (go : State → List Value → Stream → Stream → Play) (c o : Stream) (m : State) (e : ScenarioEnd) → StepTells i (outcome.Over e) m
-      → instant_made rules plan k i go c o ≡ ended plan (end_of e) (end_number (end_of e) (k - 1))
-  over_made rules plan k (values next) go c o m f e = absurd e
-  over_made rules plan k (over g) go c o m f e = rw e refl
+  -- the next instant is the one of the rules, where what is given up is behind it
+  instant_stays : (rules : Rules State) (u : Option GivenUp) (m : State) (y : List Value) (n : ℕ) → rules.made m ≡ Some n → IsBehind (n + 1) u → instant_giving_up rules u m y ≡ rules.instant m y
+  instant_stays rules None m y n made later = refl
+  instant_stays rules (Some u) m y n made later = rw (made, not_behind n u.behind later) refl
+
+  -- the end that an instant has, where the run has given up what it tells
+  ended_so : (rules : Rules State) (m next : State) (y : List Value) (n : ℕ) (u : Option GivenUp) (e : ScenarioEnd) → rules.made m ≡ Some n → StepTells rules m y (outcome.Over e) next
+      → u ≡ given_up (end_of e) n → instant_giving_up rules u m y ≡ over e
+  ended_so rules m next y n u scenario_end.Normal made tells is = rw is tells
+  ended_so rules m next y n u scenario_end.Deadlock made tells is = rw is tells
+  ended_so rules m next y n u (scenario_end.Raise z) made tells is = rw is tells
+  ended_so rules m next y n u (scenario_end.Fault f) made tells is = rw is tells
+  ended_so rules m next y n u scenario_end.TooLarge made tells is = rw is tells
+  ended_so rules m next y n u (scenario_end.Budget need) made tells is = rw (is, made, eq-eqb n n refl, tells) refl
 
   -- the next instant has outputs
-  pub goes_on : (s : CoreState State) (m : State) (before : ℕ) (c o : Rest) → s.left ≡ suc before → StepTells (s.rules.instant s.machine s.inputs) outcome.Values m
-      → from_here s c o ≡ play_once_made (record s { left = before; machine = m; phase = phase.Made }) c o
-  goes_on s m before c o some e =
-      some_left s.rules s.plan s.left before (s.written + 1) s.machine s.inputs _ _ some
-      ∙ values_made s.rules s.plan (s.written + 1) (s.rules.instant s.machine s.inputs) (play_from s.rules s.plan before (s.written + 1 + 1)) _ _ m e
+  pub goes_on : (s : CoreState State) (m : State) (before : ℕ) (u : Option GivenUp) (c o : Rest) → s.left ≡ suc before → s.rules.made s.machine ≡ Some s.written
+      → StepTells s.rules s.machine s.inputs outcome.Values m → IsBehind (s.written + 1) u
+      → from_here (core_giving_up u s) c o ≡ play_once_made (core_giving_up u (record s { left = before; machine = m; phase = phase.Made })) c o
+  goes_on s m before u c o some made tells later =
+      let is : instant_giving_up s.rules u s.machine s.inputs ≡ values m = instant_stays s.rules u s.machine s.inputs s.written made later ∙ tells in
+      some_left (giving_up u s.rules) s.plan s.left before (s.written + 1) s.machine s.inputs (side_stream s.controller c) (side_stream s.oracle o) some
+      ∙ ap (λ (i : Instant State). instant_made (giving_up u s.rules) s.plan (s.written + 1) i (play_from (giving_up u s.rules) s.plan before (s.written + 1 + 1)) (side_stream s.controller c) (side_stream s.oracle o)) is
 
-  -- the scenario is over at the next instant
-  pub goes_over : (s : CoreState State) (m : State) (before : ℕ) (c o : Rest) (e : ScenarioEnd) → s.left ≡ suc before → StepTells (s.rules.instant s.machine s.inputs) (outcome.Over e) m
-      → from_here s c o ≡ ended s.plan (end_of e) (end_number (end_of e) s.written)
-  goes_over s m before c o f some e =
+  -- the scenario is over at the next instant, or that is given up
+  pub goes_over : (s : CoreState State) (m : State) (before : ℕ) (u : Option GivenUp) (c o : Rest) (e : ScenarioEnd) → s.left ≡ suc before → s.rules.made s.machine ≡ Some s.written
+      → StepTells s.rules s.machine s.inputs (outcome.Over e) m → u ≡ given_up (end_of e) s.written
+      → from_here (core_giving_up u s) c o ≡ ended s.plan (end_of e) (end_number (end_of e) s.written)
+  goes_over s m before u c o f some made tells is =
       let k : s.written + 1 - 1 ≡ s.written = omega arith in
-      some_left s.rules s.plan s.left before (s.written + 1) s.machine s.inputs _ _ some
-      ∙ over_made s.rules s.plan (s.written + 1) (s.rules.instant s.machine s.inputs) (play_from s.rules s.plan before (s.written + 1 + 1)) _ _ m f e
+      let it : instant_giving_up s.rules u s.machine s.inputs ≡ over f = ended_so s.rules s.machine m s.inputs s.written u f made tells is in
+      some_left (giving_up u s.rules) s.plan s.left before (s.written + 1) s.machine s.inputs (side_stream s.controller c) (side_stream s.oracle o) some
+      ∙ ap (λ (i : Instant State). instant_made (giving_up u s.rules) s.plan (s.written + 1) i (play_from (giving_up u s.rules) s.plan before (s.written + 1 + 1)) (side_stream s.controller c) (side_stream s.oracle o)) it
       ∙ ap (λ (n : ℕ). ended s.plan (end_of f) (end_number (end_of f) n)) k
 
   -- no further step may begin

@@ -27,6 +27,9 @@ pub mod Stands
 pub mod Run
 pub mod Growing
 pub mod Ending
+-- the instants to which runs come, and runs in which one is given up
+pub mod Places
+pub mod GivingUp
 -- the pieces of each instant
 pub mod Instants
 -- replies that fit their slots

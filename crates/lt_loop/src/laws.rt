@@ -3,6 +3,7 @@
 
 ghost use Rattle.lt_loop.specs.Ending.{PlaysEnd};
 ghost use Rattle.lt_loop.specs.Fits.{RepliesFit};
+ghost use Rattle.lt_loop.specs.GivingUp.{AffordableRunsAreTheSame, BudgetsHaveACause, GivingUpIsACut, PlaysKeepToTheirRules};
 ghost use Rattle.lt_loop.specs.Growing.{PlaysGrow};
 ghost use Rattle.lt_loop.specs.Instants.{InstantsHaveFewPieces, RunsHaveFewPieces};
 ghost use Rattle.lt_loop.specs.Run.{EndsAreFinal, EventsAreThePlay, FaultsAreCuts, RunsEnd, StepsAreCounted, TurnsGoOn, WantsAreTheStop};
@@ -58,6 +59,29 @@ pub fn plays_grow<M: Machine>()
     // A law that the proof needs: replies of open streams stay so.
     replies_grow();
 }
+
+/// A play in which an instant is given up is that of the run, which comes to no such instant, or it
+/// is cut there: its end line comes behind the pieces before that instant, with the number of the
+/// steps among them and 1.
+pub fn giving_up_is_a_cut<M: Machine>()
+    ensures { GivingUpIsACut M.State }
+{}
+
+/// Where no instant of the rules ends by a budget, no play does.
+pub fn plays_keep_to_their_rules<M: Machine>()
+    ensures { PlaysKeepToTheirRules M.State }
+{}
+
+/// Where no instant of the rules ends by a budget, a play in which one is given up ends so only where
+/// the run comes to an instant that may be given up with that need.
+pub fn budgets_have_a_cause<M: Machine>()
+    ensures { BudgetsHaveACause M.State }
+{}
+
+/// A run that comes to no instant that may be given up is the same, whatever is given up.
+pub fn affordable_runs_are_the_same<M: Machine>()
+    ensures { AffordableRunsAreTheSame M.State }
+{}
 
 /// In each play an instant has four pieces at most: the outputs, the question, the step and the end line.
 pub fn instants_have_few_pieces<M: Machine>()

@@ -24,12 +24,14 @@ mod writer;
 pub use event::{Destination, Emits, Event, PieceKind, Wants};
 pub use input_source::InputSource;
 pub use laws::{
-    ends_are_final, events_are_the_play, faults_are_cuts, instants_have_few_pieces, plays_end,
-    plays_grow, replies_fit, runs_end, runs_have_few_pieces, steps_are_counted, turns_go_on,
-    wants_are_the_stop,
+    affordable_runs_are_the_same, budgets_have_a_cause, ends_are_final, events_are_the_play,
+    faults_are_cuts, giving_up_is_a_cut, instants_have_few_pieces, plays_end, plays_grow,
+    plays_keep_to_their_rules, replies_fit, runs_end, runs_have_few_pieces, steps_are_counted,
+    turns_go_on, wants_are_the_stop,
 };
 pub use loop_core::Core;
 pub use machine::{Machine, Outcome, ScenarioEnd};
 pub use phase::Phase;
 pub use setup::{Setup, Talk};
+pub use side::{Read, Side};
 pub use var::Var;

@@ -3,7 +3,8 @@
 ghost use Rattle.std.specs.Prelude.{◌≡◌, ◌≢◌, ◌<◌, ◌≤◌, ◌+◌, ◌*◌, true, false, None, Some, ℕ, length, map, string_bytes, vec_capacity, IfOk, IsTrue};
 ghost use Rattle.lt_rif.specs.Trace.{end_number};
 ghost use Rattle.lt_loop.specs.Codes.{same_slots-prop};
-ghost use Rattle.lt_loop.specs.Machine.{most_steps};
+ghost use Rattle.std.specs.declared.option.Option.{Option};
+ghost use Rattle.lt_loop.specs.Machine.{GivenUp, giving_up, most_steps};
 ghost use Rattle.lt_loop.specs.Plan.{reply_slots};
 ghost use Rattle.lt_loop.specs.Play.{ended, holds, play_of};
 ghost use Rattle.lt_loop.specs.Scene.{fit, input_slots, verdict_slots};
@@ -72,17 +73,18 @@ impl<M: Machine> Drop for Core<M> {
 
 impl<M: Machine> Core<M> {
     ghost use Rattle.lt_loop.specs.CoreView.{last_text, plan_of, core_state, stream_of};
-    ghost use Rattle.lt_loop.specs.Event.{bytes, cuts, failed, fed, goes_on, told, listens, play_due, steps_in, taken_of, IsWanted, Waits, WantsTell};
+    ghost use Rattle.lt_loop.specs.Event.{bytes, cuts, ended_side, failed, fed, goes_on, told, listens, play_due, steps_in, taken_of, IsWanted, Waits, WantsTell};
     ghost use Rattle.lt_loop.specs.Progress.{MovesOn};
     ghost use Rattle.lt_loop.specs.Kept.{adding_none, controller_reads, nothing, one, oracle_reads, reads_reply, Holds, HoldsController, HoldsOracle};
     ghost use Rattle.lt_loop.specs.Side.{IsEmpty};
     ghost use Rattle.lt_loop.specs.Work.{most_work, work_in, work_left};
-    ghost use Rattle.lt_loop.specs.CoreState.{play_once_answered, from_here, play_once_judged, resume, resume_in, play_once_made, PutsOut};
+    ghost use Rattle.lt_loop.specs.CoreState.{core_giving_up, given_up, play_once_answered, from_here, play_once_judged, resume, resume_in, play_once_made, Puts, PutsOut, StaysAhead};
 
     /// The core of a run of which nothing was put out. All that it needs is reserved here.
     ///
-    /// The machine was made with the setup's seed and rule of drawing, and hasn't stepped. Where there is no controller its
-    /// scenario has no inputs. At most 1,000,000 steps are allowed.
+    /// The machine hasn't stepped. Where there is no controller its scenario has no inputs. At most
+    /// 1,000,000 steps are allowed. The header tells the setup's seed and rule of drawing, whatever the
+    /// machine draws by.
     ///
     /// # Errors
     ///
@@ -98,10 +100,10 @@ impl<M: Machine> Core<M> {
             plan_of (M.scene machine) setup) }
         ensures work { IfOk result (λ core. work_left (core_state core) ≡
             setup.limit * most_work + 2) }
-        ensures play { IfOk result (λ core. (c o : Rest) →
-            resume (core_state core) c o ≡
-            play_of M.rules (plan_of (M.scene machine) setup) setup.limit (M.state machine)
-            (stream_of c) (stream_of o)) }
+        ensures play { IfOk result (λ core. (u : Option GivenUp) (c o : Rest) →
+            resume (core_giving_up u (core_state core)) c o ≡
+            play_of (giving_up u M.rules) (plan_of (M.scene machine) setup) setup.limit
+            (M.state machine) (stream_of c) (stream_of o)) }
     {
         let slots = reply_slots(alloc, setup.controller, &machine)?;
         let inputs = first_inputs(alloc, slots.len(), machine.input_vars())?;
@@ -146,8 +148,9 @@ impl<M: Machine> Core<M> {
     /// has ended.
     pub fn event(&mut self, event: Event<'_>) -> Emits
         ensures taken { result.taken ≡ taken_of (core_state self.old) (told event.entry) }
-        ensures out { PutsOut (play_due (told event.entry) result.taken (core_state self.old))
+        ensures out { Puts (play_due (told event.entry) result.taken) (core_state self.old)
             result.piece (last_text self.new) (core_state self.new) }
+        ensures ahead { StaysAhead (core_state self.old) (core_state self.new) }
         ensures wants { WantsTell (core_state self.new) result.wants }
         ensures goes { result.piece ≡ None → result.wants ≢ Wants.Turn }
         ensures counts { (core_state self.new).written ≡
@@ -175,8 +178,9 @@ impl<M: Machine> Core<M> {
     // Takes an event, and goes on. How many bytes were taken, and where the text goes that is put out.
     fn go(&mut self, event: Event<'_>) -> (usize, Option<PieceKind>)
         ensures taken { result.0 ≡ taken_of (core_state self.old) (told event.entry) }
-        ensures out { PutsOut (play_due (told event.entry) result.0 (core_state self.old)) result.1
+        ensures out { Puts (play_due (told event.entry) result.0) (core_state self.old) result.1
             self.new.writer.text.items (core_state self.new) }
+        ensures ahead { StaysAhead (core_state self.old) (core_state self.new) }
         ensures waits { result.1 ≡ None → Waits self.new.phase (core_state self.new) }
         ensures counts { self.new.written ≡ self.old.written + steps_in result.1 }
         ensures plan { (core_state self.new).plan ≡ (core_state self.old).plan }
@@ -211,12 +215,14 @@ impl<M: Machine> Core<M> {
         }
     }
 
-    // Keeps the bytes of a piece for which there is room, if the run has that side and goes on.
-    fn keep(&mut self, side: Who, piece: &[u8]) -> usize
+    /// Keeps the bytes of a piece for which there is room, if the run has that side and goes on; else it
+    /// takes none. The core doesn't go on.
+    pub fn keep(&mut self, side: Who, piece: &[u8]) -> usize
         ensures taken { result ≡ taken_of (core_state self.old) (bytes side piece.now) }
-        ensures same { (c o : Rest) →
-            play_due (bytes side piece.now) result (core_state self.old) c o ≡
-            resume (core_state self.new) c o }
+        ensures same { (u : Option GivenUp) (c o : Rest) →
+            play_due (bytes side piece.now) result (core_giving_up u (core_state self.old)) c o ≡
+            resume (core_giving_up u (core_state self.new)) c o }
+        ensures ahead { StaysAhead (core_state self.old) (core_state self.new) }
         ensures phase { self.new.phase ≡ self.old.phase }
         ensures left { self.new.left ≡ self.old.left }
         ensures written { self.new.written ≡ self.old.written }
@@ -237,10 +243,28 @@ impl<M: Machine> Core<M> {
         }
     }
 
+    /// The end of a side has come. The core doesn't go on, and one that has ended stays so.
+    pub fn close(&mut self, side: Who)
+        ensures same { (u : Option GivenUp) (c o : Rest) →
+            play_due (ended_side side) 0 (core_giving_up u (core_state self.old)) c o ≡
+            resume (core_giving_up u (core_state self.new)) c o }
+        ensures ahead { StaysAhead (core_state self.old) (core_state self.new) }
+        ensures phase { self.new.phase ≡ self.old.phase }
+        ensures left { self.new.left ≡ self.old.left }
+        ensures written { self.new.written ≡ self.old.written }
+        ensures plan { (core_state self.new).plan ≡ (core_state self.old).plan }
+    {
+        match side {
+            Who::Controller => self.controller.is_closed = true,
+            Who::Oracle => self.oracle.is_closed = true,
+        }
+    }
+
     // Ends the run for a fault of a side, if it has that side and goes on.
     fn fail(&mut self, side: Who) -> Option<PieceKind>
-        ensures out { PutsOut (play_due (failed side) 0 (core_state self.old)) result
+        ensures out { Puts (play_due (failed side) 0) (core_state self.old) result
             self.new.writer.text.items (core_state self.new) }
+        ensures ahead { StaysAhead (core_state self.old) (core_state self.new) }
         ensures waits { result ≡ None → Waits self.new.phase (core_state self.new) }
         ensures counts { self.new.written ≡ self.old.written + steps_in result }
         ensures plan { (core_state self.new).plan ≡ (core_state self.old).plan }
@@ -270,8 +294,8 @@ impl<M: Machine> Core<M> {
         goes_on && has_side
     }
 
-    // What is waited for. At `Made` and `Answered` a core could go on.
-    fn wants(&self) -> Wants
+    /// What is waited for.
+    pub fn wants(&self) -> Wants
         ensures tells { WantsTell (core_state self.now) result }
     {
         match self.phase {
@@ -296,8 +320,9 @@ impl<M: Machine> Core<M> {
 
     // Goes on until one piece is put out, or a byte is needed that is not there, or the run has ended.
     fn advance(&mut self) -> Option<PieceKind>
-        ensures out { PutsOut (resume (core_state self.old)) result self.new.writer.text.items
+        ensures out { Puts resume (core_state self.old) result self.new.writer.text.items
             (core_state self.new) }
+        ensures ahead { StaysAhead (core_state self.old) (core_state self.new) }
         ensures waits { result ≡ None → Waits self.new.phase (core_state self.new) }
         ensures counts { self.new.written ≡ self.old.written + steps_in result }
         ensures plan { (core_state self.new).plan ≡ (core_state self.old).plan }
@@ -329,8 +354,9 @@ impl<M: Machine> Core<M> {
     // Makes the next instant.
     fn make_instant(&mut self) -> Option<PieceKind>
         requires { self.old.phase ≡ Phase.Ready }
-        ensures out { PutsOut (from_here (core_state self.old)) result self.new.writer.text.items
+        ensures out { Puts from_here (core_state self.old) result self.new.writer.text.items
             (core_state self.new) }
+        ensures ahead { StaysAhead (core_state self.old) (core_state self.new) }
         ensures waits { result ≡ None → Waits self.new.phase (core_state self.new) }
         ensures counts { self.new.written ≡ self.old.written + steps_in result }
         ensures plan { (core_state self.new).plan ≡ (core_state self.old).plan }
@@ -368,8 +394,9 @@ impl<M: Machine> Core<M> {
     // Tells the controller, if there is one, the outputs of the instant at hand.
     fn ask_controller(&mut self) -> Option<PieceKind>
         requires { self.old.phase ≡ Phase.Made }
-        ensures out { PutsOut (play_once_made (core_state self.old)) result
-            self.new.writer.text.items (core_state self.new) }
+        ensures out { Puts play_once_made (core_state self.old) result self.new.writer.text.items
+            (core_state self.new) }
+        ensures ahead { StaysAhead (core_state self.old) (core_state self.new) }
         ensures waits { result ≡ None → Waits self.new.phase (core_state self.new) }
         ensures counts { self.new.written ≡ self.old.written + steps_in result }
         ensures plan { (core_state self.new).plan ≡ (core_state self.old).plan }
@@ -402,8 +429,9 @@ impl<M: Machine> Core<M> {
     // Reads the controller's reply.
     fn read_controller(&mut self) -> Option<PieceKind>
         requires { self.old.phase ≡ Phase.Controller }
-        ensures out { PutsOut (resume_in Phase.Controller (core_state self.old)) result
+        ensures out { Puts (resume_in Phase.Controller) (core_state self.old) result
             self.new.writer.text.items (core_state self.new) }
+        ensures ahead { StaysAhead (core_state self.old) (core_state self.new) }
         ensures waits { result ≡ None → Waits self.new.phase (core_state self.new) }
         ensures counts { self.new.written ≡ self.old.written + steps_in result }
         ensures plan { (core_state self.new).plan ≡ (core_state self.old).plan }
@@ -444,8 +472,9 @@ impl<M: Machine> Core<M> {
     // Tells the oracle the step at hand, or puts the step out where there is none.
     fn ask_oracle(&mut self) -> Option<PieceKind>
         requires { self.old.phase ≡ Phase.Answered }
-        ensures out { PutsOut (play_once_answered (core_state self.old) self.old.inputs.items)
-            result self.new.writer.text.items (core_state self.new) }
+        ensures out { Puts (λ s. play_once_answered s s.inputs) (core_state self.old) result
+            self.new.writer.text.items (core_state self.new) }
+        ensures ahead { StaysAhead (core_state self.old) (core_state self.new) }
         ensures waits { result ≡ None → Waits self.new.phase (core_state self.new) }
         ensures puts { reads_reply result ≡ one }
         ensures counts { self.new.written ≡ self.old.written + steps_in result }
@@ -470,8 +499,9 @@ impl<M: Machine> Core<M> {
     // Reads the oracle's reply.
     fn read_oracle(&mut self) -> Option<PieceKind>
         requires { self.old.phase ≡ Phase.Oracle }
-        ensures out { PutsOut (resume_in Phase.Oracle (core_state self.old)) result
+        ensures out { Puts (resume_in Phase.Oracle) (core_state self.old) result
             self.new.writer.text.items (core_state self.new) }
+        ensures ahead { StaysAhead (core_state self.old) (core_state self.new) }
         ensures waits { result ≡ None → Waits self.new.phase (core_state self.new) }
         ensures counts { self.new.written ≡ self.old.written + steps_in result }
         ensures plan { (core_state self.new).plan ≡ (core_state self.old).plan }
@@ -510,8 +540,9 @@ impl<M: Machine> Core<M> {
     // Puts out the step that was counted last, and the end where its verdict is false.
     fn put_step(&mut self, verdict: bool) -> Option<PieceKind>
         requires { self.old.phase ≡ Phase.Ready }
-        ensures out { PutsOut (play_once_judged (core_state self.old) verdict) result
+        ensures out { Puts (λ s. play_once_judged s verdict) (core_state self.old) result
             self.new.writer.text.items (core_state self.new) }
+        ensures ahead { StaysAhead (core_state self.old) (core_state self.new) }
         ensures waits { result ≡ None → Waits self.new.phase (core_state self.new) }
         ensures puts { result ≡ Some PieceKind.Step }
         ensures counts { self.new.written ≡ self.old.written }
@@ -545,19 +576,42 @@ impl<M: Machine> Core<M> {
 
     // Ends the run, with its end line.
     fn end(&mut self, end: End) -> Option<PieceKind>
-        ensures out { PutsOut (λ c o.
+        ensures out { (u : Option GivenUp) → PutsOut (λ c o.
             ended (core_state self.old).plan end (end_number end self.old.written)) result
-            self.new.writer.text.items (core_state self.new) }
+            self.new.writer.text.items (core_giving_up u (core_state self.new)) }
         ensures waits { result ≡ None → Waits self.new.phase (core_state self.new) }
         ensures puts { result ≡ Some PieceKind.EndLine }
         ensures counts { self.new.written ≡ self.old.written }
         ensures plan { (core_state self.new).plan ≡ (core_state self.old).plan }
-        ensures over { goes_on self.new.phase ≡ false }
+        ensures over { self.new.phase ≡ Phase.Over end }
         ensures controller { side_state self.new.controller ≡ side_state self.old.controller }
         ensures oracle { side_state self.new.oracle ≡ side_state self.old.oracle }
         ensures falls { work_left (core_state self.new) ≡ 0 }
     {
-        let number = end.number(self.written);
+        self.end_after(end, self.written)
+    }
+
+    /// Ends the run as one of which so many steps were put out, with its end line. It is for a caller
+    /// that puts steps out later than the core does, or not at all: a core that has ended puts out
+    /// another end line, and then has ended so.
+    pub fn end_after(&mut self, end: End, steps: u64) -> Option<PieceKind>
+        requires { steps ≤ most_steps }
+        ensures out { (u : Option GivenUp) → PutsOut (λ c o.
+            ended (core_state self.old).plan end (end_number end steps)) result
+            self.new.writer.text.items (core_giving_up u (core_state self.new)) }
+        ensures waits { result ≡ None → Waits self.new.phase (core_state self.new) }
+        ensures puts { result ≡ Some PieceKind.EndLine }
+        ensures counts { self.new.written ≡ self.old.written }
+        ensures plan { (core_state self.new).plan ≡ (core_state self.old).plan }
+        ensures over { self.new.phase ≡ Phase.Over end }
+        ensures ahead { goes_on self.old.phase ≡ true →
+            given_up end self.old.written ≡ None →
+            StaysAhead (core_state self.old) (core_state self.new) }
+        ensures controller { side_state self.new.controller ≡ side_state self.old.controller }
+        ensures oracle { side_state self.new.oracle ≡ side_state self.old.oracle }
+        ensures falls { work_left (core_state self.new) ≡ 0 }
+    {
+        let number = end.number(steps);
         self.writer.make_end(end, self.machine.names(), number);
         self.phase = Phase::Over(end);
         Some(PieceKind::EndLine)

@@ -14,7 +14,7 @@ use Rattle.lt_macros.specs.Environment.{Environment}
 use Rattle.lt_macros.specs.Expanded as x
 use Rattle.lt_macros.specs.Literals.{number_at}
 use Rattle.lt_macros.specs.Placed.{Placed, meaningless}
-use Rattle.lt_macros.specs.Denotation.{Denotation, Numbers, Numbered, as_expression, as_trace, around_two, behind_term, trace_denotation, traces_denotation}
+use Rattle.lt_macros.specs.Denotation.{Denotation, Numbers, ExpandedTrace, as_expression, as_trace, around_two, behind_term, trace_denotation, traces_denotation}
 use Rattle.lt_macros.specs.inner.Builder.{Builds, IsBuilt, IsKept, IsReady, names_at, work_at}
 use Rattle.lt_macros.specs.inner.Handing.{AreRight}
 use Rattle.lt_macros.specs.inner.HeadNormalForm.{AddsTo, form_reads}
@@ -92,7 +92,7 @@ pub seen_expression : (e f : Placed) → an_expression e ≡ an_expression f →
 unfolding expression_in
 seen_expression e f h = ap expression_in h
 
-pub seen_trace : (t u : Numbered) → a_trace t ≡ a_trace u → t ≡ u
+pub seen_trace : (t u : ExpandedTrace) → a_trace t ≡ a_trace u → t ≡ u
 seen_trace t u h = cc
 
 -- traces that are joined mean nothing as an expression

@@ -18,7 +18,7 @@ use Rattle.lt_ast.specs.declared.trace.TraceExpr.{TraceExpr}
 use Rattle.lt_formula.specs.declared.memory.Memory.{Memory}
 use Rattle.lt_macros.specs.Environment.{Environment, found_exception}
 use Rattle.lt_macros.specs.Expanded as x
-use Rattle.lt_macros.specs.Denotation.{Denotation, Numbers, Numbered, NumberedParts, alone, alternative_denotation, around_one, around_two, as_trace, as_expression, before_parts, behind_term, bounds_of, caught_as, exp_denotation, handler_denotation, parts_of, raised_as, repeated, trace_denotation, traces_denotation, weight_of}
+use Rattle.lt_macros.specs.Denotation.{Denotation, Numbers, ExpandedTrace, ExpandedParts, alone, alternative_denotation, around_one, around_two, as_trace, as_expression, before_parts, behind_term, bounds_of, caught_as, exp_denotation, handler_denotation, parts_of, raised_as, repeated, trace_denotation, traces_denotation, weight_of}
 use Rattle.lt_macros.specs.inner.Builder.{IsKept, names_at, trace_at, value_at}
 use Rattle.lt_macros.specs.inner.Built.{AreBuilt, behind_turns, in_two, items_onto, looped, numbered, parts_onto}
 use Rattle.lt_macros.specs.inner.HeadNormalForm.{form_reads}
@@ -28,8 +28,8 @@ use Rattle.lt_macros.specs.inner.Numbers.{numbers_view}
 use Rattle.lt_macros.specs.Tree.{expanded, part_row, parts, placed}
 use Rattle.lt_macros.specs.inner.Work.{alternative_work, alternatives_work, trace_work, traces_work}
 use Rattle.lt_macros.specs.declared.builder.Builder.{Builder}
-use Rattle.lt_macros.specs.declared.build.Numbered as code
-use Rattle.lt_macros.specs.declared.build.Two.{Two}
+use Rattle.lt_macros.specs.declared.build.ExpandedTrace as code
+use Rattle.lt_macros.specs.declared.build.TwoTraces.{TwoTraces}
 use Rattle.lt_macros.specs.declared.head_normal_form.HeadNormalForm.{HeadNormalForm}
 use Rattle.lt_macros.specs.declared.head_normal_form.HeadNormalForm.TheVariants.{Raise, Catch}
 use Rattle.lt_macros.specs.declared.scope.Declared.{Declared as Raised}
@@ -42,11 +42,11 @@ use Rattle.lt_macros.specs.declared.tree.Placed.{Placed as Expression}
 use Rattle.lt_macros.proofs.Building.{names_kept}
 
 -- a trace of a phrase, where the builder is kept, and the numbers are others that are the same
-pub built_where : (old now : Builder) (k : ℕ) (q : Phrase) (n m : Numbers) (b : Numbered) → IsKept old now → m ≡ n → b ≡ as_trace (phrase_denotation (names_at now k) q) m → b ≡ as_trace (phrase_denotation (names_at old k) q) n
+pub built_where : (old now : Builder) (k : ℕ) (q : Phrase) (n m : Numbers) (b : ExpandedTrace) → IsKept old now → m ≡ n → b ≡ as_trace (phrase_denotation (names_at now k) q) m → b ≡ as_trace (phrase_denotation (names_at old k) q) n
 built_where old now k q n m b kept is h = h ∙ (λ i. as_trace (phrase_denotation (names_kept old now k kept i) q) (is i))
 
 -- two traces
-pub two_built : (old now : Builder) (k : ℕ) (p q : Phrase) (n m : Numbers) (before behind : code.Numbered) (t : Two) → IsKept old now → m ≡ behind_term n
+pub two_built : (old now : Builder) (k : ℕ) (p q : Phrase) (n m : Numbers) (before behind : code.ExpandedTrace) (t : TwoTraces) → IsKept old now → m ≡ behind_term n
     → t.first ≡ before.expanded → t.second ≡ behind.expanded → t.after ≡ behind.after
     → numbered before ≡ as_trace (phrase_denotation (names_at old k) p) m
     → numbered behind ≡ as_trace (phrase_denotation (names_at now k) q) (numbers_view before.after)
@@ -63,11 +63,11 @@ two_built old now k p q n m before behind t kept is v w a h g =
     }
 
 -- two traces in one
-pub joined_built : (f : x.Expanded → x.Expanded → x.Expanded) (t : Two) (first : Numbered) (second : Numbers → Numbered) → AreBuilt t first second → in_two f t ≡ around_two f first second
+pub joined_built : (f : x.Expanded → x.Expanded → x.Expanded) (t : TwoTraces) (first : ExpandedTrace) (second : Numbers → ExpandedTrace) → AreBuilt t first second → in_two f t ≡ around_two f first second
 joined_built f t first second h = λ i. record { expanded = f (h.first_is i) (h.second_is i); after = h.after_is i }
 
 -- an exception that is raised
-pub raise_built : (d : ℕ) (rows : List Entry) (h : HeadNormalForm) (name : Bor Name) (k : ℕ) (n : Numbers) (found : Option Raised) (text : List ℕ) (r : Result code.Numbered Memory) → h ≡ Raise name k → text ≡ (word name.now).text
+pub raise_built : (d : ℕ) (rows : List Entry) (h : HeadNormalForm) (name : Bor Name) (k : ℕ) (n : Numbers) (found : Option Raised) (text : List ℕ) (r : Result code.ExpandedTrace Memory) → h ≡ Raise name k → text ≡ (word name.now).text
     → found_exception (environment (meant d) rows k).exceptions text ≡ raised_by (meant d) found
     → IfOk r (λ b. (decimals : ℕ) → numbered b ≡ alone (raised_as (raised_by (meant decimals) found)) n) → IfOk r (λ b. numbered b ≡ as_trace (form_reads (meant d) rows h) n)
 raise_built d rows h name k n found text r is text_is found_is done =
@@ -78,7 +78,7 @@ raise_built d rows h name k n found text r is text_is found_is done =
     IfOk-weaker r (λ b. (decimals : ℕ) → numbered b ≡ alone (raised_as (raised_by (meant decimals) found)) n) (λ b. numbered b ≡ as_trace (form_reads (meant d) rows h) n) (λ b same. same d ∙ read) done
 
 -- an exception that is caught
-pub catch_built : (d : ℕ) (old now : List Entry) (h : HeadNormalForm) (name : Bor Name) (t : Bor TraceExpr) (handler : Bor (Option (Box TraceExpr Global))) (k : ℕ) (n : Numbers) (found : Option Raised) (text : List ℕ) (two : Two) (r : Result code.Numbered Memory)
+pub catch_built : (d : ℕ) (old now : List Entry) (h : HeadNormalForm) (name : Bor Name) (t : Bor TraceExpr) (handler : Bor (Option (Box TraceExpr Global))) (k : ℕ) (n : Numbers) (found : Option Raised) (text : List ℕ) (two : TwoTraces) (r : Result code.ExpandedTrace Memory)
     → h ≡ Catch name t handler k → text ≡ (word name.now).text → now ≡ old → found_exception (environment (meant d) now k).exceptions text ≡ raised_by (meant d) found
     → AreBuilt two (as_trace (trace_denotation (environment (meant d) old k) (trace_view t.now)) (behind_term n)) (as_trace (handler_denotation (environment (meant d) old k) (maybe_trace handler.now)))
     → IfOk r (λ b. (decimals : ℕ) → numbered b ≡ in_two (caught_as (raised_by (meant decimals) found)) two) → IfOk r (λ b. numbered b ≡ as_trace (form_reads (meant d) old h) n)
@@ -94,7 +94,7 @@ catch_built d old now h name t handler k n found text two r is text_is same foun
     IfOk-weaker r (λ b. (decimals : ℕ) → numbered b ≡ in_two (caught_as (raised_by (meant decimals) found)) two) (λ b. numbered b ≡ as_trace (form_reads (meant d) old h) n) (λ b same. same d ∙ read) done
 
 -- a trace with a constraint that holds
-pub assert_built : (old now : Builder) (k : ℕ) (e : Exp) (t : Trace) (n m : Numbers) (constraint : Expression) (inner : code.Numbered) → IsKept old now → m ≡ behind_term n
+pub assert_built : (old now : Builder) (k : ℕ) (e : Exp) (t : Trace) (n m : Numbers) (constraint : Expression) (inner : code.ExpandedTrace) → IsKept old now → m ≡ behind_term n
     → placed constraint ≡ value_at now k e → numbered inner ≡ trace_at old k t m
     → record { expanded = x.assert (placed constraint) (expanded inner.expanded.value); after = numbers_view inner.after } ≡ trace_at old k (s.assert e t) n
 assert_built old now k e t n m constraint inner kept is made h =
@@ -104,17 +104,17 @@ assert_built old now k e t n m constraint inner kept is made h =
     (λ i. record { expanded = x.assert (holds i) (expanded inner.expanded.value); after = numbers_view inner.after }) ∙ ap (around_one (x.assert (as_expression (exp_denotation env e)))) inside
 
 -- a loop, whose counter has this number where it has one
-loops : (env : Environment Denotation) (l : Limits) (body : Numbers → Numbered) (n : Numbers) → around_one (looped (bounds_of env l) n.counter) (body (behind_turns l n)) ≡ repeated (bounds_of env l) body n
+loops : (env : Environment Denotation) (l : Limits) (body : Numbers → ExpandedTrace) (n : Numbers) → around_one (looped (bounds_of env l) n.counter) (body (behind_turns l n)) ≡ repeated (bounds_of env l) body n
 loops env s.forever body n = refl
 loops env (s.between d e) body n = refl
 loops env (s.around d e) body n = refl
 
-pub loop_built : (old now : Builder) (k : ℕ) (l : Limits) (t : Trace) (n m : Numbers) (turns : Option x.Bounds) (turn : code.Numbered) → IsKept old now → m ≡ behind_turns l n
+pub loop_built : (old now : Builder) (k : ℕ) (l : Limits) (t : Trace) (n m : Numbers) (turns : Option x.Bounds) (turn : code.ExpandedTrace) → IsKept old now → m ≡ behind_turns l n
     → turns ≡ bounds_of (names_at now k) l → numbered turn ≡ trace_at old k t m
     → record { expanded = looped turns n.counter (expanded turn.expanded.value); after = numbers_view turn.after } ≡ trace_at old k (s.loop l t) n
 loop_built old now k l t n m turns turn kept is bounds h =
     let env = names_at old k in
-    let body : Numbers → Numbered = as_trace (trace_denotation env t) in
+    let body : Numbers → ExpandedTrace = as_trace (trace_denotation env t) in
     let bounds' : turns ≡ bounds_of env l = bounds ∙ ap (λ names. bounds_of names l) (names_kept old now k kept) in
     let inside : numbered turn ≡ body (behind_turns l n) = h ∙ ap body is in
     (λ i. record { expanded = looped (bounds' i) n.counter (expanded turn.expanded.value); after = numbers_view turn.after }) ∙ ap (around_one (looped (bounds_of env l) n.counter)) inside ∙ loops env l body n
@@ -140,13 +140,13 @@ parts_from written place a h is =
     ap (λ as'. alternatives_of (map part_of as')) (drop-cons written place a h ∙ (λ i. sym is i ∷ drop (next i) written))
 
 -- one more alternative is built
-pub part_built : (env : Environment Denotation) (written : List Alternative) (place : ℕ) (a : Alternative) (items more : List Part) (w : Expression) (b : code.Numbered) (n : Numbers) (all : NumberedParts) → place < length written → a ≡ get_or written place a
+pub part_built : (env : Environment Denotation) (written : List Alternative) (place : ℕ) (a : Alternative) (items more : List Part) (w : Expression) (b : code.ExpandedTrace) (n : Numbers) (all : ExpandedParts) → place < length written → a ≡ get_or written place a
     → more ≡ items ++ record { weight = w; body = b.expanded } ∷ [] → placed w ≡ weight_of env (part_of a) → numbered b ≡ as_trace (trace_denotation env (trace_view a.body)) n
     → parts_onto items (parts_of env (alternatives_of (map part_of (drop place written))) n) ≡ all
     → parts_onto more (parts_of env (alternatives_of (map part_of (drop (place + 1) written))) (numbers_view b.after)) ≡ all
 part_built env written place a items more w b n all h is pushed weight body so_far =
     let rest = alternatives_of (map part_of (drop (place + 1) written)) in
-    let left : NumberedParts = parts_of env rest (numbers_view b.after) in
+    let left : ExpandedParts = parts_of env rest (numbers_view b.after) in
     (λ i. record { parts = items_onto (pushed i) left.parts; after = left.after })
     ∙ (λ i. record { parts = items_onto-append items (record { weight = w; body = b.expanded } ∷ []) left.parts i; after = left.after })
     ∙ (λ i. parts_onto items (before_parts (weight i) (body i) (parts_of env rest)))
@@ -173,7 +173,7 @@ unfolding out-Parts out shown-the_row-Part-0
 parts_list (Parts' shape row) = part_row-list row ∙ ap (λ items. items_onto items x.no_part) (sym (items_shown-the_row-Part-0 shape row))
 
 -- at the end all alternatives are built
-pub parts_whole : (env : Environment Denotation) (written : List Alternative) (place : ℕ) (items : Vec Part Global) (n : Numbers) (all : NumberedParts) → length written ≤ place
+pub parts_whole : (env : Environment Denotation) (written : List Alternative) (place : ℕ) (items : Vec Part Global) (n : Numbers) (all : ExpandedParts) → length written ≤ place
     → parts_onto items.items (parts_of env (alternatives_of (map part_of (drop place written))) n) ≡ all
     → record { parts = parts (roll-Parts (record { items = items })); after = n } ≡ all
 parts_whole env written place items n all h so_far =

@@ -9,17 +9,17 @@ use Rattle.lt_macros.specs.Environment.{Environment, variable, with_name, with_v
 use Rattle.lt_macros.specs.Expanded as x
 use Rattle.lt_macros.specs.Expanded.{Declared}
 use Rattle.lt_macros.specs.Expansion.{groups_variables, with_groups}
-use Rattle.lt_macros.specs.Denotation.{Denotation, Numbers, Numbered, around_one, as_trace, behind_local, declared_as, first_of, in_groups, in_locals, trace_denotation}
+use Rattle.lt_macros.specs.Denotation.{Denotation, Numbers, ExpandedTrace, around_one, as_trace, behind_local, declared_as, first_of, in_groups, in_locals, trace_denotation}
 use Rattle.lt_macros.specs.inner.Built.{in_all, numbered}
 use Rattle.lt_macros.specs.inner.Numbers.{numbers_view}
 use Rattle.lt_macros.specs.Tree.{declared, expanded}
 use Rattle.lt_macros.specs.inner.Work.{groups_work, trace_work}
-use Rattle.lt_macros.specs.declared.build.Numbered as code
+use Rattle.lt_macros.specs.declared.build.ExpandedTrace as code
 use Rattle.lt_macros.specs.declared.tree.Declared.{Declared as Tree}
 use Rattle.lt_macros.specs.declared.tree.Expanded.{Expanded as TraceTree}
 
 -- a trace inside locals
-abbrev around_all : ℕ → List Declared → Numbered → Numbered
+abbrev around_all : ℕ → List Declared → ExpandedTrace → ExpandedTrace
 around_all i ds inside = record { expanded = in_all i ds inside.expanded; after = inside.after }
 
 -- the numbers behind these
@@ -49,7 +49,7 @@ all-append i j [] es inside h = ap (λ k. in_all k es inside) (omega (arith, h))
 all-append i j (d ∷ ds) es inside h = ap (x.exist i d) (all-append (suc i) j ds es inside (omega (arith, h)))
 
 -- locals of these names
-locals_are : (declares : Word → Declared) (ws : List Word) (env : Environment Denotation) (body : Environment Denotation → Numbers → Numbered) (n : Numbers)
+locals_are : (declares : Word → Declared) (ws : List Word) (env : Environment Denotation) (body : Environment Denotation → Numbers → ExpandedTrace) (n : Numbers)
     → in_locals declares ws env body n ≡ around_all n.local (map declares ws) (body (with_variables Local n.local ws env) (behind_all (map declares ws) n))
 locals_are declares [] env body n = ap (body env) (behind_none n)
 locals_are declares (w ∷ ws) env body n =
@@ -57,7 +57,7 @@ locals_are declares (w ∷ ws) env body n =
     ∙ ap (λ m. around_all n.local (map declares (w ∷ ws)) (body (with_variables Local n.local (w ∷ ws) env) m)) (behind_one (declares w) (map declares ws) n)
 
 -- locals of groups
-groups_are : (gs : Groupings) (env : Environment Denotation) (body : Environment Denotation → Numbers → Numbered) (n : Numbers)
+groups_are : (gs : Groupings) (env : Environment Denotation) (body : Environment Denotation → Numbers → ExpandedTrace) (n : Numbers)
     → in_groups env gs body n ≡ around_all n.local (groups_variables Local n.local env gs) (body (with_groups Local n.local gs env) (behind_all (groups_variables Local n.local env gs) n))
 groups_are s.no_groups env body n = ap (body env) (behind_none n)
 groups_are (s.one_group (s.grouping ws type ref range first) gs) env body n =
@@ -76,7 +76,7 @@ groups_are (s.one_group (s.grouping ws type ref range first) gs) env body n =
     ∙ ap (λ m. around_all n.local (ds ++ groups_variables Local (n.local + names) inner gs) (body (with_groups Local (n.local + names) gs inner) m)) (behind_both ds (groups_variables Local (n.local + names) inner gs) n)
 
 -- a trace with locals, as it is built
-pub exist_built : (env inner : Environment Denotation) (gs : Groupings) (t : Trace) (n inside : Numbers) (items : List Tree) (next : ℕ) (tree : x.Expanded) (b : code.Numbered)
+pub exist_built : (env inner : Environment Denotation) (gs : Groupings) (t : Trace) (n inside : Numbers) (items : List Tree) (next : ℕ) (tree : x.Expanded) (b : code.ExpandedTrace)
     → map declared items ≡ groups_variables Local n.local env gs → inner ≡ with_groups Local n.local gs env → next ≡ n.local + length items
     → inside ≡ record { term = n.term + (next - n.local); local = next; counter = n.counter } → numbered b ≡ as_trace (trace_denotation inner t) inside
     → tree ≡ in_all (next - length items) (map declared items) (expanded b.expanded.value)

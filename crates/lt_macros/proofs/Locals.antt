@@ -9,7 +9,7 @@ use Rattle.lt_macros.specs.Placed.{Placed}
 use Rattle.lt_macros.specs.Expanded.{Declared, Bounds, Expanded, eps, dead, con, raise, seq, loop, count, any, pri, par, assert, exist, catch, try, Parts, no_part, part}
 use Rattle.lt_macros.specs.Environment.{Binding, variable, parameter, macro, Raised, deadlock, declared, NamedBinding, Environment, found, found_exception, with_name, with_arguments, with_variables, with_exceptions}
 use Rattle.lt_macros.specs.Scoping.{IsOne, IsOpen, NamesOnly, AreInside, AreEachInside}
-use Rattle.lt_macros.specs.Denotation.{Numbers, Numbered, behind_term, behind_local, behind_counter, Denotation, expression, trace, as_expression, as_trace, standing_for, before, macro_name, parameter_names, caught_as, raised_as, repeated, bounds_of, in_locals, in_group, in_groups, caught, exp_denotation, argument_denotation, argument_denotations, braces_denotation, weight_of, alternative_denotation, parts_of, traces_denotation, handler_denotation, meaning_denotation, macro_denotation, trace_denotation}
+use Rattle.lt_macros.specs.Denotation.{Numbers, ExpandedTrace, behind_term, behind_local, behind_counter, Denotation, expression, trace, as_expression, as_trace, standing_for, before, macro_name, parameter_names, caught_as, raised_as, repeated, bounds_of, in_locals, in_group, in_groups, caught, exp_denotation, argument_denotation, argument_denotations, braces_denotation, weight_of, alternative_denotation, parts_of, traces_denotation, handler_denotation, meaning_denotation, macro_denotation, trace_denotation}
 
 -- These are among those.
 abbrev Among : List ℕ → List ℕ → Type 0
@@ -148,7 +148,7 @@ as_closed xs (expression e) n h = h
 as_closed xs (trace f) n h = h n
 
 -- a trace that a place in a text stands for, wherever the names are closed
-abbrev IsClosedBody : List ℕ → (Environment Denotation → Numbers → Numbered) → Type 0
+abbrev IsClosedBody : List ℕ → (Environment Denotation → Numbers → ExpandedTrace) → Type 0
 IsClosedBody xs body = (more : List ℕ) → Among xs more → (env : Environment Denotation) → AreClosedNames more env.names → (n : Numbers) → AreInside more (body env n).expanded
 
 -- a trace of two others names what these do
@@ -163,11 +163,11 @@ raised_closed : (xs : List ℕ) (r : Raised) → AreInside xs (raised_as r)
 raised_closed xs deadlock = tt
 raised_closed xs (declared z) = tt
 
-repeated_closed : (xs : List ℕ) (o : Option Bounds) (body : Numbers → Numbered) → ((n : Numbers) → AreInside xs (body n).expanded) → (n : Numbers) → AreInside xs (repeated o body n).expanded
+repeated_closed : (xs : List ℕ) (o : Option Bounds) (body : Numbers → ExpandedTrace) → ((n : Numbers) → AreInside xs (body n).expanded) → (n : Numbers) → AreInside xs (repeated o body n).expanded
 repeated_closed xs None body h n = h (behind_term n)
 repeated_closed xs (Some b) body h n = h (behind_counter n)
 
-locals_closed : (xs : List ℕ) (declares : Word → Declared) (ws : List Word) (env : Environment Denotation) (body : Environment Denotation → Numbers → Numbered) → IsClosedBody xs body → AreClosedNames xs env.names → (n : Numbers) → AreInside xs (in_locals declares ws env body n).expanded
+locals_closed : (xs : List ℕ) (declares : Word → Declared) (ws : List Word) (env : Environment Denotation) (body : Environment Denotation → Numbers → ExpandedTrace) → IsClosedBody xs body → AreClosedNames xs env.names → (n : Numbers) → AreInside xs (in_locals declares ws env body n).expanded
 locals_closed xs declares [] env body h g n = h xs (among_itself xs) env g n
 locals_closed xs declares (w ∷ ws) env body h g n =
     locals_closed (n.local ∷ xs) declares ws (with_name w.text (variable role.Local n.local) env) body
@@ -175,10 +175,10 @@ locals_closed xs declares (w ∷ ws) env body h g n =
     (inl refl, names_more xs (n.local ∷ xs) env.names (among_next n.local xs) g)
     (behind_local n)
 
-group_closed : (xs : List ℕ) (env : Environment Denotation) (gr : Grouping) (body : Environment Denotation → Numbers → Numbered) → IsClosedBody xs body → AreClosedNames xs env.names → (n : Numbers) → AreInside xs (in_group env gr body n).expanded
+group_closed : (xs : List ℕ) (env : Environment Denotation) (gr : Grouping) (body : Environment Denotation → Numbers → ExpandedTrace) → IsClosedBody xs body → AreClosedNames xs env.names → (n : Numbers) → AreInside xs (in_group env gr body n).expanded
 group_closed xs env (s.grouping ws type ref range first) body h g n = locals_closed xs _ ws env body h g n
 
-groups_closed : (xs : List ℕ) (env : Environment Denotation) (gs : Groupings) (body : Environment Denotation → Numbers → Numbered) → IsClosedBody xs body → AreClosedNames xs env.names → (n : Numbers) → AreInside xs (in_groups env gs body n).expanded
+groups_closed : (xs : List ℕ) (env : Environment Denotation) (gs : Groupings) (body : Environment Denotation → Numbers → ExpandedTrace) → IsClosedBody xs body → AreClosedNames xs env.names → (n : Numbers) → AreInside xs (in_groups env gs body n).expanded
 groups_closed xs env s.no_groups body h g n = h xs (among_itself xs) env g n
 groups_closed xs env (s.one_group gr gs) body h g n =
     group_closed xs env gr (λ inner. in_groups inner gs body) (λ more a inner k m. groups_closed more inner gs body (λ most b. h most (λ i o. b i (a i o))) k m) g n

@@ -23,7 +23,7 @@ use Rattle.lt_macros.specs.Environment.{Binding, variable, parameter, macro, Rai
 use Rattle.lt_macros.specs.Expansion.{group_variables, groups_variables, with_group, with_groups, node_of, is_wanted, node_among}
 use Rattle.lt_macros.specs.Literals.{kind_of, range_of, limited, from_to, most_drawn_raw, most_unranged, step_raw, written_points}
 use Rattle.lt_macros.specs.Naming.{IsOneOf, IsNamed, AreNamed, AreEachNamed, HaveDomains, NamesWhatIsThere, NamesAreThere}
-use Rattle.lt_macros.specs.Denotation.{Numbers, Numbered, behind_term, behind_local, behind_counter, Denotation, expression, trace, as_expression, as_trace, standing_for, before, macro_name, parameter_names, declared_as, first_of, group_names, caught_as, raised_as, repeated, bounds_of, in_locals, in_group, in_groups, caught, exp_denotation, argument_denotation, argument_denotations, braces_denotation, weight_of, alternative_denotation, parts_of, traces_denotation, handler_denotation, meaning_denotation, macro_denotation, trace_denotation}
+use Rattle.lt_macros.specs.Denotation.{Numbers, ExpandedTrace, behind_term, behind_local, behind_counter, Denotation, expression, trace, as_expression, as_trace, standing_for, before, macro_name, parameter_names, declared_as, first_of, group_names, caught_as, raised_as, repeated, bounds_of, in_locals, in_group, in_groups, caught, exp_denotation, argument_denotation, argument_denotations, braces_denotation, weight_of, alternative_denotation, parts_of, traces_denotation, handler_denotation, meaning_denotation, macro_denotation, trace_denotation}
 
 -- Ranges.
 
@@ -182,7 +182,7 @@ as_named ins outs (expression e) n h = h
 as_named ins outs (trace f) n h = h n
 
 -- a trace that a place in a text stands for, wherever the names are known
-abbrev IsNamedBody : ℕ → ℕ → (Environment Denotation → Numbers → Numbered) → Type 0
+abbrev IsNamedBody : ℕ → ℕ → (Environment Denotation → Numbers → ExpandedTrace) → Type 0
 IsNamedBody ins outs body = (env : Environment Denotation) → AreKnownNames ins outs env.names → (n : Numbers) → AreNamed ins outs (body env n).expanded
 
 -- a trace of two others names what these do
@@ -197,23 +197,23 @@ raised_named : (ins outs : ℕ) (r : Raised) → AreNamed ins outs (raised_as r)
 raised_named ins outs deadlock = tt
 raised_named ins outs (declared z) = tt
 
-repeated_named : (ins outs : ℕ) (o : Option Bounds) (body : Numbers → Numbered) → ((n : Numbers) → AreNamed ins outs (body n).expanded) → (n : Numbers) → AreNamed ins outs (repeated o body n).expanded
+repeated_named : (ins outs : ℕ) (o : Option Bounds) (body : Numbers → ExpandedTrace) → ((n : Numbers) → AreNamed ins outs (body n).expanded) → (n : Numbers) → AreNamed ins outs (repeated o body n).expanded
 repeated_named ins outs None body h n = h (behind_term n)
 repeated_named ins outs (Some b) body h n = h (behind_counter n)
 
 locals_named : (ins outs : ℕ) (declares : Word → Declared) → ((w : Word) → IsDomain (declares w).kind (declares w).range)
-    → (ws : List Word) (env : Environment Denotation) (body : Environment Denotation → Numbers → Numbered) → IsNamedBody ins outs body
+    → (ws : List Word) (env : Environment Denotation) (body : Environment Denotation → Numbers → ExpandedTrace) → IsNamedBody ins outs body
     → AreKnownNames ins outs env.names → (n : Numbers) → AreNamed ins outs (in_locals declares ws env body n).expanded
 locals_named ins outs declares d [] env body h g n = h env g n
 locals_named ins outs declares d (w ∷ ws) env body h g n =
     (d w, locals_named ins outs declares d ws (with_name w.text (variable role.Local n.local) env) body h (tt, g) (behind_local n))
 
-group_named : (ins outs : ℕ) (env : Environment Denotation) (gr : Grouping) (body : Environment Denotation → Numbers → Numbered) → IsNamedBody ins outs body → AreKnownNames ins outs env.names → (n : Numbers)
+group_named : (ins outs : ℕ) (env : Environment Denotation) (gr : Grouping) (body : Environment Denotation → Numbers → ExpandedTrace) → IsNamedBody ins outs body → AreKnownNames ins outs env.names → (n : Numbers)
     → AreNamed ins outs (in_group env gr body n).expanded
 group_named ins outs env (s.grouping ws type ref range first) body h g n =
     locals_named ins outs (declared_as role.Local env type range (first_of env first)) (λ w. range_domain env.decimals role.Local (kind_of type) range) ws env body h g n
 
-groups_named : (ins outs : ℕ) (env : Environment Denotation) (gs : Groupings) (body : Environment Denotation → Numbers → Numbered) → IsNamedBody ins outs body → AreKnownNames ins outs env.names
+groups_named : (ins outs : ℕ) (env : Environment Denotation) (gs : Groupings) (body : Environment Denotation → Numbers → ExpandedTrace) → IsNamedBody ins outs body → AreKnownNames ins outs env.names
     → (n : Numbers) → AreNamed ins outs (in_groups env gs body n).expanded
 groups_named ins outs env s.no_groups body h g n = h env g n
 groups_named ins outs env (s.one_group gr gs) body h g n = group_named ins outs env gr (λ inner. in_groups inner gs body) (λ inner k m. groups_named ins outs inner gs body h k m) g n

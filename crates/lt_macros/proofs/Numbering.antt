@@ -9,19 +9,19 @@ use Rattle.lt_macros.specs.Placed as p
 use Rattle.lt_macros.specs.Expanded.{Declared, Bounds, Expanded, seq, pri, par, try}
 use Rattle.lt_macros.specs.Environment.{Binding, variable, parameter, macro, Raised, deadlock, declared, NamedBinding, Environment, found, found_exception, with_name, with_arguments, with_variables, with_exceptions}
 use Rattle.lt_macros.specs.Numbering.{local_numbers, local_numbers_in, counter_numbers, counter_numbers_in, Follow}
-use Rattle.lt_macros.specs.Denotation.{Numbers, Numbered, NumberedParts, behind_term, behind_local, behind_counter, Denotation, expression, trace, as_trace, standing_for, before, macro_name, parameter_names, caught_as, raised_as, repeated, bounds_of, in_locals, in_group, in_groups, caught, exp_denotation, argument_denotation, argument_denotations, braces_denotation, alternative_denotation, parts_of, traces_denotation, handler_denotation, meaning_denotation, macro_denotation, trace_denotation}
+use Rattle.lt_macros.specs.Denotation.{Numbers, ExpandedTrace, ExpandedParts, behind_term, behind_local, behind_counter, Denotation, expression, trace, as_trace, standing_for, before, macro_name, parameter_names, caught_as, raised_as, repeated, bounds_of, in_locals, in_group, in_groups, caught, exp_denotation, argument_denotation, argument_denotations, braces_denotation, alternative_denotation, parts_of, traces_denotation, handler_denotation, meaning_denotation, macro_denotation, trace_denotation}
 
 follow_both : (i : ℕ) (ks : List ℕ) (j : ℕ) (ls : List ℕ) (k : ℕ) → Follow i ks j → Follow j ls k → Follow i (ks ++ ls) k
 follow_both i [] j ls k f g = subst (λ n. Follow n ls k) (sym f) g
 follow_both i (l ∷ ks) j ls k f g = (f.0, follow_both (suc i) ks j ls k f.1 g)
 
 -- A trace uses all numbers from these up to the next ones.
-pub record Uses (n : Numbers) (x : Numbered) : Type 0 where
+pub record Uses (n : Numbers) (x : ExpandedTrace) : Type 0 where
   pub locals : Follow n.local (local_numbers x.expanded) x.after.local
   pub counters : Follow n.counter (counter_numbers x.expanded) x.after.counter
 
 -- So do traces to choose from.
-record UsesInParts (n : Numbers) (ps : NumberedParts) : Type 0 where
+record UsesInParts (n : Numbers) (ps : ExpandedParts) : Type 0 where
   locals : Follow n.local (local_numbers_in ps.parts) ps.after.local
   counters : Follow n.counter (counter_numbers_in ps.parts) ps.after.counter
 
@@ -90,7 +90,7 @@ as_sound (expression e) n h = record { locals = refl; counters = refl }
 as_sound (trace f) n h = h n
 
 -- a trace that a place in a text stands for, wherever the names are sound
-abbrev IsSoundBody : (Environment Denotation → Numbers → Numbered) → Type 0
+abbrev IsSoundBody : (Environment Denotation → Numbers → ExpandedTrace) → Type 0
 IsSoundBody body = (env : Environment Denotation) → AreSoundNames env.names → (n : Numbers) → Uses n (body env n)
 
 -- a trace of two others has the numbers of both
@@ -106,26 +106,26 @@ raised_uses : (n : Numbers) (r : Raised) → Uses n (record { expanded = raised_
 raised_uses n deadlock = record { locals = refl; counters = refl }
 raised_uses n (declared z) = record { locals = refl; counters = refl }
 
-two_use : (f : Expanded → Expanded → Expanded) → Joins f → (n : Numbers) (a b : Numbered) → Uses (behind_term n) a → Uses a.after b → Uses n (record { expanded = f a.expanded b.expanded; after = b.after })
+two_use : (f : Expanded → Expanded → Expanded) → Joins f → (n : Numbers) (a b : ExpandedTrace) → Uses (behind_term n) a → Uses a.after b → Uses n (record { expanded = f a.expanded b.expanded; after = b.after })
 two_use f j n a b u v = record {
   locals = subst (λ l. Follow n.local l b.after.local) (sym (j.locals a.expanded b.expanded)) (follow_both _ _ _ _ _ u.locals v.locals);
   counters = subst (λ l. Follow n.counter l b.after.counter) (sym (j.counters a.expanded b.expanded)) (follow_both _ _ _ _ _ u.counters v.counters);
 }
 
-repeated_uses : (o : Option Bounds) (body : Numbers → Numbered) → ((n : Numbers) → Uses n (body n)) → (n : Numbers) → Uses n (repeated o body n)
+repeated_uses : (o : Option Bounds) (body : Numbers → ExpandedTrace) → ((n : Numbers) → Uses n (body n)) → (n : Numbers) → Uses n (repeated o body n)
 repeated_uses None body h n = let u = h (behind_term n) in record { locals = u.locals; counters = u.counters }
 repeated_uses (Some b) body h n = let u = h (behind_counter n) in record { locals = u.locals; counters = (refl, u.counters) }
 
-locals_use : (declares : Word → Declared) (ws : List Word) (env : Environment Denotation) (body : Environment Denotation → Numbers → Numbered) → IsSoundBody body → AreSoundNames env.names → (n : Numbers) → Uses n (in_locals declares ws env body n)
+locals_use : (declares : Word → Declared) (ws : List Word) (env : Environment Denotation) (body : Environment Denotation → Numbers → ExpandedTrace) → IsSoundBody body → AreSoundNames env.names → (n : Numbers) → Uses n (in_locals declares ws env body n)
 locals_use declares [] env body h g n = h env g n
 locals_use declares (w ∷ ws) env body h g n =
     let u = locals_use declares ws (with_name w.text (variable role.Local n.local) env) body h (tt, g) (behind_local n) in
     record { locals = (refl, u.locals); counters = u.counters }
 
-group_use : (env : Environment Denotation) (gr : Grouping) (body : Environment Denotation → Numbers → Numbered) → IsSoundBody body → AreSoundNames env.names → (n : Numbers) → Uses n (in_group env gr body n)
+group_use : (env : Environment Denotation) (gr : Grouping) (body : Environment Denotation → Numbers → ExpandedTrace) → IsSoundBody body → AreSoundNames env.names → (n : Numbers) → Uses n (in_group env gr body n)
 group_use env (s.grouping ws type ref range first) body h g n = locals_use _ ws env body h g n
 
-groups_use : (env : Environment Denotation) (gs : Groupings) (body : Environment Denotation → Numbers → Numbered) → IsSoundBody body → AreSoundNames env.names → (n : Numbers) → Uses n (in_groups env gs body n)
+groups_use : (env : Environment Denotation) (gs : Groupings) (body : Environment Denotation → Numbers → ExpandedTrace) → IsSoundBody body → AreSoundNames env.names → (n : Numbers) → Uses n (in_groups env gs body n)
 groups_use env s.no_groups body h g n = h env g n
 groups_use env (s.one_group gr gs) body h g n = group_use env gr (λ inner. in_groups inner gs body) (λ inner k m. groups_use inner gs body h k m) g n
 

@@ -15,7 +15,7 @@ use Rattle.lt_macros.specs.Environment.{Environment}
 use Rattle.lt_macros.specs.Expanded.{Declared, Node}
 use Rattle.lt_macros.specs.Expansion.{group_variables, groups_variables, node_of, with_group, with_groups}
 use Rattle.lt_macros.specs.Limits.{passed_limits}
-use Rattle.lt_macros.specs.Denotation.{Numbers, Numbered, Denotation, as_trace, declared_as, first_of, group_names, trace_denotation}
+use Rattle.lt_macros.specs.Denotation.{Numbers, ExpandedTrace, Denotation, as_trace, declared_as, first_of, group_names, trace_denotation}
 use Rattle.lt_macros.specs.inner.Counting.{AreWithin, IsTallied, pending_figure, sum_of, waiting}
 use Rattle.lt_macros.specs.inner.Figures.{Figure, expanded_figure, first_figure, limit_by, node_figure, variables_figure}
 use Rattle.lt_macros.specs.inner.Numbers.{numbers_view}
@@ -128,7 +128,7 @@ pub trace_put : (decimals : ℕ) (rows : List Entry) (f : Figure) (k len : ℕ) 
     → sum_of decimals rows f after
     ≡ expanded_figure f 1 (as_trace (trace_denotation (environment (meant decimals) rows k) (trace_view t.now)) n).expanded + sum_from decimals rows f before (as_trace (trace_denotation (environment (meant decimals) rows k) (trace_view t.now)) n).after
 trace_put decimals rows f k len t n before after left tally numbers =
-    let first : Numbered = as_trace (trace_denotation (environment (meant decimals) rows k) (trace_view t.now)) n in
+    let first : ExpandedTrace = as_trace (trace_denotation (environment (meant decimals) rows k) (trace_view t.now)) n in
     let here : pending_figure decimals rows f (waiting after) (numbers_view after.numbers) ≡ expanded_figure f 1 first.expanded + pending_figure decimals rows f (waiting before) first.after = λ i. pending_figure decimals rows f (left i) (numbers i) in
     omega (arith, here, ap (λ (t : Tally). counted t f) tally)
 

@@ -16,7 +16,7 @@ use Rattle.lt_ast.proofs.Public.{alternatives_list, groups_list}
 use Rattle.lt_macros.specs.Environment.{Environment, variable, with_name}
 use Rattle.lt_macros.specs.Expanded.{Expanded}
 use Rattle.lt_macros.specs.Nodes.{parts_count}
-use Rattle.lt_macros.specs.Denotation.{Numbers, Numbered, Denotation, alternative_denotation, as_expression, as_trace, behind_local, behind_term, first_of, in_locals, parts_of, trace_denotation, traces_denotation, weight_of}
+use Rattle.lt_macros.specs.Denotation.{Numbers, ExpandedTrace, Denotation, alternative_denotation, as_expression, as_trace, behind_local, behind_term, first_of, in_locals, parts_of, trace_denotation, traces_denotation, weight_of}
 use Rattle.lt_macros.specs.inner.Counting.{AreWithin, IsLeftWithin, IsTallied, group_declares, groups_trace, left_then, locals_trace, parts_then, pending_figure, seen_then, denotation_at, trace_then}
 use Rattle.lt_macros.specs.inner.Figures.{Figure, nodes, deep_terms, deep_expressions, wide_choices, locals, expanded_figure, expression_figure, expression_weight, first_figure, limit_by, local_weight, term_weight}
 use Rattle.lt_macros.specs.inner.Seen.{Seen}
@@ -100,7 +100,7 @@ pub alternative_read : (env : Environment Denotation) (f : Figure) (depth : ℕ)
 alternative_read env f depth all p others rest n is =
     let weight = expression_figure f 1 (weight_of env (weighed p.weight p.body)) in
     let behind : Numbers → ℕ = λ m. parts_then f depth (parts_of env (alternatives_of (map part_of others)) m) rest in
-    let first : Numbered = as_trace (alternative_denotation env (part_of p)) n in
+    let first : ExpandedTrace = as_trace (alternative_denotation env (part_of p)) n in
     let split : parts_then f depth (parts_of env (alternatives_of (map part_of (p ∷ others))) n) rest ≡ weight + trace_then f depth first behind = omega arith in
     ap (λ ps. parts_then f depth (parts_of env (alternatives_of (map part_of ps)) n) rest) is ∙ split ∙ ap (λ denotation. weight + trace_then f depth (as_trace denotation n) behind) (weighed_denotation env p.weight p.body)
 
@@ -116,8 +116,8 @@ joined_some : (env : Environment Denotation) (j : Join) (f : Figure) (depth : �
     ≡ term_weight f depth + trace_then f (depth + 1) (as_trace (trace_denotation env t) (behind_term n)) (λ m. trace_then f (depth + 1) (as_trace (traces_denotation env (joined_by j) (traces_of (map trace_view us))) m) rest)
 joined_some env j f depth t [] rest n h = absurd (omega (arith, h))
 joined_some env j f depth t (u ∷ us) rest n h =
-    let first : Numbered = as_trace (trace_denotation env t) (behind_term n) in
-    let second : Numbered = as_trace (traces_denotation env (joined_by j) (traces_of (map trace_view (u ∷ us)))) first.after in
+    let first : ExpandedTrace = as_trace (trace_denotation env t) (behind_term n) in
+    let second : ExpandedTrace = as_trace (traces_denotation env (joined_by j) (traces_of (map trace_view (u ∷ us)))) first.after in
     omega (arith, joined_figure j f depth first.expanded second.expanded)
 
 pub joined_read : (decimals : ℕ) (rows : List Entry) (f : Figure) (depth len : ℕ) (j : Join) (t : Bor TraceExpr) (ts : Bor (List TraceExpr)) (k : ℕ) (form : HeadNormalForm) (rest : Numbers → ℕ) (n : Numbers) → form ≡ Joined j t ts k → IsWithin len form
@@ -202,7 +202,7 @@ name_read decimals old new f depth k inner l name names ps n a is w ws made =
     let outer = environment_kept (meant decimals) old new l.outer a w in
     let env : Environment Denotation = environment (meant decimals) old k in
     let rest : Numbers → ℕ = pending_figure decimals old f ps in
-    let others : Numbered = locals_trace (record l { names = names }) (environment (meant decimals) old l.outer) (with_name (word name).text (variable role.Local n.local) env) (behind_local n) in
+    let others : ExpandedTrace = locals_trace (record l { names = names }) (environment (meant decimals) old l.outer) (with_name (word name).text (variable role.Local n.local) env) (behind_local n) in
     let split : term_weight f depth + (local_weight f + (first_figure f (first_of (environment (meant decimals) old l.outer) (maybe_exp l.group.now.first)) + trace_then f (depth + 1) others rest))
     ≡ trace_then f depth (in_locals (group_declares (environment (meant decimals) old l.outer) l.group.now) (map word (name ∷ names.now)) env (groups_trace (groups_of (map group_of l.groups.now)) (trace_view l.body.now)) n) rest = omega arith in
     (λ i. term_weight f depth + (local_weight f + (first_figure f (first_of (outer i) (maybe_exp l.group.now.first)) + trace_then f (depth + 1) (locals_trace (record l { names = names }) (outer i) (made i) (behind_local n)) (λ m. pending_kept decimals old new f 0 ps m a ws i))))

@@ -38,19 +38,19 @@ abbrev pub behind_counter : Numbers → Numbers
 behind_counter n = record n { term = suc n.term; counter = suc n.counter }
 
 -- a trace, and the numbers behind it
-pub record Numbered : Type 0 where
+pub record ExpandedTrace : Type 0 where
   pub expanded : Expanded
   pub after : Numbers
 
 -- traces to choose from, and the numbers behind them
-pub record NumberedParts : Type 0 where
+pub record ExpandedParts : Type 0 where
   pub parts : Parts
   pub after : Numbers
 
 -- the denotation of a phrase: an expression, or a trace, which is numbered wherever it is put
 pub data Denotation : Type 0 where
   expression : Placed → Denotation
-  trace : (Numbers → Numbered) → Denotation
+  trace : (Numbers → ExpandedTrace) → Denotation
 
 -- as an expression
 abbrev pub as_expression : Denotation → Placed
@@ -58,11 +58,11 @@ as_expression (expression e) = e
 as_expression (trace f) = meaningless
 
 -- a term without parts
-abbrev pub alone : Expanded → Numbers → Numbered
+abbrev pub alone : Expanded → Numbers → ExpandedTrace
 alone x n = record { expanded = x; after = behind_term n }
 
 -- as a trace: an expression is a constraint of one instant
-abbrev pub as_trace : Denotation → Numbers → Numbered
+abbrev pub as_trace : Denotation → Numbers → ExpandedTrace
 as_trace (expression e) n = alone (x.con e) n
 as_trace (trace f) n = f n
 
@@ -105,35 +105,35 @@ declared_as r env type range first w = record { name = w.text; kind = kind_of ty
 -- Traces out of parts.
 
 -- nothing
-abbrev pub empty : Numbers → Numbered
+abbrev pub empty : Numbers → ExpandedTrace
 empty n = alone x.eps n
 
 -- a trace of one part
-abbrev pub around_one : (Expanded → Expanded) → Numbered → Numbered
+abbrev pub around_one : (Expanded → Expanded) → ExpandedTrace → ExpandedTrace
 around_one f inside = record { expanded = f inside.expanded; after = inside.after }
 
 -- of two parts, the second of which is numbered behind the first
-abbrev pub joined : (Expanded → Expanded → Expanded) → Numbered → Numbered → Numbered
+abbrev pub joined : (Expanded → Expanded → Expanded) → ExpandedTrace → ExpandedTrace → ExpandedTrace
 joined f first second = record { expanded = f first.expanded second.expanded; after = second.after }
 
 -- a trace of two parts, where the second one is still to be numbered
-abbrev pub around_two : (Expanded → Expanded → Expanded) → Numbered → (Numbers → Numbered) → Numbered
+abbrev pub around_two : (Expanded → Expanded → Expanded) → ExpandedTrace → (Numbers → ExpandedTrace) → ExpandedTrace
 around_two f first second = joined f first (second first.after)
 
 -- an alternative before others, which are numbered behind it
-abbrev pub part_before : Placed → Numbered → NumberedParts → NumberedParts
+abbrev pub part_before : Placed → ExpandedTrace → ExpandedParts → ExpandedParts
 part_before weight first rest = record { parts = part weight first.expanded rest.parts; after = rest.after }
 
 -- an alternative before others, where these are still to be numbered
-abbrev pub before_parts : Placed → Numbered → (Numbers → NumberedParts) → NumberedParts
+abbrev pub before_parts : Placed → ExpandedTrace → (Numbers → ExpandedParts) → ExpandedParts
 before_parts weight first rest = part_before weight first (rest first.after)
 
 -- one of these
-abbrev pub chosen : NumberedParts → Numbered
+abbrev pub chosen : ExpandedParts → ExpandedTrace
 chosen ps = record { expanded = x.any ps.parts; after = ps.after }
 
 -- a trace over and over: without end, or as often as a new counter says
-abbrev pub repeated : Option Bounds → (Numbers → Numbered) → Numbers → Numbered
+abbrev pub repeated : Option Bounds → (Numbers → ExpandedTrace) → Numbers → ExpandedTrace
 repeated None body n = around_one x.loop (body (behind_term n))
 repeated (Some bounds) body n = around_one (x.count n.counter bounds) (body (behind_counter n))
 
@@ -148,17 +148,17 @@ caught_as deadlock = x.try
 caught_as (declared z) = x.catch z
 
 -- a trace with locals of these names, each inside the one before; what is declared of a name is given
-abbrev pub in_locals : (Word → Declared) → List Word → Environment Denotation → (Environment Denotation → Numbers → Numbered) → Numbers → Numbered
+abbrev pub in_locals : (Word → Declared) → List Word → Environment Denotation → (Environment Denotation → Numbers → ExpandedTrace) → Numbers → ExpandedTrace
 in_locals declares [] env body n = body env n
 in_locals declares (w ∷ ws) env body n =
     around_one (x.exist n.local (declares w)) (in_locals declares ws (with_name w.text (variable role.Local n.local) env) body (behind_local n))
 
 -- a trace with new exceptions of these names
-abbrev pub in_exceptions : List Word → Environment Denotation → (Environment Denotation → Numbers → Numbered) → Numbers → Numbered
+abbrev pub in_exceptions : List Word → Environment Denotation → (Environment Denotation → Numbers → ExpandedTrace) → Numbers → ExpandedTrace
 in_exceptions ws env body n = body (with_exceptions n.term ws env) n
 
 -- a trace and its handler, inside what a name of an exception stands for
-abbrev pub caught : Word → Environment Denotation → (Environment Denotation → Numbers → Numbered) → (Environment Denotation → Numbers → Numbered) → Numbers → Numbered
+abbrev pub caught : Word → Environment Denotation → (Environment Denotation → Numbers → ExpandedTrace) → (Environment Denotation → Numbers → ExpandedTrace) → Numbers → ExpandedTrace
 caught w env body handler n = around_two (caught_as (found_exception env.exceptions w.text)) (body env (behind_term n)) (handler env)
 
 -- The denotations, a line for each construct.
@@ -209,7 +209,7 @@ abbrev mutual
   alternative_denotation env (s.weighted e t) = trace_denotation env t
 
   -- the alternatives of a choice
-  pub parts_of : Environment Denotation → Alternatives → Numbers → NumberedParts
+  pub parts_of : Environment Denotation → Alternatives → Numbers → ExpandedParts
   parts_of env s.no_alternatives n = record { parts = no_part; after = n }
   parts_of env (s.alternative a rest) n = before_parts (weight_of env a) (as_trace (alternative_denotation env a) n) (parts_of env rest)
 
@@ -225,11 +225,11 @@ abbrev mutual
   first_of env (s.an_exp e) = Some (as_expression (exp_denotation env e))
 
   -- a trace with locals of a group; their first value doesn't see them
-  pub in_group : Environment Denotation → Grouping → (Environment Denotation → Numbers → Numbered) → Numbers → Numbered
+  pub in_group : Environment Denotation → Grouping → (Environment Denotation → Numbers → ExpandedTrace) → Numbers → ExpandedTrace
   in_group env (s.grouping ws type ref range first) body = in_locals (declared_as role.Local env type range (first_of env first)) ws env body
 
   -- a trace with locals of groups, each of which sees the ones before it
-  pub in_groups : Environment Denotation → Groupings → (Environment Denotation → Numbers → Numbered) → Numbers → Numbered
+  pub in_groups : Environment Denotation → Groupings → (Environment Denotation → Numbers → ExpandedTrace) → Numbers → ExpandedTrace
   in_groups env s.no_groups body = body env
   in_groups env (s.one_group g gs) body = in_group env g (λ inner. in_groups inner gs body)
 

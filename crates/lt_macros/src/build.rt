@@ -34,7 +34,7 @@ use std::alloc::Global;
 
 /// A trace in a box, and what stands before the place behind it.
 #[derive(Drop)]
-pub(crate) struct Numbered {
+pub(crate) struct ExpandedTrace {
     /// The trace.
     pub(crate) expanded: Box<Expanded>,
 
@@ -44,21 +44,21 @@ pub(crate) struct Numbered {
 
 /// Alternatives, and what stands before the place behind them.
 #[derive(Drop)]
-struct NumberedParts {
+struct ExpandedParts {
     parts: Parts,
     after: Numbers,
 }
 
 /// Two expressions.
 #[derive(Drop)]
-struct Pair {
+struct TwoExpressions {
     first: Placed,
     second: Placed,
 }
 
 /// Two traces, the second of which is numbered behind the first, and what stands before the place behind them.
 #[derive(Drop)]
-struct Two {
+struct TwoTraces {
     first: Box<Expanded>,
     second: Box<Expanded>,
     after: Numbers,
@@ -98,7 +98,7 @@ pub(crate) fn build_trace<'a>(
     numbers: Numbers,
     environment: usize,
     phrase: Phrase<'a>,
-) -> Result<Numbered, Memory>
+) -> Result<ExpandedTrace, Memory>
     requires { IsReady builder.old environment }
     ensures { Builds builder.old builder.new result (λ b.
         numbered b ≡ as_trace (phrase_at builder.old environment phrase.entry)
@@ -119,7 +119,7 @@ fn build_met<'a>(
     numbers: Numbers,
     environment: usize,
     phrase: Phrase<'a>,
-) -> Result<Numbered, Memory>
+) -> Result<ExpandedTrace, Memory>
     requires { IsReady builder.old environment }
     ensures { Builds builder.old builder.new result (λ b.
         numbered b ≡ as_trace (phrase_at builder.old environment phrase.entry)
@@ -143,7 +143,7 @@ fn build_trace_form<'a>(
     builder: &mut Builder<'a>,
     numbers: Numbers,
     form: HeadNormalForm<'a>,
-) -> Result<Numbered, Memory>
+) -> Result<ExpandedTrace, Memory>
     requires { IsReadyFor builder.old form }
     ensures { Builds builder.old builder.new result (λ b.
         numbered b ≡ as_trace (form_denotation builder.old form.entry) (numbers_view numbers)) }
@@ -196,7 +196,7 @@ fn build_joined<'a>(
     join: Join,
     first: &'a TraceExpr,
     rest: &'a [TraceExpr],
-) -> Result<Numbered, Memory>
+) -> Result<ExpandedTrace, Memory>
     requires ready { IsReady builder.old environment }
     requires some { 0 < length rest.now }
     ensures { Builds builder.old builder.new result (λ b.
@@ -208,7 +208,7 @@ fn build_joined<'a>(
     let inside = numbers.behind_term()?;
     let before = build_trace(builder, inside, environment, Phrase::Trace(first))?;
     let behind = build_behind(builder, before.after, environment, join, rest)?;
-    let two = Two {
+    let two = TwoTraces {
         first: before.expanded,
         second: behind.expanded,
         after: behind.after,
@@ -224,7 +224,7 @@ fn build_behind<'a>(
     environment: usize,
     join: Join,
     traces: &'a [TraceExpr],
-) -> Result<Numbered, Memory>
+) -> Result<ExpandedTrace, Memory>
     requires { IsReady builder.old environment }
     ensures { Builds builder.old builder.new result (λ b.
         numbered b ≡ as_trace (phrase_at builder.old environment (Phrase.Joined join traces.entry))
@@ -251,7 +251,7 @@ fn build_choice<'a>(
     numbers: Numbers,
     environment: usize,
     written: &'a Choices,
-) -> Result<Numbered, Memory>
+) -> Result<ExpandedTrace, Memory>
     requires { IsReady builder.old environment }
     ensures { Builds builder.old builder.new result (λ b.
         numbered b ≡ as_trace
@@ -273,7 +273,7 @@ fn build_catch<'a>(
     name: &'a Name,
     body: &'a TraceExpr,
     handler: &'a Option<Box<TraceExpr>>,
-) -> Result<Numbered, Memory>
+) -> Result<ExpandedTrace, Memory>
     requires { IsReady builder.old environment }
     ensures { Builds builder.old builder.new result (λ b.
         numbered b ≡ trace_at builder.old environment
@@ -298,7 +298,7 @@ fn build_try<'a>(
     environment: usize,
     body: &'a TraceExpr,
     handler: &'a Option<Box<TraceExpr>>,
-) -> Result<Numbered, Memory>
+) -> Result<ExpandedTrace, Memory>
     requires { IsReady builder.old environment }
     ensures { Builds builder.old builder.new result (λ b.
         numbered b ≡ trace_at builder.old environment
@@ -315,7 +315,7 @@ fn build_constraint<'a>(
     builder: &mut Builder<'a>,
     numbers: Numbers,
     form: HeadNormalForm<'a>,
-) -> Result<Numbered, Memory>
+) -> Result<ExpandedTrace, Memory>
     requires { IsReadyFor builder.old form }
     ensures { Builds builder.old builder.new result (λ b.
         numbered b ≡ alone (x.con (as_expression (form_denotation builder.old form.entry)))
@@ -327,7 +327,7 @@ fn build_constraint<'a>(
 
 // A trace of no instant.
 #[inline(never)]
-fn build_nothing(alloc: Global, numbers: Numbers) -> Result<Numbered, Memory>
+fn build_nothing(alloc: Global, numbers: Numbers) -> Result<ExpandedTrace, Memory>
     ensures { IfOk result (λ b. numbered b ≡ alone x.eps (numbers_view numbers)) }
 {
     put_alone(alloc, Expanded::Eps, numbers)
@@ -339,7 +339,7 @@ fn build_raise(
     alloc: Global,
     numbers: Numbers,
     raised: Option<Raised<'_>>,
-) -> Result<Numbered, Memory>
+) -> Result<ExpandedTrace, Memory>
     ensures { IfOk result (λ b. (decimals : ℕ) →
         numbered b ≡ alone (raised_tree (raised_by (meant decimals) raised.entry))
         (numbers_view numbers)) }
@@ -357,7 +357,7 @@ fn build_two<'a>(
     environment: usize,
     first: Phrase<'a>,
     second: Phrase<'a>,
-) -> Result<Two, Memory>
+) -> Result<TwoTraces, Memory>
     requires { IsReady builder.old environment }
     ensures { Builds builder.old builder.new result (λ two.
         AreBuilt two (as_trace (phrase_at builder.old environment first.entry)
@@ -367,7 +367,7 @@ fn build_two<'a>(
     let inside = numbers.behind_term()?;
     let before = build_trace(builder, inside, environment, first)?;
     let behind = build_trace(builder, before.after, environment, second)?;
-    Ok(Two {
+    Ok(TwoTraces {
         first: before.expanded,
         second: behind.expanded,
         after: behind.after,
@@ -383,7 +383,7 @@ fn build_loop<'a>(
     environment: usize,
     written: &'a Limits,
     body: &'a TraceExpr,
-) -> Result<Numbered, Memory>
+) -> Result<ExpandedTrace, Memory>
     requires { IsReady builder.old environment }
     ensures { Builds builder.old builder.new result (λ b.
         numbered b ≡ trace_at builder.old environment
@@ -412,8 +412,8 @@ fn put_loop(
     alloc: Global,
     counter: u32,
     turns: Option<Bounds>,
-    body: Numbered,
-) -> Result<Numbered, Memory>
+    body: ExpandedTrace,
+) -> Result<ExpandedTrace, Memory>
     ensures { IfOk result (λ b.
         numbered b ≡ record {
           expanded = looped (option_map bounds_view turns) counter
@@ -460,7 +460,7 @@ fn build_pair<'a>(
     environment: usize,
     first: &'a Expr,
     second: &'a Expr,
-) -> Result<Pair, Memory>
+) -> Result<TwoExpressions, Memory>
     requires { IsReady builder.old environment }
     ensures { Builds builder.old builder.new result (λ p.
         (placed p.first ≡ value_at builder.old environment (exp first.now)) ×
@@ -468,7 +468,7 @@ fn build_pair<'a>(
 {
     let first = build_expr(builder, environment, Phrase::Value(first))?;
     let second = build_expr(builder, environment, Phrase::Value(second))?;
-    Ok(Pair { first, second })
+    Ok(TwoExpressions { first, second })
 }
 
 // The alternatives of a choice.
@@ -479,7 +479,7 @@ fn build_parts<'a>(
     before: Numbers,
     environment: usize,
     written: &'a [Alternative],
-) -> Result<NumberedParts, Memory>
+) -> Result<ExpandedParts, Memory>
     requires { IsReady builder.old environment }
     ensures { Builds builder.old builder.new result (λ b.
         numbered_parts b ≡ parts_of (names_at builder.old environment)
@@ -496,7 +496,7 @@ fn build_parts<'a>(
         numbers = built.after;
     }
     let (parts, after) = (Parts { items }, numbers);
-    Ok(NumberedParts { parts, after })
+    Ok(ExpandedParts { parts, after })
 }
 
 // The weight of an alternative.
@@ -525,7 +525,7 @@ fn build_assert<'a>(
     environment: usize,
     always: &'a Expr,
     body: &'a TraceExpr,
-) -> Result<Numbered, Memory>
+) -> Result<ExpandedTrace, Memory>
     requires { IsReady builder.old environment }
     ensures { Builds builder.old builder.new result (λ b.
         numbered b ≡ trace_at builder.old environment
@@ -547,7 +547,7 @@ fn build_exist<'a>(
     environment: usize,
     groups: &'a Groups,
     body: &'a TraceExpr,
-) -> Result<Numbered, Memory>
+) -> Result<ExpandedTrace, Memory>
     requires { IsReady builder.old environment }
     ensures { Builds builder.old builder.new result (λ b.
         numbered b ≡ trace_at builder.old environment
@@ -567,8 +567,8 @@ fn put_locals(
     alloc: Global,
     declared: Vec<Declared>,
     next: u32,
-    body: Numbered,
-) -> Result<Numbered, Memory>
+    body: ExpandedTrace,
+) -> Result<ExpandedTrace, Memory>
     requires { length declared.items ≤ next }
     ensures { IfOk result (λ b.
         numbered b ≡ record {
@@ -586,12 +586,12 @@ fn put_locals(
         let declaration = Box::new(alloc, local)?;
         expanded = Box::new(alloc, Expanded::Exist(number, declaration, expanded))?;
     }
-    Ok(Numbered { expanded, after })
+    Ok(ExpandedTrace { expanded, after })
 }
 
 // A term without parts.
 #[inline(never)]
-fn put_alone(alloc: Global, expanded: Expanded, numbers: Numbers) -> Result<Numbered, Memory>
+fn put_alone(alloc: Global, expanded: Expanded, numbers: Numbers) -> Result<ExpandedTrace, Memory>
     ensures { IfOk result (λ b.
         numbered b ≡ alone (expanded_view expanded) (numbers_view numbers)) }
 {
@@ -599,7 +599,7 @@ fn put_alone(alloc: Global, expanded: Expanded, numbers: Numbers) -> Result<Numb
 }
 
 // A term, and what stands before the place behind it.
-fn put(alloc: Global, expanded: Expanded, after: Numbers) -> Result<Numbered, Memory>
+fn put(alloc: Global, expanded: Expanded, after: Numbers) -> Result<ExpandedTrace, Memory>
     ensures { IfOk result (λ b.
         numbered b ≡ record {
           expanded = expanded_view expanded;
@@ -607,12 +607,12 @@ fn put(alloc: Global, expanded: Expanded, after: Numbers) -> Result<Numbered, Me
         }) }
 {
     let expanded = Box::new(alloc, expanded)?;
-    Ok(Numbered { expanded, after })
+    Ok(ExpandedTrace { expanded, after })
 }
 
 // Traces that are joined, out of the first and those behind it.
 #[inline(never)]
-fn put_joined(alloc: Global, join: Join, two: Two) -> Result<Numbered, Memory>
+fn put_joined(alloc: Global, join: Join, two: TwoTraces) -> Result<ExpandedTrace, Memory>
     ensures { IfOk result (λ b. numbered b ≡ in_two (joined_by join) two) }
 {
     let expanded = match join {
@@ -625,7 +625,7 @@ fn put_joined(alloc: Global, join: Join, two: Two) -> Result<Numbered, Memory>
 
 // A trace and what follows where nothing can be done.
 #[inline(never)]
-fn put_try(alloc: Global, two: Two) -> Result<Numbered, Memory>
+fn put_try(alloc: Global, two: TwoTraces) -> Result<ExpandedTrace, Memory>
     ensures { IfOk result (λ b. numbered b ≡ in_two x.try two) }
 {
     put(alloc, Expanded::Try(two.first, two.second), two.after)
@@ -633,7 +633,11 @@ fn put_try(alloc: Global, two: Two) -> Result<Numbered, Memory>
 
 // A trace and what follows where an exception is raised; `Deadlock` is caught where nothing can be done.
 #[inline(never)]
-fn put_catch(alloc: Global, caught: Option<Raised<'_>>, two: Two) -> Result<Numbered, Memory>
+fn put_catch(
+    alloc: Global,
+    caught: Option<Raised<'_>>,
+    two: TwoTraces,
+) -> Result<ExpandedTrace, Memory>
     ensures { IfOk result (λ b. (decimals : ℕ) →
         numbered b ≡ in_two (caught_as (raised_by (meant decimals) caught.entry)) two) }
 {
@@ -682,7 +686,7 @@ fn put_exception(alloc: Global, raised: Raised<'_>) -> Result<Exception, Memory>
 
 // One of these.
 #[inline(never)]
-fn put_choice(alloc: Global, chosen_parts: NumberedParts) -> Result<Numbered, Memory>
+fn put_choice(alloc: Global, chosen_parts: ExpandedParts) -> Result<ExpandedTrace, Memory>
     ensures { IfOk result (λ b. numbered b ≡ chosen (numbered_parts chosen_parts)) }
 {
     put(alloc, Expanded::Any(chosen_parts.parts), chosen_parts.after)

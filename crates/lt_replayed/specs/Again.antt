@@ -1,10 +1,9 @@
 -- Calls that play a run again from its own trace.
-use Rattle.std.specs.Prelude.{◌≡◌, ◌≤◌, ℕ, true, List, ◌++◌, length, Some}
+use Rattle.std.specs.Prelude.{◌≡◌, ◌≤◌, ℕ, true, List, ◌++◌, length, None, Some}
 use Rattle.std.specs.declared.option.Option.{Option}
 use Rattle.lt_drive.specs.Told.{closed}
 use Rattle.lt_loop.specs.CoreView.{stream_of}
 use Rattle.lt_loop.specs.InputSource.{from_trace}
-use Rattle.lt_replay.specs.Replay.{is_replayable}
 use Rattle.lt_rif.specs.Reply.{longest}
 use Rattle.lt_session.specs.Told.{Gives as Tells}
 use Rattle.lt_term.specs.Scene.{Scene}
@@ -21,6 +20,7 @@ use Rattle.lt_io.specs.Outside.{Outside, Sources}
 use Rattle.lt_call.specs.declared.status.Ending.{Ending}
 use Rattle.lt_call.specs.declared.status.Status.{Status}
 use Rattle.lt_call.specs.declared.status.Status.TheVariants as status
+use Rattle.lt_replayed.specs.Repeatable.{is_repeatable}
 use Rattle.lt_replayed.specs.Setup.{setup_of}
 
 -- the same request, but with the file of an earlier trace in place of its controller
@@ -41,14 +41,14 @@ pub record HasRun (request : Request) (contents : Contents) (scene : Scene) (tol
   pub tell : Tell request told contents
   pub sides : SidesTell request contents old.inputs.programs c o
   pub gives : GivesDue request told asked old new names (status.Ran ending)
-  pub replayable : is_replayable ending.end ≡ true
+  pub replayable : is_repeatable ending.end ≡ true
   pub written_before : old.trace.written ≡ Some before
   pub written_after : new.trace.written ≡ Some (before ++ bytes)
   pub short : length bytes ≤ longest_replay
-  pub room : opening_length scene request.budget (setup_of request) (stream_of (closed c)) ≤ longest
+  pub room : opening_length scene request.budget (setup_of request) None (stream_of (closed c)) ≤ longest
 
 -- A call plays these bytes again: it asks for the same, but with a file of them in place of the controller, the same bytes come of
--- its oracle, and neither a device nor want of memory cuts it short.
+-- its oracle, and neither a device nor want of memory nor a budget cuts it short.
 pub record IsReplay (request : Request) (contents : Contents) (told : List ℕ → Option (List ℕ)) (asked names : List (List ℕ)) (old new : Outside Sources) (s : Status) (o bytes name : List ℕ) : Type 0 where
   pub tell : Tell (replaying name request) told (with_trace bytes contents)
   pub oracle : Tells (oracle_of request.oracle) old.inputs.programs o

@@ -20,7 +20,7 @@ use Rattle.lt_num.specs.declared.value.Value.{Value}
 use Rattle.lt_num.specs.declared.value.Value.TheVariants as value
 use Rattle.lt_rif.specs.Judgement.{judged}
 use Rattle.lt_rif.specs.Number.{decimal_part, int_written, is_digits, is_mark, is_point, number_of, raw_written, real_written, whole_part}
-use Rattle.lt_rif.specs.ReadBack.{Holds}
+use Rattle.lt_rif.specs.ReadBack.{Holds, ValueReadsBack}
 use Rattle.lt_rif.specs.Trace.{value_text}
 use Rattle.lt_rif.specs.Word.{is_blank, class_of}
 use Rattle.lt_rif.specs.declared.number.Scaled.{Scaled}
@@ -149,3 +149,8 @@ unfolding class_of
 value-word decimals k (value.Bool true) small = record { blank = refl; class = refl }
 value-word decimals k (value.Bool false) small = record { blank = refl; class = refl }
 value-word decimals k (value.Num raw) small = number-word _ raw small
+
+-- ---- values read back
+
+pub value_reads_back : ValueReadsBack
+value_reads_back decimals slot v few holds = (judged-back decimals slot v few holds, (value-word decimals slot.kind v holds.bound).blank)

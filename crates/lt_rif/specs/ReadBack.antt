@@ -1,5 +1,5 @@
 -- Traces that are written are read back.
-use Rattle.std.specs.Prelude.{◌≡◌, ◌≤◌, ◌<◌, ℕ, ◌+◌, ◌^◌, Bool, true, false, ◌==◌, List, [], ◌∷◌, ◌++◌, length, map, unsigned_abs, unwrap_or}
+use Rattle.std.specs.Prelude.{◌≡◌, ◌≤◌, ◌<◌, ℕ, ◌+◌, ◌^◌, Bool, true, false, ◌==◌, List, [], ◌∷◌, ◌++◌, length, map, unsigned_abs, unwrap_or, Ok}
 use Rattle.std.specs.List.{flat_map, list_any}
 use Rattle.std.specs.declared.option.Option.{Option}
 use Rattle.lt_draw.specs.declared.directions.Draw.{Draw}
@@ -9,10 +9,11 @@ use Rattle.lt_num.specs.declared.kind.Kind.{Kind}
 use Rattle.lt_num.specs.declared.value.Value.{Value}
 use Rattle.lt_rif.specs.Cutting.{Finding, reply, replies_of}
 use Rattle.lt_rif.specs.Enough.{AreLocalsSized}
-use Rattle.lt_rif.specs.Judgement.{is_within}
+use Rattle.lt_rif.specs.Judgement.{is_within, judged}
 use Rattle.lt_rif.specs.Reply.{whole, longest, reply_of}
 use Rattle.lt_rif.specs.Spelling.{Filler, AreFillers, gap_text, kept}
-use Rattle.lt_rif.specs.Trace.{DeclaredVariable, header_text, step_text}
+use Rattle.lt_rif.specs.Trace.{DeclaredVariable, header_text, step_text, value_text}
+use Rattle.lt_rif.specs.Word.{is_blank}
 use Rattle.lt_rif.specs.declared.slot.Slot.{Slot}
 
 -- A slot may hold a value: it is of the slot's kind, no larger than a raw number may be, and in the slot's range.
@@ -20,6 +21,12 @@ pub record Holds (slot : Slot) (v : Value) : Type 0 where
   pub kind : value_of slot.kind (raw_of v) ≡ v
   pub bound : unsigned_abs (raw_of v) ≤ most_raw
   pub range : is_within slot.range (raw_of v) ≡ true
+
+-- The word of a value is judged to be this value, and has no blank and no other byte.
+abbrev pub ValueReadsBack : Type 0
+ValueReadsBack =
+    (decimals : ℕ) (slot : Slot) (v : Value) → decimals ≤ most_decimals → Holds slot v →
+    (judged decimals slot (value_text decimals slot.kind v) ≡ Ok v) × (list_any is_blank (value_text decimals slot.kind v) ≡ false)
 
 -- slots may hold values, in turn
 abbrev pub HoldAll : List Slot → List Value → Type 0

@@ -3,7 +3,7 @@
 ghost use Rattle.lt_rif.specs.Cutting.{CutsChangeNothing, NextReplyIsAtHand};
 ghost use Rattle.lt_rif.specs.Enough.{RoomIsEnough};
 ghost use Rattle.lt_rif.specs.Growing.{RepliesGrow};
-ghost use Rattle.lt_rif.specs.ReadBack.{StepReadsBack, TraceReadsBack};
+ghost use Rattle.lt_rif.specs.ReadBack.{StepReadsBack, TraceReadsBack, ValueReadsBack};
 ghost use Rattle.lt_rif.specs.Spelling.{SpellingIsRead};
 
 /// Between two replies, what a reader finds in the bytes to come is the next reply of the stream.
@@ -30,6 +30,11 @@ pub fn spelling_is_read()
 #[tactic(auto, using(crate::proofs::ReadBackLemmas::step_reads_back))]
 pub fn step_reads_back()
     ensures { StepReadsBack }
+{}
+
+/// The word that is written of a value is judged to be this value, by a slot that may hold it, and has no blank.
+pub fn value_reads_back()
+    ensures { ValueReadsBack }
 {}
 
 /// A trace, a header and steps after it, is read back as the values of its steps, one reply a step.

@@ -28,9 +28,10 @@ pub use end::{End, Who, step_at_hand};
 pub use end_line::write_end;
 pub use end_words::{EndWords, who_word};
 pub use fault::ValueFault;
+pub use judgement::judge;
 pub use laws::{
     cuts_change_nothing, next_reply_is_at_hand, replies_grow, room_is_enough, spelling_is_read,
-    step_reads_back, trace_reads_back,
+    step_reads_back, trace_reads_back, value_reads_back,
 };
 pub use numbering::StepHead;
 pub use reader::{Closing, Fed, Reader};

@@ -39,11 +39,11 @@ k = 1 + 1 , j = 1 div 0 in bjyckz from 1 1 1 1 1 -148 within 10000 ==> \
 DivisionByZero, [] at 2 decimals, Solution [1, 1, 1, 1, 1, -148]
 -- What is out of scope is 0.
 nothing in ------ from 1 1 1 1 1 -148 within 10000 ==> [] at 0 decimals, Solution [0, 0, 0, 0, 0, 0]
--- A need over the budget is the answer. These are the constraints of problem 1, whose parts have 3, 2 and 2 different
--- comparisons: it needs 180 * 7 * 3^7.
+-- A search that ends soon is no other one where its need is over the budget. These are the constraints of problem 1, whose
+-- parts have 3, 2 and 2 different comparisons: it needs 180 * 7 * 3^7.
 if k + 4 < k + -2 then j + -1 <= k + k else j + -1 >= j + j , ( z + -3u = z + 4u ) => ( z + z > y ) , \
 ( j + j < 3 - j ) xor ( 0 * k <> j ) in bjyckz from 0 -2 1 1 1 -150 within 2755619 ==> \
-[13, 23, 30] at 2 decimals, Budget(2755620)
+[13, 23, 30] at 2 decimals, Unsat
 if k + 4 < k + -2 then j + -1 <= k + k else j + -1 >= j + j , ( z + -3u = z + 4u ) => ( z + z > y ) , \
 ( j + j < 3 - j ) xor ( 0 * k <> j ) in bjyckz from 0 -2 1 1 1 -150 within 2755620 ==> \
 [13, 23, 30] at 2 decimals, Unsat";
@@ -58,7 +58,10 @@ j + k = 3 , j <= 2 in -j--k- from 0 3 0 0 0 0 within 8640 ==> \
 [4, 6] at 2 decimals, Solution [0, 0, 0, 0, 3, 0]
 -- An equation of two numbers of 4 values each needs 180 * 3 * 16.
 j + k = 7 , j + k = 7 in -j--k- from 0 0 0 0 0 0 within 8640 ==> [4, 4] at 2 decimals, Unsat
-j + k = 7 , j + k = 7 in -j--k- from 0 0 0 0 0 0 within 8639 ==> [4, 4] at 2 decimals, Budget(8640)
+j + k = 7 , j + k = 7 in -j--k- from 0 0 0 0 0 0 within 8639 ==> [4, 4] at 2 decimals, Unsat
+j + k = 7 , j + k = 7 in -j--k- from 0 0 0 0 0 0 within 1 ==> [4, 4] at 2 decimals, Unsat
+j + k = 3 , j + k = 3 in -j--k- from 0 2 0 0 2 0 within 1 ==> \
+[4, 4] at 2 decimals, Solution [0, 2, 0, 0, 1, 0]
 -- Upward 3 comes behind 2, and downward 1 does.
 j <> 2 in -j---- from 0 2 0 0 0 0 within 1080 ==> [2] at 2 decimals, Solution [0, 3, 0, 0, 0, 0]
 j <> 2 in -j---- from 0 2 0 0 0 0 down -j---- within 1080 ==> [2] at 2 decimals, Solution [0, 1, 0, 0, 0, 0]
@@ -89,7 +92,7 @@ y > 60u , y < 80u in --y--- from 0 0 50 0 0 -10 down --y--- within 360 ==> \
 y > 51u , y < 74u in --y--- from 0 0 50 0 0 -10 within 360 ==> [2, 4] at 2 decimals, Unsat
 -- Steps of 2 and 3 leave a difference of 1 at 4 and 3 first. Unequal steps are hard: it needs 180 * 3 * 24.
 j - k = 1 in -j--k- from 0 0 0 0 0 -10 within 12960 ==> [4] at 2 decimals, Solution [0, 4, 0, 0, 3, 0]
-j - k = 1 in -j--k- from 0 0 0 0 0 -10 within 12959 ==> [4] at 2 decimals, Budget(12960)
+j - k = 1 in -j--k- from 0 0 0 0 0 -10 within 12959 ==> [4] at 2 decimals, Solution [0, 4, 0, 0, 3, 0]
 -- Downward from 8 that is so too; from 2 the numbers are 2, 0 and then 10.
 j - k = 1 in -j--k- from 0 8 0 0 0 -10 down -j---- within 12960 ==> [4] at 2 decimals, Solution [0, 4, 0, 0, 3, 0]
 j - k = 1 in -j--k- from 0 2 0 0 0 -10 down -j---- within 12960 ==> [4] at 2 decimals, Solution [0, 10, 0, 0, 9, 0]
@@ -113,7 +116,7 @@ fn searches(rt: HostRuntime) -> Result<(), Fail> {
         rt.alloc(),
         Topic::Expressions(Told::SearchOfInts),
         TARGETS,
-        12,
+        14,
     )?;
     check(
         &rt,

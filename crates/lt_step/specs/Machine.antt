@@ -1,12 +1,12 @@
 -- A machine of instants.
-use Rattle.std.specs.Prelude.{ℕ, List, [], None, Some}
+use Rattle.std.specs.Prelude.{◌≡◌, ℕ, Bool, true, false, List, [], None, Some}
 use Rattle.std.specs.declared.option.Option.{Option}
 use Rattle.lt_draw.specs.declared.directions.Draw.{Draw}
 use Rattle.lt_num.specs.declared.value.Value.{Value}
 use Rattle.lt_term.specs.Configuration.{Configuration, Reaction, first_configuration}
 use Rattle.lt_term.specs.Scene.{Scene}
-use Rattle.lt_instant.specs.Instant as i
-use Rattle.lt_instant.specs.Instant.{Instant, values, normal, raise, deadlock, fault, too_large, instant_of}
+use Rattle.lt_instant.specs.Affordable.{IsAffordable}
+use Rattle.lt_instant.specs.Instant.{Instant, values, normal, raise, deadlock, fault, too_large, instant_of, may_give_up}
 use Rattle.lt_step.specs.declared.machine.Outcome.{Outcome}
 use Rattle.lt_step.specs.declared.machine.Outcome.TheVariants as outcome
 
@@ -27,7 +27,7 @@ pub record State : Type 0 where
   -- the seed of its words, and the rule by which it draws
   pub seed : ℕ
   pub draw : Draw
-  -- the greatest need that a search may have
+  -- only a search whose need is over it may be given up
   pub budget : ℕ
   pub phase : Phase
 
@@ -52,16 +52,36 @@ answered m (raise z) = ended m (outcome.Raise z)
 answered m deadlock = ended m outcome.Deadlock
 answered m (fault f) = ended m (outcome.Fault f)
 answered m too_large = ended m outcome.TooLarge
-answered m (i.budget n) = ended m (outcome.Budget n)
 
 -- a step in this phase: the next instant, or nothing more
 abbrev pub step_in : State → Phase → List Value → Step
-step_in m (running c locals) inputs = answered m (instant_of m.scene m.seed m.draw m.budget c inputs)
+step_in m (running c locals) inputs = answered m (instant_of m.scene m.seed m.draw c inputs)
 step_in m finished inputs = ended m outcome.Ended
 
--- a step of a machine, in which the inputs have these values
+-- the step of a machine by the rules, in which the inputs have these values
 abbrev pub step_of : State → List Value → Step
 step_of m inputs = step_in m m.phase inputs
+
+-- whether the next instant may be given up with this need
+abbrev pub may_give_up_in : State → Phase → List Value → ℕ → Bool
+may_give_up_in m (running c locals) inputs n = may_give_up m.scene m.seed m.draw m.budget c inputs n
+may_give_up_in m finished inputs n = false
+
+abbrev pub may_give_up_next : State → List Value → ℕ → Bool
+may_give_up_next m inputs n = may_give_up_in m m.phase inputs n
+
+-- each leaf at which the draw of the next instant arrives has a need within the budget
+abbrev pub CanAffordIn : State → Phase → List Value → Type 0
+CanAffordIn m (running c locals) inputs = IsAffordable m.scene m.seed m.draw m.budget c inputs
+CanAffordIn m finished inputs = Unit {0}
+
+abbrev pub CanAfford : State → List Value → Type 0
+CanAfford m inputs = CanAffordIn m m.phase inputs
+
+-- A step of a machine answers this, and leaves it so: it is the step by the rules, or the next instant was given up.
+abbrev pub IsStep : State → List Value → Outcome → State → Type 0
+IsStep m inputs (outcome.Budget n) new = (may_give_up_next m inputs n ≡ true) × (new ≡ record m { phase = finished })
+IsStep m inputs o new = record { outcome = o; state = new } ≡ step_of m inputs
 
 -- what holds of the configuration of a machine that is running
 abbrev pub IfRunning : Phase → (Configuration → Type 0) → Type 0

@@ -1,14 +1,19 @@
 //! The machine.
 
-ghost use Rattle.std.specs.Prelude.{◌≡◌, ◌≤◌, IsTrue, IfOk, length, map, string_bytes};
+ghost use Rattle.std.specs.Prelude.{◌≡◌, ◌<◌, ◌≤◌, IsTrue, IfOk, [], length, map, string_bytes};
+ghost use Rattle.lt_formula.specs.Table.{spelled};
+ghost use Rattle.lt_formula.specs.Valuation.{value_under};
+ghost use Rattle.lt_formula.specs.View.{table_expressions, table_kinds, table_len};
 ghost use Rattle.lt_num.specs.Bounds.{most_decimals};
+ghost use Rattle.lt_term.specs.Configuration.{known_in};
 ghost use Rattle.lt_instant.proofs.Public.{explores-prop};
 ghost use Rattle.lt_instant.specs.Equipment.{IsExplorerOf, IsPastOf, IsRoomOf};
 ghost use Rattle.lt_instant.specs.StandingView.{process_of};
 ghost use Rattle.lt_step.specs.inner.Done.{is_done_to};
 
 use lt_draw::{Draw, StepWords};
-use lt_instant::{Explorer, Past, Room, Standing, Taken, take_instant};
+use lt_formula::Table;
+use lt_instant::{Explorer, Moment, Past, Room, Standing, Taken, take_instant, value_before};
 use lt_num::{Arith, Value};
 use lt_term::{Memory, Scenario, Var, body_is_valid, turns_grow_by_one};
 use std::alloc::Global;
@@ -34,7 +39,7 @@ pub enum Outcome {
     /// What the scenario offers has more than 65,536 nodes.
     TooLarge,
 
-    /// The search at a leaf at which the draw arrives would need this much, which is over the budget.
+    /// The search at a leaf at which the draw arrives was given up. This is its need, which is over the budget.
     Budget(u128),
 
     /// An earlier step ended the run.
@@ -61,11 +66,11 @@ pub struct Machine {
 impl Machine {
     ghost use Rattle.lt_term.specs.Scene.{Scene};
     ghost use Rattle.lt_term.specs.SceneView.{scene, variable};
-    ghost use Rattle.lt_step.specs.Machine.{finished, most_steps, started, step_of, locals_in, outputs_in, IfRunning};
+    ghost use Rattle.lt_step.specs.Machine.{finished, most_steps, started, locals_in, outputs_in, IfRunning, IsStep};
     ghost use Rattle.lt_step.specs.View.{machine_state};
 
-    /// A machine that has not stepped, of any scenario. The seed names the words by which it draws, and no search
-    /// is begun whose need is over the budget. The last parameter is the rule by which it draws.
+    /// A machine that has not stepped, of any scenario. The seed names the words by which it draws, and a search
+    /// may be given up whose need is over the budget. The last parameter is the rule by which it draws.
     ///
     /// # Errors
     ///
@@ -102,8 +107,7 @@ impl Machine {
     pub fn step(&mut self, inputs: &[Value]) -> Outcome
         requires inputs { length inputs.now ≡ length (machine_state self.old).scene.inputs }
         requires few { IfRunning (machine_state self.old).phase (λ c. c.step ≤ most_steps) }
-        ensures { record { outcome = result; state = machine_state self.new } ≡
-            step_of (machine_state self.old) inputs.now }
+        ensures { IsStep (machine_state self.old) inputs.now result (machine_state self.new) }
     {
         if self.is_finished {
             return Outcome::Ended;
@@ -132,6 +136,35 @@ impl Machine {
             Taken::TooLarge => self.end(Outcome::TooLarge),
             Taken::Budget(need) => self.end(Outcome::Budget(need)),
         }
+    }
+
+    /// The value of an expression of a table before the next instant, whose first inputs have these values: so arguments are
+    /// worked out for a node that is run before this one goes on. The table is over the scenario's variables.
+    ///
+    /// # Errors
+    ///
+    /// The first fault that its evaluation meets.
+    pub fn argument(&mut self, table: &Table, exp: u32, inputs: &[Value]) -> Result<Value, Arith>
+        requires { exp < table_len table.now }
+        ensures value { IfRunning (machine_state self.old).phase (λ c.
+            result ≡ value_under (known_in (machine_state self.old).scene c inputs.now [])
+            (table_kinds table.now) (spelled (table_expressions table.now) exp)) }
+        ensures same { machine_state self.new ≡ machine_state self.old }
+    {
+        let moment = Moment {
+            scenario: &self.scenario,
+            past: &self.standing.past,
+            inputs,
+            words: &self.words,
+            draw: self.draw,
+            budget: self.budget,
+        };
+        value_before(
+            &moment,
+            table,
+            exp,
+            &mut self.standing.explorer.picker.earlier,
+        )
     }
 
     // Ends the run with this outcome.

@@ -17,13 +17,13 @@ use Rattle.lt_macros.specs.Placed as p
 use Rattle.lt_macros.specs.Placed.{Placed, bare}
 use Rattle.lt_macros.specs.Environment.{Binding, variable, parameter, macro, NamedBinding, Environment, found, with_name, with_arguments, with_exceptions}
 use Rattle.lt_macros.specs.Literals.{kind_of}
-use Rattle.lt_macros.specs.Denotation.{Numbers, Numbered, Denotation, expression, trace, as_expression, as_trace, standing_for, before, groups_names, parameter_names}
+use Rattle.lt_macros.specs.Denotation.{Numbers, ExpandedTrace, Denotation, expression, trace, as_expression, as_trace, standing_for, before, groups_names, parameter_names}
 use Rattle.lt_typed.specs.TypedNode.{IsOfKind, IsTyped}
 use Rattle.lt_term.specs.WellTyped.{HasKind}
 use Rattle.lt_typed.proofs.Locals.{AreDeclared}
 
 -- A numbered trace is well typed wherever its locals stand in their table.
-abbrev pub IsTypedTrace : Kinds → (Numbers → Numbered) → Type 0
+abbrev pub IsTypedTrace : Kinds → (Numbers → ExpandedTrace) → Type 0
 IsTypedTrace kinds f = (n : Numbers) → AreDeclared kinds (f n).expanded → IsTyped kinds (f n).expanded
 
 -- What a phrase stands for is of a type: an expression has the kind of its values, and one of the type of traces is a constraint;

@@ -23,7 +23,7 @@ use Rattle.lt_macros.specs.Placed.{Placed}
 use Rattle.lt_macros.specs.Expanded.{Bounds, Expanded, seq, pri, par}
 use Rattle.lt_macros.specs.Environment.{Raised, deadlock, declared, Environment, variable, macro, found, found_exception, with_name, with_arguments, with_exceptions}
 use Rattle.lt_macros.specs.Literals.{kind_of}
-use Rattle.lt_macros.specs.Denotation.{Numbers, Numbered, behind_term, behind_local, behind_counter, Denotation, as_trace, standing_for, macro_name, parameter_names, declared_as, first_of, caught_as, raised_as, repeated, bounds_of, in_locals, in_groups, caught, exp_denotation, argument_denotation, argument_denotations, braces_denotation, weight_of, alternative_denotation, parts_of, traces_denotation, handler_denotation, meaning_denotation, macro_denotation, trace_denotation}
+use Rattle.lt_macros.specs.Denotation.{Numbers, ExpandedTrace, behind_term, behind_local, behind_counter, Denotation, as_trace, standing_for, macro_name, parameter_names, declared_as, first_of, caught_as, raised_as, repeated, bounds_of, in_locals, in_groups, caught, exp_denotation, argument_denotation, argument_denotations, braces_denotation, weight_of, alternative_denotation, parts_of, traces_denotation, handler_denotation, meaning_denotation, macro_denotation, trace_denotation}
 use Rattle.lt_typed.specs.Macros.{FitInExp, FitInArgument, FitInArguments, FitInLimits, FitInBraces, FitInAlternative, FitInAlternatives, FitInTraces, FitInGroups, FitInFirst, FitInHandler, FitInMeaning, FitInMacro, FitInTrace}
 use Rattle.lt_typed.specs.TypedNode.{IsOfKind, IsFirst, AreBounds, IsTyped, AreTyped}
 use Rattle.lt_typed.proofs.Fitting.{IsTypedTrace, IsOf, IsVariableOf, IsGiven, AreGiven, IsFoundAs, AreBoundAs, found_as, previous_is_of, variable_standing, macro_standing, name_standing, as_expression_is_of, as_trace_is_typed, serves_is_of, parameters_bound, exceptions_bound}
@@ -83,16 +83,16 @@ abbrev AreTurns : Kinds → Option Bounds → Type 0
 AreTurns kinds None = Unit {0}
 AreTurns kinds (Some b) = AreBounds kinds b
 
-repeated_typed : (kinds : Kinds) (o : Option Bounds) (body : Numbers → Numbered) → AreTurns kinds o → IsTypedTrace kinds body → IsTypedTrace kinds (repeated o body)
+repeated_typed : (kinds : Kinds) (o : Option Bounds) (body : Numbers → ExpandedTrace) → AreTurns kinds o → IsTypedTrace kinds body → IsTypedTrace kinds (repeated o body)
 repeated_typed kinds None body h k = λ n g. k (behind_term n) g
 repeated_typed kinds (Some b) body h k = λ n g. (h, k (behind_counter n) g)
 
 -- What is written where these names are visible is well typed.
-abbrev IsTypedBody : Kinds → List types.Binding → (Environment Denotation → Numbers → Numbered) → Type 0
+abbrev IsTypedBody : Kinds → List types.Binding → (Environment Denotation → Numbers → ExpandedTrace) → Type 0
 IsTypedBody kinds xs body = (env : Environment Denotation) → AreBoundAs kinds xs env.names → IsTypedTrace kinds (body env)
 
 locals_typed : (kinds : Kinds) (outer : Environment Denotation) (type : TypeName) (range : Option WrittenRange) (first : Option Placed) → IsFirst kinds (kind_of type) first
-    → (ws : List Word) (xs : List types.Binding) (env : Environment Denotation) (body : Environment Denotation → Numbers → Numbered)
+    → (ws : List Word) (xs : List types.Binding) (env : Environment Denotation) (body : Environment Denotation → Numbers → ExpandedTrace)
     → AreBoundAs kinds xs env.names → IsTypedBody kinds (with_bindings (types.variable type) ws xs) body
     → IsTypedTrace kinds (in_locals (declared_as role.Local outer type range first) ws env body)
 locals_typed kinds outer type range first f [] xs env body b k = k env b
@@ -211,7 +211,7 @@ mutual
   first_typed kinds env outer type s.no_exp v b m h = tt
   first_typed kinds env outer type (s.an_exp e) v b m h = as_expression_is_of kinds type (exp_denotation env e) v (exp_typed kinds env outer e type b m h)
 
-  groups_typed : (kinds : Kinds) (env : Environment Denotation) (outer : types.Environment) (taken : List (List ℕ)) (gs : Groupings) (body : Environment Denotation → Numbers → Numbered)
+  groups_typed : (kinds : Kinds) (env : Environment Denotation) (outer : types.Environment) (taken : List (List ℕ)) (gs : Groupings) (body : Environment Denotation → Numbers → ExpandedTrace)
       → AreBoundAs kinds outer.names env.names → FitInGroups gs → AreGroups types.variables outer taken gs → IsTypedBody kinds (types.with_groups types.variables outer gs).names body
       → IsTypedTrace kinds (in_groups env gs body)
   groups_typed kinds env outer taken s.no_groups body b m h k = k env b

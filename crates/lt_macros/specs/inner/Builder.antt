@@ -9,7 +9,7 @@ use Rattle.lt_formula.specs.declared.role.Role.{Role}
 use Rattle.lt_macros.specs.Environment.{Environment}
 use Rattle.lt_macros.specs.Placed.{Placed}
 use Rattle.lt_macros.specs.Expanded.{Declared}
-use Rattle.lt_macros.specs.Denotation.{Denotation, Numbers, Numbered, as_expression, as_trace, declared_as, exp_denotation, first_of, trace_denotation}
+use Rattle.lt_macros.specs.Denotation.{Denotation, Numbers, ExpandedTrace, as_expression, as_trace, declared_as, exp_denotation, first_of, trace_denotation}
 use Rattle.lt_macros.specs.inner.Handing.{AreRight}
 use Rattle.lt_macros.specs.inner.HeadNormalForm.{AddsTo, IsWithin, form_reads}
 use Rattle.lt_macros.specs.inner.Phrase.{phrase_denotation}
@@ -32,7 +32,7 @@ abbrev pub value_at : Builder → ℕ → Exp → Placed
 value_at b k e = as_expression (exp_denotation (names_at b k) e)
 
 -- what a trace stands for that is written there, where so much stands before it
-abbrev pub trace_at : Builder → ℕ → Trace → Numbers → Numbered
+abbrev pub trace_at : Builder → ℕ → Trace → Numbers → ExpandedTrace
 trace_at b k t n = as_trace (trace_denotation (names_at b k) t) n
 
 -- what a phrase stands for that is written there

@@ -4,28 +4,28 @@ use Rattle.lt_ast.specs.Syntax as s
 use Rattle.lt_ast.specs.Syntax.{Limits}
 use Rattle.lt_macros.specs.Expanded as x
 use Rattle.lt_macros.specs.Expanded.{Bounds, Declared, Expanded, Parts}
-use Rattle.lt_macros.specs.Denotation.{Numbers, Numbered, NumberedParts, behind_counter, behind_term}
+use Rattle.lt_macros.specs.Denotation.{Numbers, ExpandedTrace, ExpandedParts, behind_counter, behind_term}
 use Rattle.lt_macros.specs.inner.Numbers.{numbers_view}
 use Rattle.lt_macros.specs.Tree.{expanded, parts, placed}
-use Rattle.lt_macros.specs.declared.build.Numbered as code
-use Rattle.lt_macros.specs.declared.build.NumberedParts as code_parts
-use Rattle.lt_macros.specs.declared.build.Two.{Two}
+use Rattle.lt_macros.specs.declared.build.ExpandedTrace as code
+use Rattle.lt_macros.specs.declared.build.ExpandedParts as code_parts
+use Rattle.lt_macros.specs.declared.build.TwoTraces.{TwoTraces}
 use Rattle.lt_macros.specs.declared.tree.Part.{Part}
 
 -- a trace, and the numbers behind it
-abbrev pub numbered : code.Numbered → Numbered
+abbrev pub numbered : code.ExpandedTrace → ExpandedTrace
 numbered b = record { expanded = expanded b.expanded.value; after = numbers_view b.after }
 
 -- alternatives, and the numbers behind them
-abbrev pub numbered_parts : code_parts.NumberedParts → NumberedParts
+abbrev pub numbered_parts : code_parts.ExpandedParts → ExpandedParts
 numbered_parts b = record { parts = parts b.parts; after = numbers_view b.after }
 
 -- two traces in one, and the numbers behind it
-abbrev pub in_two : (Expanded → Expanded → Expanded) → Two → Numbered
+abbrev pub in_two : (Expanded → Expanded → Expanded) → TwoTraces → ExpandedTrace
 in_two f t = record { expanded = f (expanded t.first.value) (expanded t.second.value); after = numbers_view t.after }
 
 -- Two traces are built: the first is this one, and the second is numbered behind it.
-pub record AreBuilt (t : Two) (first : Numbered) (second : Numbers → Numbered) : Type 0 where
+pub record AreBuilt (t : TwoTraces) (first : ExpandedTrace) (second : Numbers → ExpandedTrace) : Type 0 where
   pub first_is : expanded t.first.value ≡ first.expanded
   pub second_is : expanded t.second.value ≡ (second first.after).expanded
   pub after_is : numbers_view t.after ≡ (second first.after).after
@@ -52,5 +52,5 @@ items_onto [] rest = rest
 items_onto (p ∷ ps) rest = x.part (placed p.weight) (expanded p.body.value) (items_onto ps rest)
 
 -- alternatives before others, which are numbered behind them
-abbrev pub parts_onto : List Part → NumberedParts → NumberedParts
+abbrev pub parts_onto : List Part → ExpandedParts → ExpandedParts
 parts_onto ps rest = record { parts = items_onto ps rest.parts; after = rest.after }

@@ -8,7 +8,7 @@ use Rattle.lt_ast.specs.declared.group.Group.{Group}
 use Rattle.lt_formula.specs.declared.role.Role.TheVariants as role
 use Rattle.lt_macros.specs.Environment.{Environment}
 use Rattle.lt_macros.specs.Expanded.{Declared}
-use Rattle.lt_macros.specs.Denotation.{Numbers, Numbered, NumberedParts, Denotation, as_trace, as_expression, declared_as, first_of, in_groups, in_locals, parts_of, trace_denotation}
+use Rattle.lt_macros.specs.Denotation.{Numbers, ExpandedTrace, ExpandedParts, Denotation, as_trace, as_expression, declared_as, first_of, in_groups, in_locals, parts_of, trace_denotation}
 use Rattle.lt_macros.specs.Limits.{most_nodes}
 use Rattle.lt_macros.specs.inner.Figures.{Figure, nodes, expanded_figure, expression_figure, parts_figure}
 use Rattle.lt_macros.specs.inner.Numbers.{numbers_view}
@@ -30,11 +30,11 @@ seen_then f depth (an_expression e) rest n = expression_figure f depth e + rest 
 seen_then f depth (a_trace x) rest n = expanded_figure f depth x.expanded + rest x.after
 
 -- the figure of a trace at a depth, and then of what stands behind it
-abbrev pub trace_then : Figure → ℕ → Numbered → (Numbers → ℕ) → ℕ
+abbrev pub trace_then : Figure → ℕ → ExpandedTrace → (Numbers → ℕ) → ℕ
 trace_then f depth x rest = expanded_figure f depth x.expanded + rest x.after
 
 -- the figure of alternatives at a depth, and then of what stands behind them
-abbrev pub parts_then : Figure → ℕ → NumberedParts → (Numbers → ℕ) → ℕ
+abbrev pub parts_then : Figure → ℕ → ExpandedParts → (Numbers → ℕ) → ℕ
 parts_then f depth ps rest = parts_figure f depth ps.parts + rest ps.after
 
 -- what is written in an environment among entries stands for this
@@ -46,12 +46,12 @@ abbrev pub group_declares : Environment Denotation → Group → Word → Declar
 group_declares env g w = declared_as role.Local env g.kind (written_range g.range) (first_of env (maybe_exp g.first)) w
 
 -- a trace with locals of groups
-abbrev pub groups_trace : Groupings → Trace → Environment Denotation → Numbers → Numbered
+abbrev pub groups_trace : Groupings → Trace → Environment Denotation → Numbers → ExpandedTrace
 groups_trace gs t env = in_groups env gs (λ inner. as_trace (trace_denotation inner t))
 
 -- a trace with locals of the names of a group that are left, whose first value is written in the first environment, and then of
 -- the groups that are left
-abbrev pub locals_trace : Locals → Environment Denotation → Environment Denotation → Numbers → Numbered
+abbrev pub locals_trace : Locals → Environment Denotation → Environment Denotation → Numbers → ExpandedTrace
 locals_trace l outer env = in_locals (group_declares outer l.group.now) (map word l.names.now) env (groups_trace (groups_of (map group_of l.groups.now)) (trace_view l.body.now))
 
 -- the figure of what is left in an environment at a depth, and then of what stands behind it

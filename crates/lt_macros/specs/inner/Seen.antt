@@ -1,6 +1,6 @@
 -- What a phrase is where it stands.
 use Rattle.lt_macros.specs.Placed.{Placed}
-use Rattle.lt_macros.specs.Denotation.{Numbered, Denotation, as_expression, as_trace}
+use Rattle.lt_macros.specs.Denotation.{ExpandedTrace, Denotation, as_expression, as_trace}
 use Rattle.lt_macros.specs.inner.Numbers.{numbers_view}
 use Rattle.lt_macros.specs.declared.position.Position.{Position}
 use Rattle.lt_macros.specs.declared.position.Position.TheVariants as position
@@ -8,7 +8,7 @@ use Rattle.lt_macros.specs.declared.position.Position.TheVariants as position
 -- an expression, or a trace with numbers
 pub data Seen : Type 0 where
   an_expression : Placed → Seen
-  a_trace : Numbered → Seen
+  a_trace : ExpandedTrace → Seen
 
 -- a denotation as what is asked for in a position
 abbrev pub seen : Position → Denotation → Seen

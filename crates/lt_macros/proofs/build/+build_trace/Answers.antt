@@ -6,7 +6,7 @@ use Rattle.lt_ast.specs.Syntax as s
 use Rattle.lt_ast.specs.View.{alternatives, exp, groupings, limits, trace as trace_view}
 use Rattle.lt_ast.specs.inner.Rows.{part_of}
 use Rattle.lt_macros.specs.Denotation.{as_trace, behind_term, chosen, parts_of, trace_denotation, traces_denotation, weight_of}
-use Rattle.lt_macros.specs.declared.build.Two.{Two}
+use Rattle.lt_macros.specs.declared.build.TwoTraces.{TwoTraces}
 use Rattle.lt_macros.specs.declared.head_normal_form.HeadNormalForm.{HeadNormalForm}
 use Rattle.lt_macros.specs.declared.head_normal_form.HeadNormalForm.TheVariants.{Catch}
 use Rattle.lt_macros.specs.inner.Builder.{IsKept, IsReady, form_denotation, names_at, work_at}
@@ -174,7 +174,7 @@ build_catch-returns t c =
 pub build_joined-returns : goal.build_joined-returns
 build_joined-returns t c =
     let env = names_at c.args.builder.now c.args.environment in
-    let two : Two = record { first = c.in_ok-before.before.expanded; second = c.in_ok-behind.behind.expanded; after = c.in_ok-behind.behind.after } in
+    let two : TwoTraces = record { first = c.in_ok-before.before.expanded; second = c.in_ok-behind.behind.expanded; after = c.in_ok-behind.behind.after } in
     let first = as_trace (trace_denotation env (trace_view c.args.first.now)) (behind_term (numbers_view c.args.numbers)) in
     let second = as_trace (traces_denotation env (joined_by c.args.join) (traces_of (map trace_view c.args.rest.now))) in
     let built : AreBuilt two first second =

@@ -6,7 +6,7 @@ use Rattle.lt_ast.proofs.Public.{groups_list}
 use Rattle.lt_formula.specs.declared.role.Role.TheVariants as role
 use Rattle.lt_macros.specs.Expansion.{node_of, with_groups}
 use Rattle.lt_macros.specs.Limits.{passed_limits}
-use Rattle.lt_macros.specs.Denotation.{Numbers, Numbered, as_trace, trace_denotation}
+use Rattle.lt_macros.specs.Denotation.{Numbers, ExpandedTrace, as_trace, trace_denotation}
 use Rattle.lt_macros.specs.inner.Counting.{AreWithin, sum_of, waiting}
 use Rattle.lt_macros.specs.inner.Figures.{Figure, node_figure}
 use Rattle.lt_macros.specs.inner.Numbers.{numbers_view}
@@ -47,7 +47,7 @@ returns-clause-limit c =
     let start : Numbers = record { term = 0; local = 0; counter = 0 } in
     let empty : Count = record { left = c.new.result; numbers = c.start.result; tally = c.start-2.result } in
     let made = node_of env (word node.name) ins outs (trace_view node.body) in
-    let body : Numbered = as_trace (trace_denotation here (trace_view node.body)) start in
+    let body : ExpandedTrace = as_trace (trace_denotation here (trace_view node.body)) start in
     let numbers : numbers_view c.put.new.count.numbers ≡ start = ap numbers_view (c.in_ok-put.ensures.numbers ∙ c.in_ok-outputs.ensures.numbers ∙ c.in_ok-inputs.ensures.numbers) ∙ c.start.ensures in
     let read : (f : Figure) → sum_of decimals all f c.put.new.count ≡ node_figure made f =
     λ f.
