@@ -2,7 +2,7 @@
 use Rattle.std.proofs.Common.{◌≡◌, ℕ, zero, suc, ◌+◌, ◌*◌, ◌/◌, ◌<◌, ◌≤◌, ◌^◌, List, [], ◌∷◌, ◌++◌, length, take, drop, ℤ, subst, refl, ap, sym, ◌∙◌, arith, length-append, length-drop}
 use Rattle.std.proofs.lemmas.List.{drop-append-le, take-append-le, take_all}
 use Rattle.std.proofs.lemmas.Nat.{div-mul-add}
-use Rattle.lt_bounds.specs.Rows.{rows_from, rows_in, AreWhole, reach, ReachesAll}
+use Rattle.lt_bounds.specs.Rows.{rows_from, rows_in, AreWholeRows, reach, ReachesAll}
 use Rattle.lt_bounds.specs.Tightening.{Outcome, narrowed, and_then, row_taken, rows_taken, passes}
 use Rattle.lt_num.specs.declared.interval.Interval.{Interval}
 
@@ -60,30 +60,30 @@ unfolding passes
 passes_none n rows ranges e = ap (λ m. passes m rows ranges) e
 
 -- cells that are there begin with a row
-pub in_row : (width : ℕ) (cells : List ℤ) (ranges : List Interval) → AreWhole width cells ranges → 0 < length cells → width ≤ length cells
+pub in_row : (width : ℕ) (cells : List ℤ) (ranges : List Interval) → AreWholeRows width cells ranges → 0 < length cells → width ≤ length cells
 in_row width cells ranges w h = by_count (one_more cells w.count width w.cells_are h)
   where
     by_count : (k : ℕ) × (w.count ≡ suc k) → width ≤ length cells
     by_count k = let e : length cells ≡ suc k.0 * width = w.cells_are ∙ ap (λ n. n * width) k.1 in omega arith
 
-pub first_row : (width : ℕ) (cells : List ℤ) (ranges : List Interval) → AreWhole width cells ranges → 0 < length cells → rows_in width cells ≡ take width cells ∷ rows_in width (drop width cells)
+pub first_row : (width : ℕ) (cells : List ℤ) (ranges : List Interval) → AreWholeRows width cells ranges → 0 < length cells → rows_in width cells ≡ take width cells ∷ rows_in width (drop width cells)
 first_row width cells ranges w h = by_count (one_more cells w.count width w.cells_are h)
   where
     by_count : (k : ℕ) × (w.count ≡ suc k) → rows_in width cells ≡ take width cells ∷ rows_in width (drop width cells)
     by_count k = let is = w.width_is in rows_more width cells k.0 (omega arith) (w.cells_are ∙ ap (λ n. n * width) k.1)
 
 -- the cells after it are whole rows too
-pub whole_rest : (width : ℕ) (cells after : List ℤ) (ranges new : List Interval) → AreWhole width cells ranges → 0 < length cells → after ≡ drop width cells → length new ≡ length ranges → AreWhole width after new
+pub whole_rest : (width : ℕ) (cells after : List ℤ) (ranges new : List Interval) → AreWholeRows width cells ranges → 0 < length cells → after ≡ drop width cells → length new ≡ length ranges → AreWholeRows width after new
 whole_rest width cells after ranges new w h a e = by_count (one_more cells w.count width w.cells_are h)
   where
-    by_count : (k : ℕ) × (w.count ≡ suc k) → AreWhole width after new
+    by_count : (k : ℕ) × (w.count ≡ suc k) → AreWholeRows width after new
     by_count k =
         let is = w.width_is in
         let all : length cells ≡ suc k.0 * width = w.cells_are ∙ ap (λ n. n * width) k.1 in
         record { width_is = omega arith; count = k.0; cells_are = ap length a ∙ omega (arith, length-drop width cells) }
 
 -- one row is taken, and those after it are left
-pub turn : (width : ℕ) (cells front after : List ℤ) (ranges : List Interval) (o whole : Outcome) → AreWhole width cells ranges → 0 < length cells → front ≡ take width cells → after ≡ drop width cells → o ≡ row_taken front ranges
+pub turn : (width : ℕ) (cells front after : List ℤ) (ranges : List Interval) (o whole : Outcome) → AreWholeRows width cells ranges → 0 < length cells → front ≡ take width cells → after ≡ drop width cells → o ≡ row_taken front ranges
     → whole ≡ rows_taken (rows_in width cells) ranges → whole ≡ and_then o (rows_taken (rows_in width after))
 turn width cells front after ranges o whole w h f a is left =
     left ∙ ap (λ rows. rows_taken rows ranges) (first_row width cells ranges w h)
@@ -92,7 +92,7 @@ turn width cells front after ranges o whole w h f a is left =
     ∙ ap (λ z. and_then z (rows_taken (rows_in width after))) (sym is)
 
 -- how far the first row reaches, and those after it
-pub reach_first : (width : ℕ) (cells front after : List ℤ) (ranges : List Interval) → AreWhole width cells ranges → 0 < length cells → front ≡ take width cells → after ≡ drop width cells → ReachesAll (rows_in width cells) ranges
+pub reach_first : (width : ℕ) (cells front after : List ℤ) (ranges : List Interval) → AreWholeRows width cells ranges → 0 < length cells → front ≡ take width cells → after ≡ drop width cells → ReachesAll (rows_in width cells) ranges
     → (reach front ranges < 2 ^ 126) × ReachesAll (rows_in width after) ranges
 reach_first width cells front after ranges w h f a r =
     let P : List (List ℤ) → Type 0 = λ rows. ReachesAll rows ranges in
@@ -100,9 +100,9 @@ reach_first width cells front after ranges w h f a r =
     rw (f, a) both
 
 -- all rows were taken
-pub ended : (width : ℕ) (cells : List ℤ) (ranges : List Interval) (whole : Outcome) → AreWhole width cells ranges → length cells ≡ 0 → whole ≡ rows_taken (rows_in width cells) ranges → whole ≡ narrowed ranges
+pub ended : (width : ℕ) (cells : List ℤ) (ranges : List Interval) (whole : Outcome) → AreWholeRows width cells ranges → length cells ≡ 0 → whole ≡ rows_taken (rows_in width cells) ranges → whole ≡ narrowed ranges
 ended width cells ranges whole w e left = let is = w.width_is in left ∙ ap (λ rows. rows_taken rows ranges) (rows_none width cells (omega arith) e)
 
 -- rows are whole over as many other ranges
-pub whole_same : (width : ℕ) (cells : List ℤ) (ranges new : List Interval) → AreWhole width cells ranges → length new ≡ length ranges → AreWhole width cells new
+pub whole_same : (width : ℕ) (cells : List ℤ) (ranges new : List Interval) → AreWholeRows width cells ranges → length new ≡ length ranges → AreWholeRows width cells new
 whole_same width cells ranges new w e = let is = w.width_is in record { width_is = omega arith; count = w.count; cells_are = w.cells_are }

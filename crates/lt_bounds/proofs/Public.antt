@@ -5,7 +5,7 @@ use Rattle.lt_num.specs.Interval.{IsWithin}
 use Rattle.lt_num.specs.declared.interval.Interval.{Interval}
 use Rattle.lt_bounds.specs.Places.{IsScaled, values_within}
 use Rattle.lt_bounds.specs.Ranges.{range_at, AreSome, IsNarrower}
-use Rattle.lt_bounds.specs.Rows.{AreWhole, ReachesAll, rows_in}
+use Rattle.lt_bounds.specs.Rows.{AreWholeRows, ReachesAll, rows_in}
 use Rattle.lt_bounds.specs.Tightening.{cut, least_of, greatest_of, NoPointIsLost}
 use Rattle.lt_bounds.proofs.Passes as passes
 use Rattle.lt_bounds.proofs.Points as points
@@ -52,7 +52,7 @@ pub reaches_less : (rows : List (List ℤ)) (a b : List Interval) → IsNarrower
 reaches_less = steps.reaches_less
 
 -- rows are whole over as many other ranges
-pub whole_same : (width : ℕ) (cells : List ℤ) (ranges new : List Interval) → AreWhole width cells ranges → length new ≡ length ranges → AreWhole width cells new
+pub whole_same : (width : ℕ) (cells : List ℤ) (ranges new : List Interval) → AreWholeRows width cells ranges → length new ≡ length ranges → AreWholeRows width cells new
 whole_same = passes.whole_same
 
 -- no cells are no rows

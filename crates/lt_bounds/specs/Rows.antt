@@ -40,7 +40,7 @@ ReachesAll [] ranges = Unit {0}
 ReachesAll (row ∷ rows) ranges = (reach row ranges < 2 ^ 126) × ReachesAll rows ranges
 
 -- whole rows, each with a coefficient for each range and a constant
-pub record AreWhole (width : ℕ) (cells : List ℤ) (ranges : List Interval) : Type 0 where
+pub record AreWholeRows (width : ℕ) (cells : List ℤ) (ranges : List Interval) : Type 0 where
   pub width_is : width ≡ suc (length ranges)
   pub count : ℕ
   pub cells_are : length cells ≡ count * width

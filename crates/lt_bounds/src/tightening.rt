@@ -2,7 +2,7 @@
 
 ghost use Rattle.std.specs.Prelude.{◌≡◌, ◌≢◌, ◌<◌, ◌≤◌, ◌-◌, ◌*◌, ◌^◌, suc, length, pos, neg_ℤ, ◌-ℤ◌, ◌≤ℤ◌, unsigned_abs, IfSome};
 ghost use Rattle.std.specs.Int.{int_div_euclid};
-ghost use Rattle.lt_bounds.specs.Rows.{rows_of, reach, ReachesAll, AreWhole};
+ghost use Rattle.lt_bounds.specs.Rows.{rows_of, reach, ReachesAll, AreWholeRows};
 ghost use Rattle.lt_bounds.specs.Tightening.{tightened, told, least_of, least_sum, cut, where_some, is_broken, row_taken, rows_taken};
 ghost use Rattle.lt_bounds.specs.Ranges.{size_of, AreSome, IsNarrower};
 ghost use Rattle.lt_bounds.specs.inner.Passed.{passed, IsKept};
@@ -41,7 +41,7 @@ enum Passed {
 /// For each row, the sizes of its coefficients times those of the ranges, and that of its constant, are below 2^126
 /// in sum.
 pub fn tighten(ranges: &mut [Interval], rows: &Rows) -> Tight
-    requires whole { AreWhole rows.now.width rows.now.cells.items ranges.old }
+    requires whole { AreWholeRows rows.now.width rows.now.cells.items ranges.old }
     requires some { AreSome ranges.old }
     requires reaches { ReachesAll (rows_of rows.now) ranges.old }
     ensures outcome { told result ranges.new ≡ tightened (rows_of rows.now) ranges.old }
@@ -59,7 +59,7 @@ pub fn tighten(ranges: &mut [Interval], rows: &Rows) -> Tight
 
 // One pass over the rows.
 fn pass(ranges: &mut [Interval], rows: &Rows) -> Passed
-    requires whole { AreWhole rows.now.width rows.now.cells.items ranges.old }
+    requires whole { AreWholeRows rows.now.width rows.now.cells.items ranges.old }
     requires some { AreSome ranges.old }
     requires reaches { ReachesAll (rows_of rows.now) ranges.old }
     ensures outcome { passed result ranges.new ≡ rows_taken (rows_of rows.now) ranges.old }

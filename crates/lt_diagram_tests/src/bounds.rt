@@ -1,7 +1,7 @@
 //! Bounds on differences, and the least values that meet them, with ample memory, which no clause can promise.
 
 ghost use Rattle.std.specs.Prelude.{◌≡◌, ◌≢◌, ◌<◌, IfOk, true};
-ghost use Rattle.lt_diff.specs.Bounds.{HasLeasts, StaysStated, unstated};
+ghost use Rattle.lt_diff.specs.Bounds.{HasLeasts, StaysStated, no_bound};
 ghost use Rattle.lt_diff.specs.Closing.{AreStated, IsClosed};
 ghost use Rattle.lt_diff.specs.MatrixView.{matrix_cell, matrix_size};
 
@@ -95,7 +95,7 @@ fn put_range(matrix: &mut Matrix, variable: usize)
     requires variable { variable < 4 }
     ensures size { matrix_size matrix.new ≡ 4 }
     ensures stated { AreStated 4 (matrix_cell matrix.new) }
-    ensures own { matrix_cell matrix.new 0 variable ≢ unstated }
+    ensures own { matrix_cell matrix.new 0 variable ≢ no_bound }
     ensures kept { StaysStated 4 (matrix_cell matrix.old) (matrix_cell matrix.new) }
 {
     matrix.bound(0, variable, 0);

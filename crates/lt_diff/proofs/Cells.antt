@@ -6,7 +6,7 @@ use Rattle.std.proofs.lemmas.Nat.{mul-add-lt}
 use Rattle.std.proofs.Math.Nat.{mul_comm}
 use Rattle.std.proofs.lemmas.List.{get_or-set_same, get_or-set_other}
 use Rattle.std.specs.Int.{int_min}
-use Rattle.lt_diff.specs.Bounds.{IsBounded, cell_of, unstated}
+use Rattle.lt_diff.specs.Bounds.{IsBounded, cell_of, no_bound}
 use Rattle.lt_diff.specs.inner.Pivots.{IsRelaxed}
 
 -- a cell is one of the list
@@ -88,11 +88,11 @@ pub pivot_relaxed : (x y : ℤ) → pos 0 ≤ℤ x → IsRelaxed y x y y
 pivot_relaxed x y h = (omega (arith, ints), (λ f g. omega (arith, ints)), inl refl)
 
 -- a cell takes the sum, which is less
-pub sum_taken : (old x y : ℤ) → x ≢ unstated → y ≢ unstated → (x +ℤ y) <ℤ old → IsRelaxed old x y (x +ℤ y)
+pub sum_taken : (old x y : ℤ) → x ≢ no_bound → y ≢ no_bound → (x +ℤ y) <ℤ old → IsRelaxed old x y (x +ℤ y)
 sum_taken old x y f g h = (omega (arith, ints), (λ f g. omega (arith, ints)), inr (f, g, refl, h))
 
 -- a cell stays where there is no less sum
-pub sum_left : (old x y : ℤ) → (x ≢ unstated → y ≢ unstated → old ≤ℤ (x +ℤ y)) → IsRelaxed old x y old
+pub sum_left : (old x y : ℤ) → (x ≢ no_bound → y ≢ no_bound → old ≤ℤ (x +ℤ y)) → IsRelaxed old x y old
 sum_left old x y h = (omega (arith, ints), h, inl refl)
 
 -- the same of equal numbers
@@ -116,8 +116,8 @@ pub bounded_written : (n : ℕ) (xs : List ℤ) (a b : ℕ) (v most : ℤ) → l
 bounded_written n xs a b v most l ha hb e = (cell_written n xs a b v l ha hb ∙ e, (λ i j hj d. cell_left n xs a b v i j hj hb d))
 
 -- one more cell of the diagonal is 0
-pub diagonal_more : (n k : ℕ) (xs : List ℤ) → length xs ≡ n * n → k < n → ((a : ℕ) → a < k → cell_of n xs a a ≡ pos 0) → ((a b : ℕ) → a < n → b < n → a ≢ b → cell_of n xs a b ≡ unstated)
-    → ((a : ℕ) → a < k + 1 → cell_of n (set xs (k * n + k) (pos 0)) a a ≡ pos 0) × ((a b : ℕ) → a < n → b < n → a ≢ b → cell_of n (set xs (k * n + k) (pos 0)) a b ≡ unstated)
+pub diagonal_more : (n k : ℕ) (xs : List ℤ) → length xs ≡ n * n → k < n → ((a : ℕ) → a < k → cell_of n xs a a ≡ pos 0) → ((a b : ℕ) → a < n → b < n → a ≢ b → cell_of n xs a b ≡ no_bound)
+    → ((a : ℕ) → a < k + 1 → cell_of n (set xs (k * n + k) (pos 0)) a a ≡ pos 0) × ((a b : ℕ) → a < n → b < n → a ≢ b → cell_of n (set xs (k * n + k) (pos 0)) a b ≡ no_bound)
 diagonal_more n k xs l hk done left = (
   (λ a ha. elim (cases_eq a k) [
     | inl e ↦ subst (λ (r : ℕ). cell_of n (set xs (k * n + k) (pos 0)) r r ≡ pos 0) (sym e) (cell_written n xs k k (pos 0) l hk hk)

@@ -2,7 +2,7 @@
 use Rattle.std.proofs.Common.{◌≡◌, ◌≢◌, ℕ, suc, ◌<◌, ◌≤◌, List, [], ◌∷◌, ◌++◌, ℤ, pos, ◌+ℤ◌, ◌≤ℤ◌, ◌<ℤ◌, inl, inr, refl, sym, ◌∙◌, subst, arith}
 use Rattle.std.proofs.lemmas.Int.{ints}
 use Rattle.std.proofs.lemmas.Bool.{cases_eq}
-use Rattle.lt_diff.specs.Bounds.{HasSameSolutions, IsSolution, unstated}
+use Rattle.lt_diff.specs.Bounds.{HasSameSolutions, IsSolution, no_bound}
 use Rattle.lt_diff.specs.Closing.{AreStated, AreWithin, IsClosed, IsClosedAt}
 use Rattle.lt_diff.specs.Walks.{HasNegativeCycle, HasWalk, IsWalk, walk_sum}
 use Rattle.lt_diff.specs.inner.Pivots.{HasNegative, IsFlat, IsPivoted}
@@ -18,7 +18,7 @@ IsReached n stated k a b cell = (ps : List ℕ) × IsWalk n stated a ps b × (wa
 
 -- what k pivots keep
 pub record IsClosing (n k : ℕ) (stated cell : ℕ → ℕ → ℤ) : Type 0 where
-  pub reached : (a b : ℕ) → a < n → b < n → cell a b ≢ unstated → IsReached n stated k a b (cell a b)
+  pub reached : (a b : ℕ) → a < n → b < n → cell a b ≢ no_bound → IsReached n stated k a b (cell a b)
   pub less : (a b : ℕ) → a < n → b < n → cell a b ≤ℤ stated a b
   pub closed : (p : ℕ) → p < k → IsClosedAt n cell p
   pub flat : IsFlat n cell
@@ -155,7 +155,7 @@ module _ (n : ℕ) (stated cell : ℕ → ℕ → ℤ) (hn : n ≤ 129) (some : 
       omega (arith, ints)
 
   -- nor than the sum of a walk over bounds
-  at_most_walk : (a b : ℕ) (ps : List ℕ) → b < n → IsWalk n start.bounds a ps b → (cell a b ≢ unstated) × (cell a b ≤ℤ walk_sum start.bounds a ps b)
+  at_most_walk : (a b : ℕ) (ps : List ℕ) → b < n → IsWalk n start.bounds a ps b → (cell a b ≢ no_bound) × (cell a b ≤ℤ walk_sum start.bounds a ps b)
   at_most_walk a b ps hb w =
       least_walk n n start.bounds cell (omega arith) closed_within at_most_bound bounds_within c.closed a b ps hb w (walk_below n start.bounds a b ps w)
     where
@@ -163,7 +163,7 @@ module _ (n : ℕ) (stated cell : ℕ → ℕ → ℤ) (hn : n ≤ 129) (some : 
       bounds_within i j hi hj f = (let x = start.comes.within i j hi hj f in (let low = x.0 in omega (arith, ints), let high = x.1 in omega (arith, ints)))
 
   -- each stated cell follows from a walk over bounds
-  follows_still : (a b : ℕ) → a < n → b < n → cell a b ≢ unstated → HasWalk n start.bounds a b (cell a b)
+  follows_still : (a b : ℕ) → a < n → b < n → cell a b ≢ no_bound → HasWalk n start.bounds a b (cell a b)
   follows_still a b ha hb f =
       let r = c.reached a b ha hb f in
       let w = walk_follows n start.bounds stated start.comes.follows a b r.0 hb r.1 in

@@ -2,16 +2,16 @@
 use Rattle.std.proofs.Common.{◌≢◌, ℕ, ◌<◌, ℤ, ◌-ℤ◌, ◌≤ℤ◌, ◌<ℤ◌, ◌⊎◌, inl, inr, sym, ◌∙◌, subst, arith}
 use Rattle.std.proofs.lemmas.Int.{ints, clamps}
 use Rattle.std.proofs.lemmas.Bool.{cases_eq}
-use Rattle.lt_diff.specs.Bounds.{IsBounded, IsSolution, unstated}
-use Rattle.lt_diff.specs.Laws.{BoundAddsItsOwn, NegativeCycleUnsolved, UnstatedAllowsAll}
+use Rattle.lt_diff.specs.Bounds.{IsBounded, IsSolution, no_bound}
+use Rattle.lt_diff.specs.Laws.{BoundAddsItsOwn, NegativeCycleUnsolved, NoBoundsAllowAll}
 use Rattle.lt_diff.proofs.Walks.{cycle_unsolved}
 use Rattle.lt_diff.proofs.Stating.{cases_eq_z}
 
 pub negative_cycle_unsolved : NegativeCycleUnsolved
 negative_cycle_unsolved n cell c value s = cycle_unsolved n cell value c s
 
-pub unstated_allows_all : UnstatedAllowsAll
-unstated_allows_all n cell u value origin = (
+pub no_bounds_allow_all : NoBoundsAllowAll
+no_bounds_allow_all n cell u value origin = (
   origin,
   (λ a b ha hb f. elim (cases_eq a b) [
     | inl e ↦ subst (λ (r : ℕ). (value a -ℤ value r) ≤ℤ cell a r) e (let is = u.0 a ha in omega (arith, ints))
@@ -19,7 +19,7 @@ unstated_allows_all n cell u value origin = (
   ]),
 )
 
-module _ (n a b : ℕ) (most : ℤ) (old new : ℕ → ℕ → ℤ) (ha : a < n) (hb : b < n) (small : most <ℤ unstated) (bounded : IsBounded n a b most old new) (value : ℕ → ℤ) where
+module _ (n a b : ℕ) (most : ℤ) (old new : ℕ → ℕ → ℤ) (ha : a < n) (hb : b < n) (small : most <ℤ no_bound) (bounded : IsBounded n a b most old new) (value : ℕ → ℤ) where
   one_more : IsSolution n new value → IsSolution n old value × ((value a -ℤ value b) ≤ℤ most)
   one_more s =
       let is = bounded.0 in
@@ -37,7 +37,7 @@ module _ (n a b : ℕ) (most : ℤ) (old new : ℕ → ℕ → ℤ) (ha : a < n)
         omega (arith, ints, clamps),
       )
     where
-      left : IsSolution n new value → (i j : ℕ) → i < n → j < n → (i ≢ a) ⊎ (j ≢ b) → old i j ≢ unstated → (value i -ℤ value j) ≤ℤ old i j
+      left : IsSolution n new value → (i j : ℕ) → i < n → j < n → (i ≢ a) ⊎ (j ≢ b) → old i j ≢ no_bound → (value i -ℤ value j) ≤ℤ old i j
       left s i j hi hj d f = (let same = bounded.1 i j hj d in let m = s.1 i j hi hj (λ e. f (sym same ∙ e)) in omega (arith, ints))
 
   no_other : IsSolution n old value → (value a -ℤ value b) ≤ℤ most → IsSolution n new value
@@ -52,7 +52,7 @@ module _ (n a b : ℕ) (most : ℤ) (old new : ℕ → ℕ → ℤ) (ha : a < n)
     ]),
   )
     where
-      there : (i j : ℕ) → i < n → j < n → (i ≢ a) ⊎ (j ≢ b) → new i j ≢ unstated → (value i -ℤ value j) ≤ℤ new i j
+      there : (i j : ℕ) → i < n → j < n → (i ≢ a) ⊎ (j ≢ b) → new i j ≢ no_bound → (value i -ℤ value j) ≤ℤ new i j
       there i j hi hj d f = (let same = bounded.1 i j hj d in let m = s.1 i j hi hj (λ e. f (same ∙ e)) in omega (arith, ints))
 
       here : (value a -ℤ value b) ≤ℤ new a b

@@ -1,7 +1,7 @@
 -- Cells that are closed at variables are at most the sums of the walks through these.
 use Rattle.std.proofs.Common.{◌≢◌, ℕ, ◌<◌, ◌≤◌, List, [], ◌∷◌, ℤ, ◌+ℤ◌, ◌≤ℤ◌, inl, inr, sym, subst, arith}
 use Rattle.std.proofs.lemmas.Int.{ints}
-use Rattle.lt_diff.specs.Bounds.{unstated}
+use Rattle.lt_diff.specs.Bounds.{no_bound}
 use Rattle.lt_diff.specs.Closing.{AreWithin, IsClosedAt}
 use Rattle.lt_diff.specs.Walks.{IsWalk, walk_sum}
 use Rattle.lt_diff.proofs.Pivots.{is_stated}
@@ -13,11 +13,11 @@ module _ (n k : ℕ) (stated cell : ℕ → ℕ → ℤ) (hk : k ≤ n) (small :
     (less : (a b : ℕ) → a < n → b < n → cell a b ≤ℤ stated a b) (within : AreWithin 520000000000000 n stated)
     (closed : (p : ℕ) → p < k → IsClosedAt n cell p) where
   -- a cell is at most its bound
-  is_less : (a b : ℕ) → a < n → b < n → stated a b ≢ unstated → (cell a b ≢ unstated) × (cell a b ≤ℤ stated a b)
+  is_less : (a b : ℕ) → a < n → b < n → stated a b ≢ no_bound → (cell a b ≢ no_bound) × (cell a b ≤ℤ stated a b)
   is_less a b ha hb f = let w = within a b ha hb f in let l = less a b ha hb in ((λ e. omega (arith, ints)), l)
 
   -- a cell is at most the sum of each walk between its ends that stays below k
-  pub least_walk : (a b : ℕ) (ps : List ℕ) → b < n → IsWalk n stated a ps b → AreBelow k ps → (cell a b ≢ unstated) × (cell a b ≤ℤ walk_sum stated a ps b)
+  pub least_walk : (a b : ℕ) (ps : List ℕ) → b < n → IsWalk n stated a ps b → AreBelow k ps → (cell a b ≢ no_bound) × (cell a b ≤ℤ walk_sum stated a ps b)
   least_walk a b [] hb w h = is_less a b w.0 w.1 w.2
   least_walk a b (p ∷ ps) hb w h =
       let hp : p < n = walk_start n stated p b ps w.2 in
@@ -30,7 +30,7 @@ module _ (n k : ℕ) (stated cell : ℕ → ℕ → ℤ) (hk : k ≤ n) (small :
 
   -- and at most that of its two parts at a variable that it passes
   pub least_parts : (a p b : ℕ) (ps : List ℕ) → b < n → IsWalk n stated a ps b → AreBelow k ps → IsIn p ps
-      → (p < n) × (cell a p ≢ unstated) × (cell p b ≢ unstated) × ((cell a p +ℤ cell p b) ≤ℤ walk_sum stated a ps b)
+      → (p < n) × (cell a p ≢ no_bound) × (cell p b ≢ no_bound) × ((cell a p +ℤ cell p b) ≤ℤ walk_sum stated a ps b)
   least_parts a p b [] hb w h i = absurd i
   least_parts a p b (q ∷ qs) hb w h i =
       let hq : q < n = walk_start n stated q b qs w.2 in
@@ -40,7 +40,7 @@ module _ (n k : ℕ) (stated cell : ℕ → ℕ → ℤ) (hk : k ≤ n) (small :
         | inl e ↦
             let y = least_walk q b qs hb w.2 h.1 in
             let ly = y.1 in
-            subst (λ (r : ℕ). (r < n) × (cell a r ≢ unstated) × (cell r b ≢ unstated) × ((cell a r +ℤ cell r b) ≤ℤ (stated a q +ℤ walk_sum stated q qs b))) (sym e) (hq, x.0, y.0, omega (arith, ints))
+            subst (λ (r : ℕ). (r < n) × (cell a r ≢ no_bound) × (cell r b ≢ no_bound) × ((cell a r +ℤ cell r b) ≤ℤ (stated a q +ℤ walk_sum stated q qs b))) (sym e) (hq, x.0, y.0, omega (arith, ints))
         | inr m ↦
             let y = least_parts q p b qs hb w.2 h.1 m in
             let ly = y.3 in

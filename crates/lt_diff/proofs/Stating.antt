@@ -3,15 +3,15 @@ use Rattle.std.proofs.Common.{◌≡◌, ◌≢◌, ℕ, ◌+◌, ◌*◌, ◌<�
 use Rattle.std.proofs.lemmas.Int.{ints, clamps, by_lt_z}
 use Rattle.std.proofs.lemmas.Bool.{cases_eq}
 use Rattle.std.specs.Int.{int_min}
-use Rattle.lt_diff.specs.Bounds.{AreLess, AreUnstated, IsBounded, StaysStated, cell_of, unstated}
+use Rattle.lt_diff.specs.Bounds.{AreLess, HaveNoBounds, IsBounded, StaysStated, cell_of, no_bound}
 use Rattle.lt_diff.specs.Closing.{AreStated, AreWithin, IsWithin}
 use Rattle.lt_diff.specs.Walks.{HasWalk}
 use Rattle.lt_diff.proofs.Cells.{bounded_written}
 use Rattle.lt_diff.proofs.Walks.{walk_lowered}
 
 -- whether a cell is stated
-pub cases_eq_z : (z : ℤ) → (z ≡ unstated) ⊎ (z ≢ unstated)
-cases_eq_z z = by_lt_z z unstated (λ less. inr (λ e. omega (arith, ints))) (λ no. by_lt_z unstated z (λ more. inr (λ e. omega (arith, ints))) (λ not. inl (omega (arith, ints))))
+pub cases_eq_z : (z : ℤ) → (z ≡ no_bound) ⊎ (z ≢ no_bound)
+cases_eq_z z = by_lt_z z no_bound (λ less. inr (λ e. omega (arith, ints))) (λ no. by_lt_z no_bound z (λ more. inr (λ e. omega (arith, ints))) (λ not. inl (omega (arith, ints))))
 
 -- the smaller of two bounds is as far from 0 as they may be
 min_within : (size : ℕ) (most bound new : ℤ) → 4000000000000 ≤ size → neg_ℤ (pos 4000000000000) ≤ℤ most → most ≤ℤ pos 4000000000000 → new ≡ int_min bound most → IsWithin size bound → IsWithin size new
@@ -38,7 +38,7 @@ lowered_within i a j b most bound (inl e) (inr d) low high w = w
 lowered_within i a j b most bound (inr e) d low high w = w
 
 -- it is stated where the bound was, and no greater
-lowered_less : (i a j b : ℕ) (most bound : ℤ) (e : (i ≡ a) ⊎ (i ≢ a)) (d : (j ≡ b) ⊎ (j ≢ b)) → most <ℤ unstated → bound ≢ unstated → (lowered i a j b most bound e d ≢ unstated) × (lowered i a j b most bound e d ≤ℤ bound)
+lowered_less : (i a j b : ℕ) (most bound : ℤ) (e : (i ≡ a) ⊎ (i ≢ a)) (d : (j ≡ b) ⊎ (j ≢ b)) → most <ℤ no_bound → bound ≢ no_bound → (lowered i a j b most bound e d ≢ no_bound) × (lowered i a j b most bound e d ≤ℤ bound)
 unfolding lowered
 lowered_less i a j b most bound (inl e) (inl d) small f = ((λ h. omega (arith, ints, clamps)), omega (arith, ints, clamps))
 lowered_less i a j b most bound (inl e) (inr d) small f = (f, omega (arith, ints))
@@ -93,7 +93,7 @@ module _ (n a b : ℕ) (most : ℤ) (old new : ℕ → ℕ → ℤ) (ha : a < n)
       record { through = w.through; is = l.0; sum = omega (arith, ints) }
 
   -- this cell follows: where it was less before, as it did then, and else from this bound alone
-  own_follows : new a b ≢ unstated → HasWalk n (with_bound a b most s.bounds) a b (new a b)
+  own_follows : new a b ≢ no_bound → HasWalk n (with_bound a b most s.bounds) a b (new a b)
   own_follows f = by_lt_z most (old a b)
       (λ less. record { through = []; is = (ha, hb, bounds_stated); sum = (let o = bounds_own in let is = bounded.0 in omega (arith, ints, clamps)) })
       (λ no.
@@ -103,16 +103,16 @@ module _ (n a b : ℕ) (most : ℤ) (old new : ℕ → ℕ → ℤ) (ha : a < n)
       bounds_own : with_bound a b most s.bounds a b ≤ℤ most
       bounds_own = lowered_own a b most (s.bounds a b) (cases_eq a a) (cases_eq b b)
 
-      bounds_stated : with_bound a b most s.bounds a b ≢ unstated
+      bounds_stated : with_bound a b most s.bounds a b ≢ no_bound
       bounds_stated e = let o = bounds_own in omega (arith, ints)
 
   -- the cell of these variables is stated
-  pub own_stated : new a b ≢ unstated
+  pub own_stated : new a b ≢ no_bound
   own_stated e = let o = own_most in omega (arith, ints)
 
   -- and so are the others that were
   pub bounded_stays : StaysStated n old new
-  bounded_stays = each (λ i j v. old i j ≢ unstated → v ≢ unstated) (λ i j hi hj f. f) (λ f. own_stated)
+  bounded_stays = each (λ i j v. old i j ≢ no_bound → v ≢ no_bound) (λ i j hi hj f. f) (λ f. own_stated)
 
   -- a further bound leaves what stating bounds leaves
   pub stated_more : AreStated n new
@@ -121,7 +121,7 @@ module _ (n a b : ℕ) (most : ℤ) (old new : ℕ → ℕ → ℤ) (ha : a < n)
     comes = record {
       within = within_bounds;
       less = at_most;
-      follows = each (λ i j v. v ≢ unstated → HasWalk n (with_bound a b most s.bounds) i j v) (λ i j hi hj f. walk_still i j (old i j) hj (s.comes.follows i j hi hj f)) own_follows;
+      follows = each (λ i j v. v ≢ no_bound → HasWalk n (with_bound a b most s.bounds) i j v) (λ i j hi hj f. walk_still i j (old i j) hj (s.comes.follows i j hi hj f)) own_follows;
     };
     within = each (λ i j v. IsWithin 520000000000000 v) s.within (min_within 520000000000000 most (old a b) (new a b) (omega arith) low high bounded.0 (s.within a b ha hb));
     origin = each (λ i j v. i ≡ 0 → j ≡ 0 → v ≤ℤ pos 0) was_origin own_origin 0 0 (omega (arith, ha)) (omega (arith, ha)) refl refl;
@@ -137,8 +137,8 @@ module _ (n a b : ℕ) (most : ℤ) (old new : ℕ → ℕ → ℤ) (ha : a < n)
       own_origin ea eb = let o = was_origin a b ha hb ea eb in let is = bounded.0 in omega (arith, ints, clamps)
 
 -- what stating bounds leaves where none is stated
-pub unstated_stated : (n : ℕ) (cell : ℕ → ℕ → ℤ) → 0 < n → AreUnstated n cell → AreStated n cell
-unstated_stated n cell h u = record {
+pub cleared_stated : (n : ℕ) (cell : ℕ → ℕ → ℤ) → 0 < n → HaveNoBounds n cell → AreStated n cell
+cleared_stated n cell h u = record {
   bounds = cell;
   comes = record {
     within = within;
@@ -167,7 +167,7 @@ less_stays n old new s less a b ha hb f e =
 pub record IsDone (n a b : ℕ) (most : ℤ) (old new : ℕ → ℕ → ℤ) : Type 0 where
   pub cells : IsBounded n a b most old new
   pub stated : AreStated n new
-  pub own : new a b ≢ unstated
+  pub own : new a b ≢ no_bound
   pub kept : StaysStated n old new
 
 -- It is done by writing the smaller of the cell and the bound, which the code knows as this number.

@@ -2,7 +2,7 @@
 use Rattle.std.proofs.Common.{◌≡◌, ◌≢◌, ℕ, ◌+◌, ◌*◌, ◌<◌, List, [], ◌∷◌, ◌++◌, length, ℤ, pos, neg_ℤ, ◌+ℤ◌, ◌-ℤ◌, ◌≤ℤ◌, refl, ap, ◌∙◌, arith}
 use Rattle.std.proofs.lemmas.Int.{ints}
 use Rattle.std.proofs.Math.Nat.{mul-suc}
-use Rattle.lt_diff.specs.Bounds.{IsSolution, unstated}
+use Rattle.lt_diff.specs.Bounds.{IsSolution, no_bound}
 use Rattle.lt_diff.specs.Closing.{AreWithin}
 use Rattle.lt_diff.specs.Walks.{HasNegativeCycle, HasWalk, IsWalk, walk_sum}
 use Rattle.lt_diff.proofs.Places.{AreBelow}
@@ -61,7 +61,7 @@ cycle_unsolved n cell value c s =
 
 -- a walk over bounds is one over lower ones, with no greater sum
 pub walk_lowered : (n : ℕ) (high low : ℕ → ℕ → ℤ)
-    → ((a b : ℕ) → a < n → b < n → high a b ≢ unstated → (low a b ≢ unstated) × (low a b ≤ℤ high a b))
+    → ((a b : ℕ) → a < n → b < n → high a b ≢ no_bound → (low a b ≢ no_bound) × (low a b ≤ℤ high a b))
     → (a b : ℕ) (ps : List ℕ) → b < n → IsWalk n high a ps b → IsWalk n low a ps b × (walk_sum low a ps b ≤ℤ walk_sum high a ps b)
 walk_lowered n high low lower a b [] hb w =
     let x = lower a b w.0 w.1 w.2 in
@@ -75,7 +75,7 @@ walk_lowered n high low lower a b (p ∷ ps) hb w =
 
 -- a walk over cells that follow from bounds follows from them
 pub walk_follows : (n : ℕ) (bounds cell : ℕ → ℕ → ℤ)
-    → ((a b : ℕ) → a < n → b < n → cell a b ≢ unstated → HasWalk n bounds a b (cell a b))
+    → ((a b : ℕ) → a < n → b < n → cell a b ≢ no_bound → HasWalk n bounds a b (cell a b))
     → (a b : ℕ) (ps : List ℕ) → b < n → IsWalk n cell a ps b → HasWalk n bounds a b (walk_sum cell a ps b)
 walk_follows n bounds cell follows a b [] hb w = follows a b w.0 w.1 w.2
 walk_follows n bounds cell follows a b (p ∷ ps) hb w =

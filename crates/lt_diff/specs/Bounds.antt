@@ -3,8 +3,8 @@ use Rattle.std.specs.Prelude.{◌≡◌, ◌≢◌, ℕ, ◌+◌, ◌*◌, ◌<�
 use Rattle.std.specs.Int.{int_min}
 
 -- the cell of two variables for which no bound is stated
-abbrev pub unstated : ℤ
-unstated = pos 9223372036854775807
+abbrev pub no_bound : ℤ
+no_bound = pos 9223372036854775807
 
 -- the cell of two variables, where there are so many of them
 abbrev pub cell_of : ℕ → List ℤ → ℕ → ℕ → ℤ
@@ -14,17 +14,17 @@ cell_of size cells a b = get_or cells (a * size + b) (pos 0)
 abbrev pub IsSolution : ℕ → (ℕ → ℕ → ℤ) → (ℕ → ℤ) → Type 0
 IsSolution size cell value =
     (value 0 ≡ pos 0)
-    × ((a b : ℕ) → a < size → b < size → cell a b ≢ unstated → (value a -ℤ value b) ≤ℤ cell a b)
+    × ((a b : ℕ) → a < size → b < size → cell a b ≢ no_bound → (value a -ℤ value b) ≤ℤ cell a b)
 
 -- both have the same solutions
 abbrev pub HasSameSolutions : ℕ → (ℕ → ℕ → ℤ) → (ℕ → ℕ → ℤ) → Type 0
 HasSameSolutions size old new = (value : ℕ → ℤ) → IsSolution size new value ↔ IsSolution size old value
 
 -- no bound is stated but that a variable minus itself is at most 0
-abbrev pub AreUnstated : ℕ → (ℕ → ℕ → ℤ) → Type 0
-AreUnstated size cell =
+abbrev pub HaveNoBounds : ℕ → (ℕ → ℕ → ℤ) → Type 0
+HaveNoBounds size cell =
     ((a : ℕ) → a < size → cell a a ≡ pos 0)
-    × ((a b : ℕ) → a < size → b < size → a ≢ b → cell a b ≡ unstated)
+    × ((a b : ℕ) → a < size → b < size → a ≢ b → cell a b ≡ no_bound)
 
 -- The bound of one variable over another is this one, where it is less, and all others are as they were.
 abbrev pub IsBounded : ℕ → ℕ → ℕ → ℤ → (ℕ → ℕ → ℤ) → (ℕ → ℕ → ℤ) → Type 0
@@ -34,11 +34,11 @@ IsBounded size a b most old new =
 
 -- each variable has a lower bound: one of variable 0 over it
 abbrev pub HasLeasts : ℕ → (ℕ → ℕ → ℤ) → Type 0
-HasLeasts size cell = (a : ℕ) → a < size → cell 0 a ≢ unstated
+HasLeasts size cell = (a : ℕ) → a < size → cell 0 a ≢ no_bound
 
 -- what is stated stays so, with this bound or with a lower one
 abbrev pub StaysStated : ℕ → (ℕ → ℕ → ℤ) → (ℕ → ℕ → ℤ) → Type 0
-StaysStated size old new = (a b : ℕ) → a < size → b < size → old a b ≢ unstated → new a b ≢ unstated
+StaysStated size old new = (a b : ℕ) → a < size → b < size → old a b ≢ no_bound → new a b ≢ no_bound
 
 -- no cell is greater than it was
 abbrev pub AreLess : ℕ → (ℕ → ℕ → ℤ) → (ℕ → ℕ → ℤ) → Type 0

@@ -1,6 +1,6 @@
 //! Laws of the definitions that the contracts cite. The functions do nothing: their contracts say it.
 
-ghost use Rattle.lt_diff.specs.Laws.{BoundAddsItsOwn, NegativeCycleUnsolved, UnstatedAllowsAll};
+ghost use Rattle.lt_diff.specs.Laws.{BoundAddsItsOwn, NegativeCycleUnsolved, NoBoundsAllowAll};
 
 /// Where some way round from a variable back to it sums to less than 0, no values meet the bounds.
 pub fn negative_cycle_unsolved()
@@ -14,6 +14,6 @@ pub fn bound_adds_its_own()
 {}
 
 /// Where nothing is stated, all values with 0 at variable 0 meet the bounds.
-pub fn unstated_allows_all()
-    ensures { UnstatedAllowsAll }
+pub fn no_bounds_allow_all()
+    ensures { NoBoundsAllowAll }
 {}

@@ -18,5 +18,5 @@ mod matrix;
 mod relaxing;
 mod square;
 
-pub use laws::{bound_adds_its_own, negative_cycle_unsolved, unstated_allows_all};
+pub use laws::{bound_adds_its_own, negative_cycle_unsolved, no_bounds_allow_all};
 pub use matrix::Matrix;

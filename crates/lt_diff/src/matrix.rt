@@ -4,7 +4,7 @@ ghost use Rattle.lt_diff.specs.Limits.{most_bound, most_variables};
 ghost use Rattle.std.specs.Prelude.{◌≡◌, ◌≢◌, ◌*◌, ◌<◌, ◌≤◌, ℕ, ℤ, pos, ◌≤ℤ◌, length, get_or};
 
 use crate::relaxing::close;
-use crate::square::{UNSTATED, negate_row, state, unstate};
+use crate::square::{NO_BOUND, clear_bounds, negate_row, state};
 use lt_formula::Memory;
 use std::alloc::Global;
 
@@ -23,7 +23,7 @@ pub struct Matrix {
 
 impl Matrix {
     ghost use Rattle.std.specs.Prelude.{◌↔◌, IsTrue, Bool, true, false, IfOk, MatchOption, neg_ℤ};
-    ghost use Rattle.lt_diff.specs.Bounds.{AreLess, AreUnstated, HasLeasts, HasSameSolutions, IsBounded, IsSolution, StaysStated, unstated};
+    ghost use Rattle.lt_diff.specs.Bounds.{AreLess, HaveNoBounds, HasLeasts, HasSameSolutions, IsBounded, IsSolution, StaysStated, no_bound};
     ghost use Rattle.lt_diff.specs.Closing.{AreStated, IsClosed};
     ghost use Rattle.lt_diff.specs.MatrixView.{matrix_cell, matrix_size};
     ghost use Rattle.lt_diff.specs.Walks.{HasNegativeCycle};
@@ -37,7 +37,7 @@ impl Matrix {
         requires some { 0 < size }
         requires few { size ≤ most_variables }
         ensures size { IfOk result (λ m. matrix_size m ≡ size) }
-        ensures cells { IfOk result (λ m. AreUnstated size (matrix_cell m)) }
+        ensures cells { IfOk result (λ m. HaveNoBounds size (matrix_cell m)) }
         ensures stated { IfOk result (λ m. AreStated size (matrix_cell m)) }
     {
         let mut matrix = Matrix {
@@ -59,21 +59,21 @@ impl Matrix {
     pub fn most(&self, a: usize, b: usize) -> Option<i64>
         requires a { a < matrix_size self.now }
         requires b { b < matrix_size self.now }
-        ensures { MatchOption result (matrix_cell self.now a b ≡ unstated)
-            (λ most. (matrix_cell self.now a b ≡ most) × (matrix_cell self.now a b ≢ unstated)) }
+        ensures { MatchOption result (matrix_cell self.now a b ≡ no_bound)
+            (λ most. (matrix_cell self.now a b ≡ most) × (matrix_cell self.now a b ≢ no_bound)) }
     {
         let most = self.cells[a * self.size + b];
-        if most == UNSTATED { None } else { Some(most) }
+        if most == NO_BOUND { None } else { Some(most) }
     }
 
     /// Takes all bounds back. It may be called at any time, and is all that may be called once the bounds contradict each
     /// other.
     pub fn clear(&mut self)
         ensures size { matrix_size self.new ≡ matrix_size self.old }
-        ensures cells { AreUnstated (matrix_size self.old) (matrix_cell self.new) }
+        ensures cells { HaveNoBounds (matrix_size self.old) (matrix_cell self.new) }
         ensures stated { AreStated (matrix_size self.old) (matrix_cell self.new) }
     {
-        unstate(&mut self.cells, self.size);
+        clear_bounds(&mut self.cells, self.size);
     }
 
     /// States that variable `a` minus variable `b` is at most `most`, which is at most 4 * 10^12 in size: no difference of
@@ -88,7 +88,7 @@ impl Matrix {
         ensures cells { IsBounded (matrix_size self.old) a b most (matrix_cell self.old)
             (matrix_cell self.new) }
         ensures stated { AreStated (matrix_size self.old) (matrix_cell self.new) }
-        ensures own { matrix_cell self.new a b ≢ unstated }
+        ensures own { matrix_cell self.new a b ≢ no_bound }
         ensures kept { StaysStated (matrix_size self.old) (matrix_cell self.old)
             (matrix_cell self.new) }
     {

@@ -7,7 +7,7 @@ ghost use Rattle.lt_diff.specs.Closing.{AreStated, AreWithin, IsClosed, IsWithin
 ghost use Rattle.lt_diff.specs.Walks.{HasNegativeCycle};
 ghost use Rattle.lt_diff.specs.inner.Pivots.{HasNegative, IsFlat, IsPivoted, IsRelaxed};
 
-use crate::square::UNSTATED;
+use crate::square::NO_BOUND;
 
 // Closes the bounds of a square of cells; false where they contradict each other.
 pub(crate) fn close(cells: &mut [i64], size: usize) -> bool
@@ -84,7 +84,7 @@ fn relax_row(cells: &mut [i64], size: usize, pivot: usize, row: usize)
         cell_of size cells.new a b ≡ cell_of size cells.old a b }
 {
     let first = cells[row * size + pivot];
-    if first == UNSTATED {
+    if first == NO_BOUND {
         return;
     }
     for column in 0..size {
@@ -99,10 +99,10 @@ fn relaxed(cell: i64, first: i64, second: i64) -> i64
     requires second { IsWithin 67600000000000000 second }
     ensures { IsRelaxed cell first second result }
 {
-    if first == UNSTATED {
+    if first == NO_BOUND {
         return cell;
     }
-    if second == UNSTATED {
+    if second == NO_BOUND {
         return cell;
     }
     let sum = first + second;

@@ -1,20 +1,20 @@
 //! A square of cells: a row and a column for each variable.
 
 ghost use Rattle.std.specs.Prelude.{◌≡◌, ◌≢◌, ◌*◌, ◌<◌, ◌≤◌, ℕ, ℤ, pos, neg_ℤ, ◌≤ℤ◌, length, get_or};
-ghost use Rattle.lt_diff.specs.Bounds.{AreUnstated, IsBounded, StaysStated, cell_of, unstated};
+ghost use Rattle.lt_diff.specs.Bounds.{HaveNoBounds, IsBounded, StaysStated, cell_of, no_bound};
 ghost use Rattle.lt_diff.specs.Limits.{most_bound, most_variables};
 ghost use Rattle.lt_diff.specs.Closing.{AreStated};
 
 /// The cell of two variables for which no bound is stated.
-pub(crate) const UNSTATED: i64 = i64::MAX;
+pub(crate) const NO_BOUND: i64 = i64::MAX;
 
 /// Takes all bounds back.
-pub(crate) fn unstate(cells: &mut [i64], size: usize)
+pub(crate) fn clear_bounds(cells: &mut [i64], size: usize)
     requires square { length cells.old ≡ size * size }
     requires few { size ≤ most_variables }
-    ensures { AreUnstated size (cell_of size cells.new) }
+    ensures { HaveNoBounds size (cell_of size cells.new) }
 {
-    cells.fill(UNSTATED);
+    cells.fill(NO_BOUND);
     for variable in 0..size {
         cells[variable * size + variable] = 0;
     }
@@ -31,7 +31,7 @@ pub(crate) fn state(cells: &mut [i64], size: usize, a: usize, b: usize, most: i6
     requires stated { AreStated size (cell_of size cells.old) }
     ensures cells { IsBounded size a b most (cell_of size cells.old) (cell_of size cells.new) }
     ensures stated { AreStated size (cell_of size cells.new) }
-    ensures own { cell_of size cells.new a b ≢ unstated }
+    ensures own { cell_of size cells.new a b ≢ no_bound }
     ensures kept { StaysStated size (cell_of size cells.old) (cell_of size cells.new) }
 {
     let place = a * size + b;

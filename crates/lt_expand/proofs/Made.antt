@@ -30,7 +30,7 @@ use Rattle.lt_term.specs.Within.{is_within}
 use Rattle.lt_term.specs.declared.counter.Counter.{Counter}
 use Rattle.lt_term.specs.declared.term.Term.{Term}
 use Rattle.lt_term.specs.declared.variable.Var.{Var}
-use Rattle.lt_typed.specs.TypedNode.{IsTypedNode}
+use Rattle.lt_typing_laws.specs.TypedNode.{IsTypedNode}
 use Rattle.lt_expand.specs.Classes.{kinds_of}
 use Rattle.lt_expand.specs.Exceptions.{exception_names, numbered}
 use Rattle.lt_expand.specs.Scenes.{locals_of, process_of, variable_of}

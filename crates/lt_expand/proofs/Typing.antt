@@ -3,7 +3,7 @@ use Rattle.std.proofs.Common.{List}
 use Rattle.lt_formula.specs.Kinds.{Kinds}
 use Rattle.lt_macros.specs.Expanded.{Exception, Expanded, eps, dead, con, raise, seq, loop, count, any, pri, par, assert, exist, catch, try, Parts, no_part, part}
 use Rattle.lt_term.specs.TypedTerm.{AreTypedChoices, IsTypedTerm}
-use Rattle.lt_typed.specs.TypedNode.{AreTyped, IsTyped}
+use Rattle.lt_typing_laws.specs.TypedNode.{AreTyped, IsTyped}
 use Rattle.lt_expand.specs.Scenes.{choices_of, process_of}
 
 mutual

@@ -10,7 +10,7 @@ ghost use Rattle.lt_macros.specs.Naming.{NamesWhatIsThere};
 ghost use Rattle.lt_macros.specs.Numbering.{IsNumbered};
 ghost use Rattle.lt_macros.specs.Scoping.{AreInside};
 ghost use Rattle.lt_macros.specs.Tree.{expanded, node};
-ghost use Rattle.lt_typed.specs.TypedNode.{IsTypedNode};
+ghost use Rattle.lt_typing_laws.specs.TypedNode.{IsTypedNode};
 ghost use Rattle.lt_expand.specs.Answer.{IsAnswer};
 
 use crate::items::items_of;
@@ -19,9 +19,9 @@ use crate::kinds::kinds_of;
 use crate::refusal::ExpandRefusal;
 use crate::scenario::scenario;
 use lt_macros::{Node, expanded_node, locals_are_inside, names_are_there, parts_are_numbered};
-use lt_spelled::texts_keep_types;
 use lt_term::Scenario;
 use lt_types::{Typed, well_typed_is_unrefused};
+use lt_typing_laws::texts_keep_types;
 use std::alloc::Global;
 use std::mem;
 

@@ -9,7 +9,7 @@ ghost use Rattle.lt_macros.specs.Preorder.{items};
 ghost use Rattle.lt_macros.specs.Scoping.{AreInside};
 ghost use Rattle.lt_macros.specs.Tree.{expanded, node};
 ghost use Rattle.lt_term.specs.SceneView.{scene};
-ghost use Rattle.lt_typed.specs.TypedNode.{IsTypedNode};
+ghost use Rattle.lt_typing_laws.specs.TypedNode.{IsTypedNode};
 ghost use Rattle.lt_expand.specs.Classes.{kinds_of};
 ghost use Rattle.lt_expand.specs.Scenes.{scene_of};
 ghost use Rattle.lt_expand.specs.inner.Items.{items_view};

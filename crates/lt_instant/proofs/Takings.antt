@@ -24,16 +24,16 @@ use Rattle.lt_term.specs.Size.{capped}
 use Rattle.lt_term.specs.Tree.{Lasts, flattened, size}
 use Rattle.lt_term.specs.View.{kinds_of}
 use Rattle.lt_term.specs.declared.scenario.Scenario.{Scenario}
-use Rattle.lt_track.specs.View as track
+use Rattle.lt_marks.specs.View as track
 use Rattle.lt_instant.specs.Drawn.{Met}
 use Rattle.lt_instant.specs.Instant.{Leaf, values, deadlock, too_large, go_instant, drawn_in, has_need, instant_of, is_too_large, leaf_instant, may_give_up, offered, taken_in, taken_instant, words_of}
 use Rattle.lt_instant.specs.Solved.{locals_by, outputs_by, scoped, solution_of, values_of}
 use Rattle.lt_instant.specs.SolverView.{solver_values}
-use Rattle.lt_instant.specs.StandingView.{configuration, process_of}
+use Rattle.lt_instant.specs.RunStateView.{configuration, process_of}
 use Rattle.lt_instant.specs.declared.explorer.Explorer.{Explorer}
-use Rattle.lt_instant.specs.declared.standing.Standing.{Standing}
+use Rattle.lt_instant.specs.declared.run_state.RunState.{RunState}
 use Rattle.lt_instant.specs.inner.Found.{solved, solved_by, found_at}
-use Rattle.lt_instant.specs.inner.MomentView.{meaning_of}
+use Rattle.lt_instant.specs.inner.DrawContextView.{meaning_of}
 use Rattle.lt_instant.specs.inner.Takes.{IsBehind, due_leaf}
 use Rattle.lt_instant.proofs.Scenes.{kinds-view}
 
@@ -60,7 +60,7 @@ module _ (s : Scene) (seed : ℕ) (draw : Draw) (c : Configuration) (inputs : Li
 
 module _ (s : Scenario) (seed : ℕ) (draw : Draw) (c : Configuration) (inputs : List Value) (e : Explorer) where
   -- what an instant leaves, by its locals and by what comes next
-  pub goes : (o : Leaf) (new : Standing) → IsBehind s.table e o → solved (solver_values e.solver) ≡ found_at (scene s) draw (words_of seed c) o
+  pub goes : (o : Leaf) (new : RunState) → IsBehind s.table e o → solved (solver_values e.solver) ≡ found_at (scene s) draw (words_of seed c) o
       → new.past.reaction.inputs.items ≡ inputs → new.past.reaction.outputs.items ≡ outputs_by (scene s) (solver_values e.solver)
       → new.past.locals.items ≡ scoped e.walk.lasts.items 0 (locals_by (scene s) (solver_values e.solver)) → new.past.has_reacted ≡ true
       → process_of new.explorer ≡ advanced (values_of e.walk.lasts.items (locals_by (scene s) (solver_values e.solver))) (track.next e.track) → new.past.step ≡ c.step
@@ -82,7 +82,7 @@ module _ (s : Scenario) (seed : ℕ) (draw : Draw) (c : Configuration) (inputs :
 
 -- The size of what is offered.
 
-module _ (s : Scenario) (x : Standing) where
+module _ (s : Scenario) (x : RunState) where
   abbrev at : Configuration
   at = configuration s.table x
 
@@ -111,5 +111,5 @@ module _ (s : Scenario) (x : Standing) where
     is_small l = ap (λ b. if b then too_large else taken_instant (scene s) seed draw at inputs (taken_in (scene s) seed draw at inputs)) (sym (not_large l))
 
 -- where a run stands while what is still to be done and what is behind it stay
-pub stands_still : (s : Scenario) (x y : Standing) → process_of y.explorer ≡ process_of x.explorer → y.past ≡ x.past → configuration s.table y ≡ configuration s.table x
+pub stands_still : (s : Scenario) (x y : RunState) → process_of y.explorer ≡ process_of x.explorer → y.past ≡ x.past → configuration s.table y ≡ configuration s.table x
 stands_still s x y p b = λ i. record { process = with_constraints (meaning_of s.table) (p i); step = (b i).step; previous = (configuration s.table (record { explorer = x.explorer; past = b i })).previous }

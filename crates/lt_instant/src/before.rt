@@ -6,11 +6,11 @@ ghost use Rattle.lt_formula.specs.Valuation.{value_under};
 ghost use Rattle.lt_formula.specs.View.{table_expressions, table_kinds, table_len};
 ghost use Rattle.lt_term.specs.Configuration.{known_in};
 ghost use Rattle.lt_term.specs.SceneView.{scene};
-ghost use Rattle.lt_instant.specs.Equipment.{IsEarlierOf};
-ghost use Rattle.lt_instant.specs.StandingView.{configuration_behind};
+ghost use Rattle.lt_instant.specs.Equipment.{HasRoomForEarlier};
+ghost use Rattle.lt_instant.specs.RunStateView.{configuration_behind};
 
+use crate::draw_context::DrawContext;
 use crate::earlier::Earlier;
-use crate::moment::Moment;
 use lt_formula::{Table, known_value};
 use lt_num::{Arith, Value};
 
@@ -21,19 +21,19 @@ use lt_num::{Arith, Value};
 ///
 /// The first fault that its evaluation meets.
 pub fn value_before(
-    moment: &Moment<'_>,
+    context: &DrawContext<'_>,
     table: &Table,
     exp: u32,
     earlier: &mut Earlier,
 ) -> Result<Value, Arith>
     requires within { exp < table_len table.now }
-    requires earlier { IsEarlierOf moment.now.scenario.now earlier.old }
+    requires earlier { HasRoomForEarlier context.now.scenario.now earlier.old }
     ensures value { result ≡ value_under
-        (known_in (scene moment.now.scenario.now) (configuration_behind moment.now.past.now)
-        moment.now.inputs.now []) (table_kinds table.now)
+        (known_in (scene context.now.scenario.now) (configuration_behind context.now.past.now)
+        context.now.inputs.now []) (table_kinds table.now)
         (spelled (table_expressions table.now) exp) }
-    ensures earlier { IsEarlierOf moment.now.scenario.now earlier.new }
+    ensures earlier { HasRoomForEarlier context.now.scenario.now earlier.new }
 {
-    earlier.find(moment, &[]);
-    known_value(table, exp, &moment.known(earlier))
+    earlier.find(context, &[]);
+    known_value(table, exp, &context.known(earlier))
 }

@@ -2,8 +2,8 @@
 
 ghost use Rattle.std.specs.Prelude.{◌≡◌, drop, take};
 
-use lt_place::Chooser;
 use lt_term::{Last, Weight};
+use lt_walk::Chooser;
 
 /// Leads a walk along a path, and stops it at a choice where the path ends. It keeps how many nodes the walk has told of there.
 #[derive(Drop)]
@@ -60,7 +60,7 @@ impl<'a> Chooser<()> for Guide<'a> {
         Some(choice)
     }
 
-    fn side(&mut self, _moment: &(), nodes: u32) -> Option<u32> {
+    fn side(&mut self, _context: &(), nodes: u32) -> Option<u32> {
         if self.part > 0 {
             self.nodes = nodes;
         }
@@ -69,7 +69,7 @@ impl<'a> Chooser<()> for Guide<'a> {
 
     fn part(
         &mut self,
-        _moment: &(),
+        _context: &(),
         _scope: &[(u32, Last)],
         _weights: &[Weight],
         before: &[u32],

@@ -2,23 +2,23 @@
 
 ghost use Rattle.std.specs.Prelude.{◌≡◌, ℕ, IfOk, OnOk, suc};
 ghost use Rattle.lt_marks_tests.specs.Runs.{IsRun};
-ghost use Rattle.lt_place.specs.Room.{IsRoomFor};
+ghost use Rattle.lt_walk.specs.Room.{IsRoomFor};
 ghost use Rattle.lt_term.specs.Counted.{IsCounted, IsDoneTo};
 ghost use Rattle.lt_term.specs.View.{process};
-ghost use Rattle.lt_track.specs.Tallied.{IsTallied};
-ghost use Rattle.lt_track.specs.View.{body, nodes, standing};
-ghost use Rattle.lt_track.specs.Walk.{IsRoomy};
+ghost use Rattle.lt_marks.specs.Tallied.{IsTallied};
+ghost use Rattle.lt_marks.specs.View.{body, nodes, standing};
+ghost use Rattle.lt_marks.specs.Walk.{IsRoomy};
 
 use crate::guide::Guide;
 use crate::shown::shown_place;
+use lt_marks::{
+    Reached, Track, Walk, body_is_at_start, go_on, node_count, steps_grow_by_one, track_of,
+};
 use lt_num::Value;
-use lt_place::{reach, weights_for};
 use lt_term::{
     Scenario, Term, Tree, TreeNode, Var, advance, body_is_valid, offers, turns_grow_by_one,
 };
-use lt_track::{
-    Reached, Track, Walk, body_is_at_start, go_on, node_count, steps_grow_by_one, track_of,
-};
+use lt_walk::{reach, weights_for};
 use std::alloc::Global;
 use std::test::Fail;
 

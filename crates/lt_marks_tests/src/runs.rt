@@ -158,7 +158,7 @@ fn check_step(
     ensures { OnOk result (IsRun run.new) }
 {
     let count = lt_term::size(alloc, &run.term)?;
-    assert_eq!(rt; u64::from(lt_track::size(&run.track)), count);
+    assert_eq!(rt; u64::from(lt_marks::size(&run.track)), count);
     if count > MOST_NODES {
         return Ok(false);
     }

@@ -3,9 +3,9 @@
 //! A constraint and a weight are shown by the number of their expression, a local by its number with the value that it had, or
 //! `new`.
 
+use lt_marks::{Reached, Walk};
 use lt_num::Value;
 use lt_term::{Last, TreeNode, Weight};
-use lt_track::{Reached, Walk};
 use std::alloc::{AllocError, Global};
 
 /// A node of a tree.
@@ -32,7 +32,7 @@ pub fn shown_place(alloc: Global, reached: Reached, walk: &Walk) -> Result<Strin
         Reached::Raised(exception) => format!(in alloc; "raise {exception}"),
         Reached::Ordered => String::from_str(alloc, "ordered"),
         Reached::Weighted => shown_choice(alloc, &walk.weights, &walk.scope),
-        Reached::Go => shown_instant(alloc, &walk.fired, &walk.lasts),
+        Reached::Go => shown_instant(alloc, &walk.constraints, &walk.lasts),
     }
 }
 

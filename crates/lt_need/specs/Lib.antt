@@ -1,6 +1,6 @@
 -- The work that a search may need.
 pub mod Need
 -- What contracts see of the room for it.
-pub mod RoomView
+pub mod ScratchView
 -- Words of private contracts.
 pub mod inner

@@ -2,7 +2,7 @@
 //!
 //! A need is the product of what makes a search long, and of nothing else: how many variables are in scope, how many
 //! points the hard ones have, and three ways for each choice that the conjuncts leave. [`measure`] finds it for a gate
-//! of a [`Circuit`](lt_space::Circuit), and which variables are hard, in a [`Room`] that was made before. It takes no
+//! of a [`Circuit`](lt_space::Circuit), and which variables are hard, in a [`NeedScratch`] that was made before. It takes no
 //! memory.
 //!
 //! No formula is built. Each gate has a face, which says what is left of it once truths are absorbed: a truth, or
@@ -21,11 +21,11 @@ mod faces;
 mod gathering;
 mod hard;
 mod measuring;
+mod need_scratch;
 mod product;
 mod quick;
-mod room;
 mod uses;
 
 pub use measuring::measure;
+pub use need_scratch::NeedScratch;
 pub use quick::quick_bound;
-pub use room::Room;

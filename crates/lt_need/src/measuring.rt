@@ -6,20 +6,20 @@ ghost use Rattle.lt_space.specs.Absorbed.{absorbed};
 ghost use Rattle.lt_space.specs.Circuit.{formula_at};
 ghost use Rattle.lt_space.specs.CircuitView.{circuit_formulas, circuit_len};
 ghost use Rattle.lt_need.specs.Need.{atoms_of, is_hard_variable, need, variables_in};
-ghost use Rattle.lt_need.specs.RoomView.{room_gates, room_hard};
+ghost use Rattle.lt_need.specs.ScratchView.{scratch_gates, scratch_hard};
 
 use crate::conjuncts::choices_of;
 use crate::faces::find_faces;
 use crate::gathering::gather;
 use crate::hard::mark_hard;
+use crate::need_scratch::NeedScratch;
 use crate::product::{times_points, times_threes};
-use crate::room::Room;
 use lt_num::Range;
 use lt_space::Circuit;
 
 /// The need of a search for values of the variables of a scope, within ranges, at which the formula of a gate holds:
 /// 180 for each variable of the scope and once more, times the points of its hard variables, times three for each
-/// choice of its conjuncts, and 2^127 where that is greater. Afterwards [`Room::hard`] has its hard variables.
+/// choice of its conjuncts, and 2^127 where that is greater. Afterwards [`NeedScratch::hard`] has its hard variables.
 ///
 /// The scope has a mark for each variable and the ranges a range, by its number. A hard variable that is out of scope
 /// has the points of its range nonetheless, and one without a range counts once.
@@ -28,16 +28,16 @@ pub fn measure(
     root: u32,
     scope: &[bool],
     ranges: &[Range],
-    room: &mut Room,
+    room: &mut NeedScratch,
 ) -> u128
     requires root { root < circuit_len circuit.now }
-    requires room { circuit_len circuit.now ≤ room_gates room.old }
+    requires room { circuit_len circuit.now ≤ scratch_gates room.old }
     requires points { All HasPoints ranges.now }
     ensures need { result ≡
         need (formula_at (circuit_formulas circuit.now) root) scope.now ranges.now }
-    ensures hard { (i : ℕ) → slice_index_or (room_hard room.new) i false ≡ is_hard_variable ranges.now
+    ensures hard { (i : ℕ) → slice_index_or (scratch_hard room.new) i false ≡ is_hard_variable ranges.now
         (atoms_of (absorbed (formula_at (circuit_formulas circuit.now) root))) i }
-    ensures gates { room_gates room.new ≡ room_gates room.old }
+    ensures gates { scratch_gates room.new ≡ scratch_gates room.old }
 {
     find_faces(circuit, root, &mut room.faces);
     gather(

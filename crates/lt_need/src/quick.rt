@@ -6,15 +6,15 @@ ghost use Rattle.lt_num.specs.declared.range.Range.{Range};
 ghost use Rattle.lt_space.specs.Circuit.{formula_at, gate_fits, gate_formula};
 ghost use Rattle.lt_space.specs.CircuitView.{circuit_formulas, circuit_len, circuit_terms};
 ghost use Rattle.lt_need.specs.Need.{atoms_of, is_hard_variable, need};
-ghost use Rattle.lt_need.specs.RoomView.{room_gates, room_hard};
+ghost use Rattle.lt_need.specs.ScratchView.{scratch_gates, scratch_hard};
 ghost use Rattle.lt_need.specs.inner.Counts.{own_of};
 ghost use Rattle.lt_need.specs.inner.Uses.{several_in};
 ghost use Rattle.lt_need.specs.inner.Leaves.{AreFew, HasLeaves, HaveLeaves, are_easy, denied_leaves, leaves_at};
 
 use crate::hard::is_difference;
 use crate::measuring::variables_in;
+use crate::need_scratch::NeedScratch;
 use crate::product::times_threes;
-use crate::room::Room;
 use crate::uses::several_at;
 use lt_num::Range;
 use lt_space::{Circuit, Gate};
@@ -46,7 +46,7 @@ impl Leaves {
 }
 
 /// A number that the need isn't over, as [`measure`](crate::measure) would find it, for a formula of few atoms of which
-/// none can be hard, whatever stands beside it; none, for any other one. Where there is such a number, [`Room::hard`]
+/// none can be hard, whatever stands beside it; none, for any other one. Where there is such a number, [`NeedScratch::hard`]
 /// has the hard variables: none.
 ///
 /// This looks at each gate up to the root once, and spares a search the measuring wherever the bound is within its
@@ -56,16 +56,16 @@ pub fn quick_bound(
     root: u32,
     scope: &[bool],
     ranges: &[Range],
-    room: &mut Room,
+    room: &mut NeedScratch,
 ) -> Option<u128>
     requires root { root < circuit_len circuit.now }
-    requires room { circuit_len circuit.now ≤ room_gates room.old }
+    requires room { circuit_len circuit.now ≤ scratch_gates room.old }
     ensures bound { IfSome result (λ bound.
         need (formula_at (circuit_formulas circuit.now) root) scope.now ranges.now ≤ bound) }
-    ensures hard { IfSome result (λ _. (i : ℕ) → slice_index_or (room_hard room.new) i false ≡
+    ensures hard { IfSome result (λ _. (i : ℕ) → slice_index_or (scratch_hard room.new) i false ≡
         is_hard_variable ranges.now
         (atoms_of (absorbed (formula_at (circuit_formulas circuit.now) root))) i) }
-    ensures gates { room_gates room.new ≡ room_gates room.old }
+    ensures gates { scratch_gates room.new ≡ scratch_gates room.old }
 {
     let leaves = count_leaves(circuit, root, ranges, &mut room.leaves)?;
     room.hard.fill(false);

@@ -7,13 +7,15 @@ ghost use Rattle.lt_formula.specs.View.{table_expressions, table_kinds, table_le
 ghost use Rattle.lt_num.specs.Bounds.{most_decimals};
 ghost use Rattle.lt_term.specs.Configuration.{known_in};
 ghost use Rattle.lt_instant.proofs.Public.{explores-prop};
-ghost use Rattle.lt_instant.specs.Equipment.{IsExplorerOf, IsPastOf, IsRoomOf};
-ghost use Rattle.lt_instant.specs.StandingView.{process_of};
+ghost use Rattle.lt_instant.specs.Equipment.{IsExplorerOf, IsPastOf, IsScratchOf};
+ghost use Rattle.lt_instant.specs.RunStateView.{process_of};
 ghost use Rattle.lt_step.specs.inner.Done.{is_done_to};
 
 use lt_draw::{Draw, StepWords};
 use lt_formula::Table;
-use lt_instant::{Explorer, Moment, Past, Room, Standing, Taken, take_instant, value_before};
+use lt_instant::{
+    DrawContext, Explorer, InstantScratch, Past, RunState, Taken, take_instant, value_before,
+};
 use lt_num::{Arith, Value};
 use lt_term::{Memory, Scenario, Var, body_is_valid, turns_grow_by_one};
 use std::alloc::Global;
@@ -53,14 +55,14 @@ pub struct Machine {
     words: StepWords,
     draw: Draw,
     budget: u64,
-    standing: Standing,
-    room: Room,
+    run_state: RunState,
+    room: InstantScratch,
     is_finished: bool,
-    ghost explores: { IsExplorerOf scenario standing.explorer } by { explores-prop scenario standing.explorer },
-    ghost behind: { IsPastOf scenario standing.past },
-    ghost roomy: { IsRoomOf scenario room },
-    ghost counted: { IsTrue (is_done_to standing.past.step (process_of standing.explorer)) },
-    ghost in_step: { words.step ≡ standing.past.step },
+    ghost explores: { IsExplorerOf scenario run_state.explorer } by { explores-prop scenario run_state.explorer },
+    ghost behind: { IsPastOf scenario run_state.past },
+    ghost roomy: { IsScratchOf scenario room },
+    ghost counted: { IsTrue (is_done_to run_state.past.step (process_of run_state.explorer)) },
+    ghost in_step: { words.step ≡ run_state.past.step },
 }
 
 impl Machine {
@@ -89,13 +91,13 @@ impl Machine {
         turns_grow_by_one();
         let explorer = Explorer::make(alloc, &scenario)?;
         let past = Past::make(alloc, &scenario)?;
-        let room = Room::make(alloc, &scenario)?;
+        let room = InstantScratch::make(alloc, &scenario)?;
         Ok(Machine {
             scenario,
             words: StepWords::new(seed, 1),
             draw,
             budget,
-            standing: Standing { explorer, past },
+            run_state: RunState { explorer, past },
             room,
             is_finished: false,
         })
@@ -116,7 +118,7 @@ impl Machine {
         turns_grow_by_one();
         let taken = take_instant(
             &self.scenario,
-            &mut self.standing,
+            &mut self.run_state,
             inputs,
             &self.words,
             self.draw,
@@ -126,7 +128,7 @@ impl Machine {
         match taken {
             Taken::Go => {
                 self.words.next_step();
-                self.standing.past.step += 1;
+                self.run_state.past.step += 1;
                 Outcome::Values
             }
             Taken::Vanish => self.end(Outcome::Normal),
@@ -151,19 +153,19 @@ impl Machine {
             (table_kinds table.now) (spelled (table_expressions table.now) exp)) }
         ensures same { machine_state self.new ≡ machine_state self.old }
     {
-        let moment = Moment {
+        let context = DrawContext {
             scenario: &self.scenario,
-            past: &self.standing.past,
+            past: &self.run_state.past,
             inputs,
             words: &self.words,
             draw: self.draw,
             budget: self.budget,
         };
         value_before(
-            &moment,
+            &context,
             table,
             exp,
-            &mut self.standing.explorer.picker.earlier,
+            &mut self.run_state.explorer.drawer.earlier,
         )
     }
 
@@ -182,10 +184,10 @@ impl Machine {
     pub fn outputs(&self) -> &[Value]
         ensures { result.now ≡ outputs_in (machine_state self.now).phase }
     {
-        if self.is_finished || !self.standing.past.has_reacted {
+        if self.is_finished || !self.run_state.past.has_reacted {
             return &[];
         }
-        &self.standing.past.reaction.outputs
+        &self.run_state.past.reaction.outputs
     }
 
     /// The locals of the last instant, in their order, where one out of its scope has no value: none before the
@@ -196,7 +198,7 @@ impl Machine {
         if self.is_finished {
             return &[];
         }
-        &self.standing.past.locals
+        &self.run_state.past.locals
     }
 
     /// The inputs of the scenario.

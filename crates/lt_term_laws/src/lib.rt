@@ -1,5 +1,5 @@
-//! What follows from the rules on terms, in the words of the language. The functions do nothing: their contracts say
-//! it.
+//! What follows from the rules on terms, in the words of the language.
+//! No program calls this crate: its functions do nothing, and their contracts say it.
 #![tactic(auto)]
 
 mod laws;

@@ -1,6 +1,6 @@
 -- One pivot of a closure.
 use Rattle.std.specs.Prelude.{◌≡◌, ◌≢◌, ℕ, ◌<◌, ◌⊎◌, ℤ, pos, ◌+ℤ◌, ◌≤ℤ◌, ◌<ℤ◌}
-use Rattle.lt_diff.specs.Bounds.{unstated}
+use Rattle.lt_diff.specs.Bounds.{no_bound}
 
 -- no variable is to be under itself
 abbrev pub IsFlat : ℕ → (ℕ → ℕ → ℤ) → Type 0
@@ -15,8 +15,8 @@ HasNegative size cell = (a : ℕ) × (a < size) × (cell a a <ℤ pos 0)
 abbrev pub IsRelaxed : ℤ → ℤ → ℤ → ℤ → Type 0
 IsRelaxed old x y new =
     (new ≤ℤ old)
-    × (x ≢ unstated → y ≢ unstated → new ≤ℤ (x +ℤ y))
-    × ((new ≡ old) ⊎ ((x ≢ unstated) × (y ≢ unstated) × (new ≡ x +ℤ y) × (new <ℤ old)))
+    × (x ≢ no_bound → y ≢ no_bound → new ≤ℤ (x +ℤ y))
+    × ((new ≡ old) ⊎ ((x ≢ no_bound) × (y ≢ no_bound) × (new ≡ x +ℤ y) × (new <ℤ old)))
 
 -- each cell is relaxed by way of this variable
 abbrev pub IsPivoted : ℕ → ℕ → (ℕ → ℕ → ℤ) → (ℕ → ℕ → ℤ) → Type 0

@@ -1,7 +1,7 @@
 use Rattle.std.proofs.Common.{suc, [], subst, sym}
 use Rattle.lt_term.specs.Counted.{IsDoneTo}
 use Rattle.lt_term.specs.View.{kinds_of}
-use Rattle.lt_track.specs.View.{standing}
+use Rattle.lt_marks.specs.View.{standing}
 use Rattle.lt_marks_tests.proofs.run.mark_behind.Goals as goal
 
 pub returns-in-Go-clause-done : goal.returns-in-Go-clause-done

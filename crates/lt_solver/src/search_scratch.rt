@@ -1,0 +1,192 @@
+//! Scratch for searches, and what the last search leaves to the next one.
+
+ghost use Rattle.std.specs.Prelude.{◌≡◌, ◌<◌, ◌≤◌, ◌^◌, IfOk, IfSome, ℕ, List, length, true, vec_capacity};
+ghost use Rattle.lt_formula.specs.Limits.{most_variables};
+ghost use Rattle.lt_need.specs.Need.{need};
+ghost use Rattle.lt_num.specs.declared.range.Range.{Range};
+ghost use Rattle.lt_propagation.specs.Ties.{AreTies};
+ghost use Rattle.lt_space.specs.CircuitView.{circuit_len};
+ghost use Rattle.lt_space.specs.SpaceView.{space_circuit, space_formula};
+ghost use Rattle.lt_solver.specs.inner.Begun.{IsCopied};
+ghost use Rattle.lt_solver.specs.inner.Known.{IsKnown, Knows};
+ghost use Rattle.lt_solver.specs.inner.Roomy.{IsRoomy};
+
+use crate::classifying::BoxRoom;
+use lt_formula::{Memory, Scale};
+use lt_num::Interval;
+use lt_propagation::find_ties;
+use lt_space::Space;
+use std::alloc::Global;
+
+// How many gates by their forms are remembered.
+const LATEST: usize = 256;
+
+/// Room for searches over some variables.
+#[derive(Drop)]
+pub(crate) struct SearchScratch {
+    /// How places tell the values of each variable.
+    pub(crate) scales: Vec<Scale>,
+
+    /// The place of each variable to begin at.
+    pub(crate) starts: Vec<i64>,
+
+    /// The box at hand, of places.
+    pub(crate) current: Vec<Interval>,
+
+    /// The boxes that are left.
+    pub(crate) stack: Vec<Interval>,
+
+    /// Room for what is found of a box.
+    pub(crate) boxes: BoxRoom,
+
+    /// A number that the need of the last search isn't over, if its circuit is kept.
+    pub(crate) bound: Option<u64>,
+
+    /// The scope of that search.
+    pub(crate) scope: Vec<bool>,
+
+    /// Gates by their forms, of any circuit.
+    pub(crate) latest: Vec<u32>,
+
+    /// For each gate an earlier one with the same form, or else itself.
+    pub(crate) same: Vec<u32>,
+
+    /// How many first points weren't found to pass, one after the other.
+    pub(crate) misses: u32,
+
+    /// Room to measure needs in, with the hard variables of the last one.
+    pub(crate) need: lt_need::NeedScratch,
+}
+
+impl SearchScratch {
+    /// Room for searches over so many variables, for circuits of up to so many gates: at most as many as have a number.
+    ///
+    /// # Errors
+    ///
+    /// Want of memory.
+    pub(crate) fn make(alloc: Global, count: usize, gates: usize) -> Result<SearchScratch, Memory>
+        requires few { count ≤ most_variables }
+        requires few_gates { gates ≤ 2 ^ 32 }
+        ensures roomy { IfOk result (λ room.
+            IsRoomy count (vec_capacity room.boxes.refuter.kleenes) room) }
+        ensures gates { IfOk result (λ room. gates ≤ vec_capacity room.boxes.refuter.kleenes) }
+        ensures knows { (ranges : List Range) → IfOk result (λ room. Knows ranges room) }
+    {
+        Ok(SearchScratch {
+            scales: Vec::with_capacity(alloc, count)?,
+            starts: Vec::with_capacity(alloc, count)?,
+            current: Vec::with_capacity(alloc, count)?,
+            stack: Vec::with_capacity(alloc, count * 42 * count)?,
+            boxes: BoxRoom::make(alloc, count, gates)?,
+            bound: None,
+            scope: Vec::with_capacity(alloc, count)?,
+            latest: vec![in alloc; 0; LATEST]?,
+            same: Vec::with_capacity(alloc, gates)?,
+            misses: 0,
+            need: lt_need::NeedScratch::make(alloc, gates)?,
+        })
+    }
+
+    /// A number that the need of a formula isn't over, if the last search was for the same in the same scope: then its ties stand
+    /// too. What is kept of any other search is forgotten.
+    pub(crate) fn known_bound(&mut self, space: &Space, scope: &[bool]) -> Option<u64>
+        ensures known { (ranges : List Range) → Knows ranges self.old →
+            IfSome result (IsKnown ranges self.new space.now scope.now) }
+        ensures knows { (ranges : List Range) → Knows ranges self.old → Knows ranges self.new }
+        ensures roomy { (variables gates : ℕ) → IsRoomy variables gates self.old →
+            IsRoomy variables gates self.new }
+        ensures kleenes { vec_capacity self.new.boxes.refuter.kleenes ≡
+            vec_capacity self.old.boxes.refuter.kleenes }
+    {
+        if self.is_for(space, scope) {
+            return self.bound;
+        }
+        self.bound = None;
+        None
+    }
+
+    // Whether the circuit of a space is kept with this scope.
+    fn is_for(&self, space: &Space, scope: &[bool]) -> bool
+        ensures scope { result ≡ true → self.now.scope.items ≡ scope.now }
+        ensures copied { result ≡ true → IsCopied self.now.boxes.recall space.now }
+    {
+        are_same_marks(&self.scope, scope) && self.boxes.recall.is_of(space)
+    }
+
+    /// Finds out what a search needs to know of its formula, unless that is known; the need isn't over the bound, if there is one.
+    pub(crate) fn prepare(
+        &mut self,
+        space: &Space,
+        scope: &[bool],
+        bound: Option<u64>,
+        is_known: bool,
+    )
+        requires ties { is_known ≡ true → AreTies (space_circuit space.now) self.old.same.items }
+        requires copied { is_known ≡ true → IsCopied self.old.boxes.recall space.now }
+        requires room { circuit_len (space_circuit space.now) ≤ vec_capacity self.old.same }
+        requires latest { 0 < length self.old.latest.items }
+        ensures ties { AreTies (space_circuit space.now) self.new.same.items }
+        ensures due { self.new.boxes.recall.is_due ≡ true → IsCopied self.new.boxes.recall space.now }
+        ensures knows { (ranges : List Range) → Knows ranges self.old →
+            IfSome bound (λ b. need (space_formula space.now) scope.now ranges ≤ b) →
+            Knows ranges self.new }
+        ensures roomy { (variables gates : ℕ) → IsRoomy variables gates self.old →
+            IsRoomy variables gates self.new }
+        ensures kleenes { vec_capacity self.new.boxes.refuter.kleenes ≡
+            vec_capacity self.old.boxes.refuter.kleenes }
+        ensures scales { self.new.scales ≡ self.old.scales }
+        ensures starts { self.new.starts ≡ self.old.starts }
+        ensures current { self.new.current ≡ self.old.current }
+    {
+        self.boxes.recall.is_due = is_known;
+        if is_known {
+            self.boxes.refuter.propagator.prepare_again();
+            return;
+        }
+        find_ties(space.circuit(), &mut self.latest, &mut self.same);
+        self.boxes
+            .refuter
+            .propagator
+            .prepare(space.circuit(), &self.same, space.root(), &self.scales);
+        self.keep(space, scope, bound);
+    }
+
+    // Keeps what is found out of a formula, if there is room for that.
+    fn keep(&mut self, space: &Space, scope: &[bool], bound: Option<u64>)
+        requires ties { AreTies (space_circuit space.now) self.old.same.items }
+        ensures knows { (ranges : List Range) →
+            IfSome bound (λ b. need (space_formula space.now) scope.now ranges ≤ b) →
+            Knows ranges self.new }
+        ensures roomy { (variables gates : ℕ) → IsRoomy variables gates self.old →
+            IsRoomy variables gates self.new }
+        ensures kleenes { vec_capacity self.new.boxes.refuter.kleenes ≡
+            vec_capacity self.old.boxes.refuter.kleenes }
+        ensures scales { self.new.scales ≡ self.old.scales }
+        ensures starts { self.new.starts ≡ self.old.starts }
+        ensures current { self.new.current ≡ self.old.current }
+        ensures same { self.new.same ≡ self.old.same }
+        ensures due { self.new.boxes.recall.is_due ≡ self.old.boxes.recall.is_due }
+    {
+        self.bound = None;
+        if self.boxes.recall.keep(space) && self.scope.capacity() >= scope.len() {
+            self.scope.clear();
+            self.scope.extend_from_slice(scope).unwrap();
+            self.bound = bound;
+        }
+    }
+}
+
+// Whether some marks are others.
+fn are_same_marks(one: &[bool], other: &[bool]) -> bool
+    ensures { result ≡ true → one.now ≡ other.now }
+{
+    if one.len() != other.len() {
+        return false;
+    }
+    for i in 0..one.len() {
+        if one[i] != other[i] {
+            return false;
+        }
+    }
+    true
+}

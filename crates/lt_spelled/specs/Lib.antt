@@ -1,2 +1,0 @@
--- What holds of every text.
-pub mod Laws

@@ -1,5 +1,0 @@
-use Rattle.lt_typed.proofs.Told.{kinds_are_told}
-use Rattle.lt_typed.proofs.laws.kinds_are_told.Goals as goal
-
-pub returns : goal.returns
-returns c = kinds_are_told

@@ -1,5 +1,0 @@
-use Rattle.lt_typed.proofs.Listed.{none_is_left_out}
-use Rattle.lt_typed.proofs.laws.none_is_left_out.Goals as goal
-
-pub returns : goal.returns
-returns c = none_is_left_out
