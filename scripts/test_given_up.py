@@ -1,9 +1,10 @@
 """That numbers as one writes them run, and that only hard searches are given up, and soon.
 
-    python3 scripts/test_given_up.py [--program PATH] [--plant PATH]
+    python3 scripts/test_given_up.py [--program PATH] [--plant PATH] [--quick]
 
 The program is the one that `rt ci` leaves in the checkout, where no option names another, and
-without it nothing is tried. What is to come of a text follows from the documents. The time is that
+without it nothing is tried. With --quick the hard searches are left out: a program with checks is too
+slow for them. What is to come of a text follows from the documents. The time is that
 of the processor, since another program may take it.
 """
 
@@ -16,7 +17,7 @@ import check_docs
 import hard_texts
 from large_texts import end_of
 
-PROGRAM = check_docs.programs([])[0]
+GIVEN = check_docs.given([])
 
 LEAST, MOST = "1", "1000000000000"
 INTS = "node n() returns (x, y, z: int) = loop "
@@ -43,11 +44,11 @@ STUCK = (
 
 class GivenUp(unittest.TestCase):
     def setUp(self):
-        if not os.access(PROGRAM, os.X_OK):
-            self.skipTest(f"{PROGRAM} is not there")
+        if not os.access(GIVEN.program, os.X_OK):
+            self.skipTest(f"{GIVEN.program} is not there")
 
     def outcome(self, text, *words):
-        return calls.outcome(PROGRAM, text.encode(), "run", *words, seconds=calls.PATIENCE)
+        return calls.outcome(GIVEN.program, text.encode(), "run", *words, seconds=calls.PATIENCE)
 
     def test_numbers_as_one_writes_them_run(self):
         for text in RUNNING:
@@ -67,6 +68,8 @@ class GivenUp(unittest.TestCase):
                     self.assertEqual(end_of(self.outcome(text, *words)), "4 deadlock 1")
 
     def test_a_hard_search_is_given_up_within_a_second(self):
+        if GIVEN.quick:
+            self.skipTest("a program with checks takes longer")
         need = hard_texts.pigeons_need(10)
         for words in ((), ("--budget", LEAST), ("--budget", MOST)):
             with self.subTest(words):
@@ -75,6 +78,8 @@ class GivenUp(unittest.TestCase):
                 self.assertLess(found.seconds, 1)
 
     def test_a_budget_that_is_the_need_lets_a_search_go_to_its_end(self):
+        if GIVEN.quick:
+            self.skipTest("a program with checks takes longer")
         self.assertFalse(hard_texts.market_is_split())
         text, need = hard_texts.market(), hard_texts.MARKET_NEED
         for budget, end in (
@@ -88,5 +93,5 @@ class GivenUp(unittest.TestCase):
 
 
 if __name__ == "__main__":
-    PROGRAM = check_docs.programs(sys.argv[1:])[0]
+    GIVEN = check_docs.given(sys.argv[1:])
     unittest.main(argv=["test_given_up.py", "--quiet"])

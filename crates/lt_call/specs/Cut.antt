@@ -58,7 +58,7 @@ pub data IsFront (request : Request) (scene : Scene) (c o : List ℕ) (gathers :
       RunComesTo request scene (closed c) (closed o) ps p →
       may_give_up_next p.machine p.inputs need ≡ true →
       text ≡ text_to destination.Trace ps
-          ++ closing_text (plan_of request scene) (end.Budget need) (end_number (end.Budget need) (step_count ps)) →
+      ++ closing_text (plan_of request scene) (end.Budget need) (end_number (end.Budget need) (step_count ps)) →
       IsFront request scene c o gathers text
       (status.Ran (record { end = end.Budget need; at = end_number (end.Budget need) (step_count ps) }))
 

@@ -1,7 +1,6 @@
 -- What gates stand for.
 pub mod Standings
 -- What is in lists, and tests of it.
-pub mod Leaves
 pub mod Lists
 -- How many different atoms there are.
 pub mod Counting

@@ -4,7 +4,6 @@ pub mod Conjuncts
 pub mod Counts
 pub mod Faces
 pub mod GatheringView
-pub mod Leaves
 pub mod Marks
 pub mod Points
 pub mod Reached

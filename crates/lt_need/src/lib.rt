@@ -23,9 +23,7 @@ mod hard;
 mod measuring;
 mod need_scratch;
 mod product;
-mod quick;
 mod uses;
 
 pub use measuring::measure;
 pub use need_scratch::NeedScratch;
-pub use quick::quick_bound;

@@ -6,7 +6,6 @@ ghost use Rattle.lt_need.specs.inner.GatheringView.{HasRoom};
 
 use crate::faces::Face;
 use crate::gathering::Gathering;
-use crate::quick::Leaves;
 use std::alloc::{AllocError, Global};
 
 // How many variables a circuit may have: `most_variables`.
@@ -20,9 +19,6 @@ pub struct NeedScratch {
 
     /// What each gate stands for.
     pub(crate) faces: Vec<Face>,
-
-    /// What is counted of each gate for a quick bound.
-    pub(crate) leaves: Vec<Leaves>,
 
     /// How often the conjuncts of each gate count.
     pub(crate) weights: Vec<usize>,
@@ -39,7 +35,6 @@ pub struct NeedScratch {
     /// Which variables are hard.
     pub(crate) hard: Vec<bool>,
     ghost for_faces: { gates ≤ vec_capacity faces },
-    ghost for_leaves: { gates ≤ vec_capacity leaves },
     ghost for_weights: { gates ≤ vec_capacity weights },
     ghost for_atoms: { HasRoom gates gathering },
     ghost all_owners: { length owners.items ≡ most_variables },
@@ -61,7 +56,6 @@ impl NeedScratch {
         Ok(NeedScratch {
             gates,
             faces: Vec::with_capacity(alloc, gates)?,
-            leaves: Vec::with_capacity(alloc, gates)?,
             weights: Vec::with_capacity(alloc, gates)?,
             gathering: Gathering {
                 marks: vec![in alloc; false; gates]?,

@@ -1,12 +1,10 @@
 //! Scratch for searches, and what the last search leaves to the next one.
 
-ghost use Rattle.std.specs.Prelude.{◌≡◌, ◌<◌, ◌≤◌, ◌^◌, IfOk, IfSome, ℕ, List, length, true, vec_capacity};
+ghost use Rattle.std.specs.Prelude.{◌≡◌, ◌<◌, ◌≤◌, ◌^◌, IfOk, ℕ, length, true, vec_capacity};
 ghost use Rattle.lt_formula.specs.Limits.{most_variables};
-ghost use Rattle.lt_need.specs.Need.{need};
-ghost use Rattle.lt_num.specs.declared.range.Range.{Range};
 ghost use Rattle.lt_propagation.specs.Ties.{AreTies};
 ghost use Rattle.lt_space.specs.CircuitView.{circuit_len};
-ghost use Rattle.lt_space.specs.SpaceView.{space_circuit, space_formula};
+ghost use Rattle.lt_space.specs.SpaceView.{space_circuit};
 ghost use Rattle.lt_solver.specs.inner.Begun.{IsCopied};
 ghost use Rattle.lt_solver.specs.inner.Known.{IsKnown, Knows};
 ghost use Rattle.lt_solver.specs.inner.Roomy.{IsRoomy};
@@ -39,8 +37,8 @@ pub(crate) struct SearchScratch {
     /// Room for what is found of a box.
     pub(crate) boxes: BoxRoom,
 
-    /// A number that the need of the last search isn't over, if its circuit is kept.
-    pub(crate) bound: Option<u64>,
+    /// Whether the circuit of the last search is kept, with its ties.
+    pub(crate) is_kept: bool,
 
     /// The scope of that search.
     pub(crate) scope: Vec<bool>,
@@ -70,7 +68,7 @@ impl SearchScratch {
         ensures roomy { IfOk result (λ room.
             IsRoomy count (vec_capacity room.boxes.refuter.kleenes) room) }
         ensures gates { IfOk result (λ room. gates ≤ vec_capacity room.boxes.refuter.kleenes) }
-        ensures knows { (ranges : List Range) → IfOk result (λ room. Knows ranges room) }
+        ensures knows { IfOk result Knows }
     {
         Ok(SearchScratch {
             scales: Vec::with_capacity(alloc, count)?,
@@ -78,7 +76,7 @@ impl SearchScratch {
             current: Vec::with_capacity(alloc, count)?,
             stack: Vec::with_capacity(alloc, count * 42 * count)?,
             boxes: BoxRoom::make(alloc, count, gates)?,
-            bound: None,
+            is_kept: false,
             scope: Vec::with_capacity(alloc, count)?,
             latest: vec![in alloc; 0; LATEST]?,
             same: Vec::with_capacity(alloc, gates)?,
@@ -87,49 +85,29 @@ impl SearchScratch {
         })
     }
 
-    /// A number that the need of a formula isn't over, if the last search was for the same in the same scope: then its ties stand
-    /// too. What is kept of any other search is forgotten.
-    pub(crate) fn known_bound(&mut self, space: &Space, scope: &[bool]) -> Option<u64>
-        ensures known { (ranges : List Range) → Knows ranges self.old →
-            IfSome result (IsKnown ranges self.new space.now scope.now) }
-        ensures knows { (ranges : List Range) → Knows ranges self.old → Knows ranges self.new }
-        ensures roomy { (variables gates : ℕ) → IsRoomy variables gates self.old →
-            IsRoomy variables gates self.new }
-        ensures kleenes { vec_capacity self.new.boxes.refuter.kleenes ≡
-            vec_capacity self.old.boxes.refuter.kleenes }
+    /// Whether the last search was for the same formula in the same scope, and what was found out of it is kept.
+    pub(crate) fn is_known(&self, space: &Space, scope: &[bool]) -> bool
+        ensures { Knows self.now → result ≡ true → IsKnown self.now space.now }
     {
-        if self.is_for(space, scope) {
-            return self.bound;
-        }
-        self.bound = None;
-        None
+        self.is_kept && self.is_for(space, scope)
     }
 
     // Whether the circuit of a space is kept with this scope.
     fn is_for(&self, space: &Space, scope: &[bool]) -> bool
-        ensures scope { result ≡ true → self.now.scope.items ≡ scope.now }
-        ensures copied { result ≡ true → IsCopied self.now.boxes.recall space.now }
+        ensures { result ≡ true → IsCopied self.now.boxes.recall space.now }
     {
         are_same_marks(&self.scope, scope) && self.boxes.recall.is_of(space)
     }
 
-    /// Finds out what a search needs to know of its formula, unless that is known; the need isn't over the bound, if there is one.
-    pub(crate) fn prepare(
-        &mut self,
-        space: &Space,
-        scope: &[bool],
-        bound: Option<u64>,
-        is_known: bool,
-    )
+    /// Finds out what a search needs to know of its formula, unless that is known.
+    pub(crate) fn prepare(&mut self, space: &Space, scope: &[bool], is_known: bool)
         requires ties { is_known ≡ true → AreTies (space_circuit space.now) self.old.same.items }
         requires copied { is_known ≡ true → IsCopied self.old.boxes.recall space.now }
         requires room { circuit_len (space_circuit space.now) ≤ vec_capacity self.old.same }
         requires latest { 0 < length self.old.latest.items }
         ensures ties { AreTies (space_circuit space.now) self.new.same.items }
         ensures due { self.new.boxes.recall.is_due ≡ true → IsCopied self.new.boxes.recall space.now }
-        ensures knows { (ranges : List Range) → Knows ranges self.old →
-            IfSome bound (λ b. need (space_formula space.now) scope.now ranges ≤ b) →
-            Knows ranges self.new }
+        ensures knows { Knows self.old → Knows self.new }
         ensures roomy { (variables gates : ℕ) → IsRoomy variables gates self.old →
             IsRoomy variables gates self.new }
         ensures kleenes { vec_capacity self.new.boxes.refuter.kleenes ≡
@@ -148,15 +126,13 @@ impl SearchScratch {
             .refuter
             .propagator
             .prepare(space.circuit(), &self.same, space.root(), &self.scales);
-        self.keep(space, scope, bound);
+        self.keep(space, scope);
     }
 
     // Keeps what is found out of a formula, if there is room for that.
-    fn keep(&mut self, space: &Space, scope: &[bool], bound: Option<u64>)
+    fn keep(&mut self, space: &Space, scope: &[bool])
         requires ties { AreTies (space_circuit space.now) self.old.same.items }
-        ensures knows { (ranges : List Range) →
-            IfSome bound (λ b. need (space_formula space.now) scope.now ranges ≤ b) →
-            Knows ranges self.new }
+        ensures knows { Knows self.new }
         ensures roomy { (variables gates : ℕ) → IsRoomy variables gates self.old →
             IsRoomy variables gates self.new }
         ensures kleenes { vec_capacity self.new.boxes.refuter.kleenes ≡
@@ -167,11 +143,11 @@ impl SearchScratch {
         ensures same { self.new.same ≡ self.old.same }
         ensures due { self.new.boxes.recall.is_due ≡ self.old.boxes.recall.is_due }
     {
-        self.bound = None;
+        self.is_kept = false;
         if self.boxes.recall.keep(space) && self.scope.capacity() >= scope.len() {
             self.scope.clear();
             self.scope.extend_from_slice(scope).unwrap();
-            self.bound = bound;
+            self.is_kept = true;
         }
     }
 }

@@ -1,0 +1,33 @@
+use Rattle.std.proofs.Common.{◌≡◌, ℤ, pos, ◌+ℤ◌, ◌-ℤ◌, ◌*ℤ◌, of_z, to_z, w64, subst, arith}
+use Rattle.std.proofs.lemmas.Int.{ints}
+use Rattle.lt_propagation.proofs.Divisors.{below}
+use Rattle.lt_propagation.proofs.dividing.greatest_fitting.Goals as goal
+
+pub is_fitting-requires-clause-value : goal.is_fitting-requires-clause-value
+is_fitting-requires-clause-value c = omega (arith, ints, c.if-high-range.false, c.loop.invariant.within, c.requires.low, c.requires.high)
+
+pub loop-preserved : goal.loop-preserved
+loop-preserved c =
+    let d = c.args.divisor in
+    let r = c.args.remainder in
+    let now = to_z w64 c.loop.high-bits in
+    let divisor : to_z w64 (of_z w64 d) ≡ d = omega (arith, ints) in
+    let next : to_z w64 (of_z w64 (now -ℤ pos 1)) ≡ now -ℤ pos 1 = omega (arith, ints, c.if-high-range.false, c.loop.invariant.within, c.requires.low, c.requires.high) in
+    let fitting = rw divisor at c.is_fitting.ensures in
+    let kept = rw divisor at c.loop.invariant.kept in
+    rw divisor (record {
+      within = omega (arith, ints, next, c.loop.invariant.within);
+      kept = λ value times e l h.
+          let more = below c.is_fitting.result now value c.if-is_fitting.false (λ same. fitting times (subst (λ (z : ℤ). ((r.coefficient *ℤ z) +ℤ r.rest) ≡ d *ℤ times) same e)) (kept value times e l h) in
+          omega (arith, ints, next, more);
+    })
+
+pub returns-then-high-range : goal.returns-then-high-range
+returns-then-high-range c =
+    let divisor : to_z w64 (of_z w64 c.args.divisor) ≡ c.args.divisor = omega (arith, ints) in
+    rw divisor at c.loop.invariant.kept
+
+pub returns : goal.returns
+returns c =
+    let divisor : to_z w64 (of_z w64 c.args.divisor) ≡ c.args.divisor = omega (arith, ints) in
+    rw divisor at c.loop.invariant.kept
