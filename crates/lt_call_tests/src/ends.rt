@@ -8,7 +8,7 @@ fn runs_end_for_their_reasons(rt: HostRuntime) -> Result<(), Fail> {
     check_rows(
         &rt,
         "",
-        38,
+        36,
         r#"
 ## a run is written to its end or limit
 f is node n() returns (b: bool) = b fby not b
