@@ -64,7 +64,8 @@ pub(crate) fn divide_comparison(
 }
 
 // Narrows ranges by a sum of terms and a constant that is 0: what divides the terms of all variables with several values
-// divides the rest too, and what divides those of all but one says of that one which values it has.
+// divides the rest too, and what divides those of all but one says of that one which values it has. Where one alone has
+// several values, the sum has cut it to what fits already.
 fn divide(
     terms: &[(u32, i64)],
     constant: i128,
@@ -83,10 +84,14 @@ fn divide(
     ensures narrower { IsNarrower ranges.old ranges.new }
     ensures domains { AreDomains ranges.new }
 {
+    let open = open_in(terms, count, ranges);
+    if open < 2 {
+        return true;
+    }
     if !is_divisible(terms, constant, count, ranges) {
         return false;
     }
-    if open_in(terms, count, ranges) > MOST_OPEN {
+    if open > MOST_OPEN {
         return true;
     }
     let mut rest = terms;
@@ -234,8 +239,29 @@ fn is_fitting(remainder: Remainder, divisor: i64, value: i64) -> bool
     )
 }
 
-// Whether a number is a multiple of a divisor.
+// Whether a number is a multiple of a divisor. Most have 64 bits, whose remainders take less time.
 fn is_multiple(number: i128, divisor: i64) -> bool
+    requires { pos 0 <ℤ divisor }
+    ensures only { result ≡ true → IsMultiple divisor number }
+    ensures all { IsMultiple divisor number → result ≡ true }
+{
+    match i64::try_from(number) {
+        Ok(short) => is_short_multiple(short, divisor),
+        Err(_) => is_long_multiple(number, divisor),
+    }
+}
+
+// Whether a number of 64 bits is a multiple of a divisor.
+fn is_short_multiple(number: i64, divisor: i64) -> bool
+    requires { pos 0 <ℤ divisor }
+    ensures only { result ≡ true → IsMultiple divisor number }
+    ensures all { IsMultiple divisor number → result ≡ true }
+{
+    number % divisor == 0
+}
+
+// Whether any number is a multiple of a divisor.
+fn is_long_multiple(number: i128, divisor: i64) -> bool
     requires { pos 0 <ℤ divisor }
     ensures only { result ≡ true → IsMultiple divisor number }
     ensures all { IsMultiple divisor number → result ≡ true }

@@ -16,8 +16,11 @@ returns-then-not-is_divisible-clause-keeps c = λ values p h.
 pub returns-then-not-is_divisible-clause-narrower : goal.returns-then-not-is_divisible-clause-narrower
 returns-then-not-is_divisible-clause-narrower c = narrower_here c.args.ranges.now c.requires.domains
 
-pub returns-then-open_in-gt-MOST_OPEN-clause-narrower : goal.returns-then-open_in-gt-MOST_OPEN-clause-narrower
-returns-then-open_in-gt-MOST_OPEN-clause-narrower c = narrower_here c.args.ranges.now c.requires.domains
+pub returns-then-open-lt2-clause-narrower : goal.returns-then-open-lt2-clause-narrower
+returns-then-open-lt2-clause-narrower c = narrower_here c.args.ranges.now c.requires.domains
+
+pub returns-then-open-gt-MOST_OPEN-clause-narrower : goal.returns-then-open-gt-MOST_OPEN-clause-narrower
+returns-then-open-gt-MOST_OPEN-clause-narrower c = narrower_here c.args.ranges.now c.requires.domains
 
 pub loop-term-init : goal.loop-term-init
 loop-term-init c = record {

@@ -3,7 +3,7 @@ use Rattle.std.specs.Int.{w128}
 use Rattle.std.proofs.lemmas.Bool.Decides.{nat_tests}
 use Rattle.std.proofs.lemmas.Int.{ints, rem_below}
 use Rattle.lt_propagation.proofs.Divisors.{multiple_by_rem, rem_by_multiple}
-use Rattle.lt_propagation.proofs.dividing.is_multiple.Goals as goal
+use Rattle.lt_propagation.proofs.dividing.is_long_multiple.Goals as goal
 
 -- a number whose bits are 0
 none_by_bits : (z : ℤ) → unsigned_abs z < 2 ^ 127 → nat_eq (of_z w128 z) 0 ≡ true → z ≡ pos 0
