@@ -16,11 +16,11 @@ use Rattle.lt_solver.proofs.Firsts.{none_passes, split_solution}
 use Rattle.lt_solver.proofs.Order.{range_of, or_else-none, split_above, split_below, split_within}
 
 -- the first number from a target that is over the high end ..
-raw_over : (t low high : ℤ) → high <ℤ t → first_raw t (range_of low high) ≡ low
+pub raw_over : (t low high : ℤ) → high <ℤ t → first_raw t (range_of low high) ≡ low
 raw_over t low high h = ap (λ (b : Bool). if b then low else int_max low t) (let e : int_lt high t ≡ true = grind (arith, ints) in e)
 
 -- .. or isn't
-raw_under : (t low high : ℤ) → t ≤ℤ high → first_raw t (range_of low high) ≡ int_max low t
+pub raw_under : (t low high : ℤ) → t ≤ℤ high → first_raw t (range_of low high) ≡ int_max low t
 raw_under t low high h = ap (λ (b : Bool). if b then low else int_max low t) (let e : int_lt high t ≡ false = grind (arith, ints) in e)
 
 -- Parts of a box at a variable, where those before it are fixed.
