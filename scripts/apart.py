@@ -8,7 +8,7 @@ numbers are raw numbers.
     python3 scripts/apart.py thermostat [--draw N]     prints the trace of examples/thermostat.lut
     python3 scripts/apart.py drafty [--draw N]         prints that of examples/drafty.lut
 
-Beside both stands the thermostat. N is the rule of drawing, 1 or 2, and 1 where it isn't given.
+Beside both stands the thermostat. N is the rule of drawing, from 1 to 3, and 1 where it isn't given.
 """
 
 import argparse
@@ -108,9 +108,10 @@ def points_of(variable):
 
 
 def order_from(target, points, is_down=False):
-    """The points in the order in which they are tried, as two ranges: the target comes first."""
+    """The points in the order in which they are tried: the target comes first."""
     at = points.index(target)
-    return (points[at::-1], points[:at:-1]) if is_down else (points[at:], points[:at])
+    parts = (points[at::-1], points[:at:-1]) if is_down else (points[at:], points[:at])
+    return itertools.chain(*parts)
 
 
 # -- What a trace offers in one instant ------------------------------------------------------------
@@ -247,7 +248,7 @@ OFFERED = {
 
 # -- One instant -----------------------------------------------------------------------------------
 
-# What a run is drawn by: its seed, and the rule of drawing, which is 1 or 2.
+# What a run is drawn by: its seed, and the rule of drawing, which is 1, 2 or 3.
 Draws = namedtuple("Draws", "seed rule", defaults=(0, 1))
 
 
@@ -280,7 +281,7 @@ class Instance:
         return [(number, it) for number, it in enumerate(drawn) if it.name in outputs | inside]
 
     def solution(self, leaf):
-        """The first solution from the targets, by groups that no constraint joins; or None."""
+        """The solution that is drawn, by groups that no constraint joins; or None."""
         known, values = self.known_of(leaf.entered), {}
         asked = [it(known.__getitem__) if callable(it) else it for it in leaf.constraints]
         for numbered, constraints in groups(self.variables(leaf), asked):
@@ -296,34 +297,49 @@ class Instance:
     def first(self, numbered, constraints, known):
         """The values of some variables, each the first one with which the others can be found."""
         values, levels = dict(known), []
-        for at, (number, variable) in enumerate(numbered):
+        for at, (_, variable) in enumerate(numbered):
             later = {it.name for _, it in numbered[at + 1 :]}
             due = [it for it in constraints if variable.name in it.names and not later & it.names]
-            asked = [it.holds for it in due]
-            levels.append((variable.name, self.order(number, variable), asked))
+            levels.append((variable, [it.holds for it in due]))
 
-        def search(at):
-            if at == len(levels):
-                return True
-            name, order, asked = levels[at]
-            for value in itertools.chain(*order):
-                values[name] = value
-                if all(holds(values.__getitem__) for holds in asked) and search(at + 1):
-                    return True
-            return False
+        def is_possible(at, value):
+            variable, asked = levels[at]
+            values[variable.name] = value
+            return all(holds(values.__getitem__) for holds in asked) and is_open(at + 1)
 
-        without = all(it.holds(values.__getitem__) for it in constraints if not it.names)
-        return {it.name: values[it.name] for _, it in numbered} if without and search(0) else None
+        def is_open(at):
+            return at == len(levels) or any(
+                is_possible(at, value) for value in points_of(levels[at][0])
+            )
 
-    def order(self, number, variable):
-        """The points of a variable in the order in which they are tried: from its target on."""
+        if not all(it.holds(values.__getitem__) for it in constraints if not it.names):
+            return None
+        for at, (number, variable) in enumerate(numbered):
+            value = self.taken(number, variable, functools.partial(is_possible, at))
+            if value is None:
+                return None
+            values[variable.name] = value
+        return {it.name: values[it.name] for _, it in numbered}
+
+    def taken(self, number, variable, is_possible):
+        """The value that a variable takes of those that are possible for it, or None."""
         points = points_of(variable)
-        target = points[self.word(VARIABLES + number) % len(points)]
+        first = lambda order: next(filter(is_possible, order), None)
+        ends = (first(points), first(points[::-1])) if self.draws.rule == 3 else ()
+        return None if None in ends else first(self.order(number, points, *ends))
+
+    def order(self, number, points, low=None, high=None):
+        """The points of a variable in the order in which they are tried: from its target on.
+
+        By the third rule the target is drawn between two of them.
+        """
+        part = points if low is None else points[points.index(low) : points.index(high) + 1]
+        target = part[self.word(VARIABLES + number) % len(part)]
         return order_from(target, points, self.goes_down(number))
 
     def goes_down(self, number):
-        """Whether a variable goes downward from its target: the second rule draws that."""
-        return self.draws.rule == 2 and self.word(DIRECTIONS + number) % 2 == 1
+        """Whether a variable goes downward from its target: all rules but the first draw that."""
+        return self.draws.rule != 1 and self.word(DIRECTIONS + number) % 2 == 1
 
     def word(self, slot):
         return word(self.draws.seed, self.step, slot)
@@ -445,7 +461,7 @@ def declared_words(variables):
 def lines_of(scenario, steps, end, draws=Draws(), decimals=2, has_locals=False):
     """The lines of the trace of a run that made these steps and ended so."""
     named = [it._replace(name=f"{it.name}.{at}") for at, it in enumerate(scenario.locals, 1)]
-    header = [f"#seed {draws.seed}"] + ["#draw 2"] * (draws.rule == 2)
+    header = [f"#seed {draws.seed}"] + [f"#draw {draws.rule}"] * (draws.rule != 1)
     header.append(" ".join(["#inputs", *declared_words(scenario.outputs)]))
     header.append(" ".join(["#outputs", *declared_words(scenario.inputs)]))
     lines = header + [" ".join(["#locals", *declared_words(named)])] * has_locals
@@ -585,7 +601,7 @@ SCENARIOS = {"drafty": (drafty, 100), "thermostat": (room, 200)}
 def main(words):
     parser = argparse.ArgumentParser(prog="apart.py")
     parser.add_argument("scenario", choices=SCENARIOS)
-    parser.add_argument("--draw", type=int, choices=(1, 2), default=1)
+    parser.add_argument("--draw", type=int, choices=(1, 2, 3), default=1)
     given = parser.parse_args(words)
     scenario, limit = SCENARIOS[given.scenario]
     print("\n".join(trace_of(scenario(), thermostat(), limit, Draws(rule=given.draw))))

@@ -406,7 +406,7 @@ def python_of(formula):
 
 def points_in(orders):
     """All points, in the order in which they are tried; of those past the most not all."""
-    cut = [itertools.islice(itertools.chain(*it), MOST_POINTS + 1) for it in orders]
+    cut = [itertools.islice(it, MOST_POINTS + 1) for it in orders]
     return itertools.product(*cut)
 
 

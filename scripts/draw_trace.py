@@ -108,7 +108,7 @@ def trace_of(text):
     seed = rest_of(lines, "#seed")
     if not re.fullmatch("[0-9]+", seed):
         raise lines.wrong("#seed S is due here")
-    if lines.peek() == "#draw 2":
+    if lines.peek() in ("#draw 2", "#draw 3"):
         lines.take()
     variables = declared(lines, "#inputs") + declared(lines, "#outputs")
     if lines.peek().startswith("#locals"):

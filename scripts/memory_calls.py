@@ -84,7 +84,7 @@ def on(name, text, status, words="run f"):
 CALLS = (
     # Runs to their limit, alone and beside each side.
     Call("run", ALONE, 0),
-    Call("run, with locals", [*ALONE, *"--locals --draw 2 --seed 3".split()], 0),
+    Call("run, with locals", [*ALONE, *"--locals --draw 3 --seed 3".split()], 0),
     Call("run, all beside a controller", [*ALONE, *FULL_SUT], 0),
     Call("run beside a controller", [*BESIDE, *SUT], 0),
     Call("run beside both", [*BESIDE, "--locals", *SUT, *ORACLE], 0),

@@ -341,7 +341,7 @@ def made(chance):
     maker, looked_at = Maker(chance), []
     scenario, limit = maker.scenario(), chance.between(1, 3)
     seed = chance.one_of([0, chance.below(1000), chance.below(1 << 64)])
-    draws = apart.Draws(seed, chance.between(1, 2))
+    draws = apart.Draws(seed, chance.between(1, 3))
     call = scenario, maker.decimals, limit, draws
     worked_out(Problem(*call, MOST_BUDGET, False), looked_at)
     budget = budget_for(chance, [it.need for it in looked_at])

@@ -1,8 +1,8 @@
 """Problems for a search: a scenario of apart.py with the words of its call, and what comes of it.
 
 The constraints are expressions of constraints.py. The outcome is worked out apart from lurette, and
-values are found by going through all points in the order from the targets. So these are few, and no
-search is given up: the outcome is the same by each budget.
+values are found by going through all points in the order of the rule of drawing. So these are few,
+and no search is given up: the outcome is the same by each budget.
 """
 
 import functools
@@ -77,7 +77,7 @@ def words_of(problem):
     """The words of a problem's call, but for its file."""
     words = ["run", "-l", str(problem.limit), "--seed", str(problem.draws.seed)]
     words += ["--precision", str(problem.decimals)]
-    words += ["--draw", "2"] * (problem.draws.rule == 2)
+    words += ["--draw", str(problem.draws.rule)] * (problem.draws.rule != 1)
     words += [] if problem.budget is None else ["--budget", str(problem.budget)]
     return words + ["--locals"] * problem.has_locals
 
@@ -110,9 +110,28 @@ class Instance(apart.Instance):
         variables = [it for _, it in numbered]
         need = constraints.need_of(formula, variables)
         self.looked_at.append(Looked(formula, variables, need))
-        orders = [self.order(number, it) for number, it in numbered]
-        point = constraints.first_solution(formula, variables, orders)
+        point = self.drawn_point(formula, numbered)
         return None if point is None else dict(zip((it.name for it in variables), point))
+
+    def drawn_point(self, formula, numbered):
+        """The point that is drawn of those at which a formula holds, or None."""
+        variables = [it for _, it in numbered]
+        all_points = [apart.points_of(it) for it in variables]
+        first = functools.partial(constraints.first_solution, formula, variables)
+        if self.draws.rule != 3:
+            return first([self.order(*it) for it in zip((at for at, _ in numbered), all_points)])
+        # One variable after another is fixed, and the others have any values that do.
+        orders = list(all_points)
+        for at, (number, _) in enumerate(numbered):
+            points, ends = all_points[at], []
+            for order in (points, points[::-1]):
+                point = first([*orders[:at], order, *orders[at + 1 :]])
+                if point is None:
+                    return None
+                ends.append(point[at])
+            order = self.order(number, points, *ends)
+            orders[at] = [first([*orders[:at], order, *orders[at + 1 :]])[at]]
+        return first(orders)
 
 
 def worked_out(problem, looked_at):

@@ -46,7 +46,7 @@ class Points(unittest.TestCase):
             self.assertEqual(list(apart.points_of(variable)), points)
 
     def test_each_point_is_tried_once_from_the_target_on(self):
-        order = lambda *which: [value for part in apart.order_from(*which) for value in part]
+        order = lambda *which: list(apart.order_from(*which))
         self.assertEqual(order(3, range(0, 10, 3)), [3, 6, 9, 0])
         self.assertEqual(order(3, range(0, 10, 3), True), [3, 0, 9, 6])
         self.assertEqual(order(0, range(0, 4), True), [0, 3, 2, 1])
@@ -75,6 +75,63 @@ class Points(unittest.TestCase):
         self.assertEqual(directions, {False, True})
 
 
+class Given(apart.Instance):
+    """An instant whose targets and directions are decided by these words, by the third rule."""
+
+    def __init__(self, words, *more):
+        super().__init__(*more)
+        self.words = dict(words)
+
+    def word(self, slot):
+        return self.words.get(slot, 0)
+
+
+def drawn_inside(variables, names, holds, *words):
+    """What the third rule takes, with words for the targets and then for the directions."""
+    targets = [(apart.VARIABLES + at, it) for at, it in enumerate(words[: len(variables)])]
+    directions = [(apart.DIRECTIONS + at, it) for at, it in enumerate(words[len(variables) :])]
+    trace = apart.where(names, holds)
+    scenario = apart.Scenario([], variables, [], trace)
+    at_hand = Given(targets + directions, scenario, Draws(0, 3), 1, {}, {})
+    _, values = at_hand.drawn(apart.offers(trace))
+    return values and list(values.values())
+
+
+class Inside(unittest.TestCase):
+    """What the third rule takes, worked out by hand."""
+
+    def of_x(self, ends, holds, *words):
+        return drawn_inside([apart.Variable("x", *ends)], "x", lambda v: holds(v("x")), *words)
+
+    def test_a_target_is_drawn_between_the_least_and_the_greatest(self):
+        # 98, 99 and 100 are possible, and 5 is 2 modulo 3.
+        self.assertEqual(self.of_x((0, 100), lambda x: x > 97, 5), [100])
+        self.assertEqual(self.of_x((0, 100), lambda x: x > 97, 5, 1), [100])
+        self.assertEqual(self.of_x((0, 100), lambda x: 6 < x < 8, 12345, 1), [7])
+        self.assertIsNone(self.of_x((0, 100), lambda x: x > 100, 5))
+
+    def test_from_a_hole_it_goes_in_its_direction(self):
+        self.assertEqual(self.of_x((0, 3), lambda x: x != 2, 2, 0), [3])
+        self.assertEqual(self.of_x((0, 3), lambda x: x != 2, 2, 1), [1])
+        # 1, 2, 8 and 9 are possible, and the target is 1 + 4.
+        self.assertEqual(self.of_x((0, 9), lambda x: x in (1, 2, 8, 9), 4, 0), [8])
+        self.assertEqual(self.of_x((0, 9), lambda x: x in (1, 2, 8, 9), 4, 1), [2])
+
+    def test_the_points_of_a_step_are_drawn(self):
+        # Of 0.0, 2.5, 5.0, 7.5 and 10.0 all but the first are possible, and 6 is 2 modulo 4.
+        ends = 0, 1000, None, "real", 250
+        self.assertEqual(self.of_x(ends, lambda x: x > 100, 6), [750])
+
+    def test_what_is_taken_bounds_those_behind_it(self):
+        x, y = apart.Variable("x", 0, 9), apart.Variable("y", 0, 9)
+        adds = lambda v: v("x") + v("y") == 12
+        # x is from 3 to 9, and its target 3 + 4. Then 5 alone is possible for y.
+        self.assertEqual(drawn_inside([x, y], "x y", adds, 4, 7), [7, 5])
+        below = lambda v: v("x") < v("y")
+        # x is from 0 to 8, and its target 0 + 6. Then y is from 7 to 9, and its target 7 + 1.
+        self.assertEqual(drawn_inside([x, y], "x y", below, 15, 4), [6, 8])
+
+
 class Documents(unittest.TestCase):
     def test_the_table_of_what_is_drawn(self):
         thrown = apart.Loop(apart.where("", lambda value: True))
@@ -94,28 +151,31 @@ class Documents(unittest.TestCase):
         self.assertEqual(first_values(walk, 5, 0), ["4", "3", "2", "1", "0"])
         self.assertEqual(first_values(walk, 5, 5), ["4", "3", "2", "3", "2"])
         self.assertEqual(first_values(walk, 5, 0, rule=2), ["4", "5", "5", "4", "5"])
+        self.assertEqual(first_values(walk, 5, 0, rule=3), ["5", "5", "5", "6", "6"])
 
     def test_the_dial_is_turned_by_quarters(self):
         call = r"run examples/dial\.lut -l (\d+)(?: --draw (\d))? .*\n-- (.*)"
         shown = re.findall(call, read("examples/dial.lut"))
-        self.assertEqual([rule for _, rule, _ in shown], ["", "2"])
+        self.assertEqual([rule for _, rule, _ in shown], ["", "2", "3"])
         for limit, rule, values in shown:
             found = first_values(apart.dial(), int(limit), 0, int(rule or 1))
             self.assertEqual(" ".join(found), values)
 
-    def test_the_room_by_both_rules(self):
+    def test_the_room_by_each_rule(self):
         """Its temperature in each twentieth step, in a line for each rule."""
-        shown = read("docs/LANGUAGE.md").partition("| xargs; done\n")[2].splitlines()
-        for rule in (1, 2):
+        shown = read("docs/LANGUAGE.md").rpartition("| xargs; done\n")[2].splitlines()
+        for rule in (1, 2, 3):
             found = first_values(apart.room(), 200, 0, rule, apart.thermostat())
             self.assertEqual(" ".join(found[19::20]), shown[rule - 1])
 
-    def test_a_trace_by_the_second_rule_says_so(self):
+    def test_a_trace_by_another_rule_than_the_first_says_so(self):
         body = apart.Then(apart.is_true("b", 1), apart.is_true("b", 0))
         flags = apart.of_one(apart.boolean("b"), body)
         trace = apart.trace_of(flags, apart.NOBODY, 1, Draws(0, 2))
         self.assertEqual(trace[:3], ["#seed 0", "#draw 2", '#inputs "b":bool'])
         self.assertIn("\n".join(["--draw 2", *trace, ""]), read("docs/COMMAND.md"))
+        self.assertEqual(apart.trace_of(flags, apart.NOBODY, 1, Draws(0, 3))[1], "#draw 3")
+        self.assertNotIn("#draw", "\n".join(apart.trace_of(flags, apart.NOBODY, 1, Draws(0, 1))))
 
     def test_patterns(self):
         shown = re.findall(

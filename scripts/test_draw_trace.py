@@ -32,8 +32,9 @@ class Reading(unittest.TestCase):
         self.assertEqual(draw_trace.bad_step(trace), 2)
 
     def test_a_trace_may_name_the_rule_of_drawing(self):
-        drawn = draw_trace.trace_of(TRACE.replace("#seed 7\n", "#seed 7\n#draw 2\n"))
-        self.assertEqual(drawn, draw_trace.trace_of(TRACE))
+        for rule in ("2", "3"):
+            drawn = draw_trace.trace_of(TRACE.replace("#seed 7\n", f"#seed 7\n#draw {rule}\n"))
+            self.assertEqual(drawn, draw_trace.trace_of(TRACE))
 
     def test_a_step_without_inputs_or_outputs(self):
         trace = draw_trace.trace_of("#seed 0\n#inputs\n#outputs\n#step 1\n#outs\n#end normal 1\n")
@@ -48,7 +49,7 @@ class Reading(unittest.TestCase):
     def test_other_texts_are_refused_with_a_line(self):
         self.assertEqual(self.refused("#seed 7\n", ""), "line 1: #seed is due here")
         wanted = "line 2: #inputs is due here"
-        self.assertEqual(self.refused("#seed 7\n", "#seed 7\n#draw 3\n"), wanted)
+        self.assertEqual(self.refused("#seed 7\n", "#seed 7\n#draw 4\n"), wanted)
         self.assertEqual(self.refused('"door":bool', "door"), 'line 2: door is not "NAME":KIND')
         self.assertEqual(self.refused("#step 2", "#step 3"), "line 7: #step 2 is due here")
         self.assertEqual(self.refused("18.00 t", "18.00 1"), "line 6: 1 is no value of door")

@@ -51,12 +51,13 @@ class GivenUp(unittest.TestCase):
         return calls.outcome(GIVEN.program, text.encode(), "run", *words, seconds=calls.PATIENCE)
 
     def test_numbers_as_one_writes_them_run(self):
+        steps = "20" if GIVEN.quick else "200"
         for text in RUNNING:
-            for rule in ("1", "2"):
+            for rule in ("1", "2", "3"):
                 with self.subTest(text, rule=rule):
-                    words = ("-l", "200", "--draw", rule)
+                    words = ("-l", steps, "--draw", rule)
                     found = self.outcome(text, *words)
-                    self.assertEqual(end_of(found), "0 limit 200")
+                    self.assertEqual(end_of(found), f"0 limit {steps}")
                     for budget in (LEAST, MOST):
                         other = self.outcome(text, *words, "--budget", budget)
                         self.assertEqual(other[:3], found[:3])

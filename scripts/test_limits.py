@@ -308,7 +308,8 @@ FAR = ("terms and expressions", "depth of terms", "depth of an expression")
 def is_tried(name, row):
     """Whether a row of a limit is tried."""
     is_far = name in FAR or len(row.text) > 100_000 or "1000000" in row.words
-    return not (GIVEN.quick and is_far)
+    is_given_up = row.end.startswith("10 ")
+    return not (GIVEN.quick and (is_far or is_given_up))
 
 
 def rows_to_try():

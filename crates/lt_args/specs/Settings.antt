@@ -41,7 +41,7 @@ default_seed = 0
 
 -- the greatest number of a rule of drawing that words may ask for; the least is 1
 abbrev pub most_draw : ℕ
-most_draw = 2
+most_draw = 3
 
 -- the number of the rule where they don't say
 abbrev pub default_draw : ℕ

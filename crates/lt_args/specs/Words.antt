@@ -10,7 +10,7 @@ use Rattle.clap.specs.Simple.{matches_of}
 use Rattle.clap.specs.Takes.{takes}
 use Rattle.clap.specs.Walk.{Row, Text, first_of, is_empty, one_of}
 use Rattle.lt_draw.specs.declared.directions.Draw.{Draw}
-use Rattle.lt_draw.specs.declared.directions.Draw.TheVariants.{Directed, Up}
+use Rattle.lt_draw.specs.declared.directions.Draw.TheVariants.{Directed, Inside, Up}
 use Rattle.lt_loop.specs.InputSource.{InputSource, from_nobody, from_program, from_trace}
 use Rattle.lt_args.specs.Command.{command}
 use Rattle.lt_args.specs.Settings.{most_steps, default_steps, most_number, default_seed, default_draw, most_decimals, default_decimals, default_budget}
@@ -101,7 +101,7 @@ source_in found = source_by (first_of (codes "sut") found) (first_of (codes "rep
 
 -- the rule of drawing that has this number
 abbrev pub draw_of : ℕ → Draw
-draw_of number = if number == 2 then Directed else Up
+draw_of number = if number == 2 then Directed else if number == 3 then Inside else Up
 
 -- the request of a mode, from what was found in the words, with what holds where an option isn't given
 abbrev pub request_of : Mode → List Row → Request

@@ -31,7 +31,7 @@ pub const MOST_SEED: u64 = u64::MAX;
 pub const DEFAULT_SEED: u64 = 0;
 
 /// The greatest number of a rule of drawing that words may ask for. The least is 1.
-pub const MOST_DRAW: u64 = 2;
+pub const MOST_DRAW: u64 = 3;
 
 /// The number of the rule of drawing where words don't say.
 pub const DEFAULT_DRAW: u64 = 1;

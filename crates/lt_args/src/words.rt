@@ -162,10 +162,10 @@ fn source_in<'a>(found: &ArgMatches<'a>) -> InputSource<'a>
 fn draw_of(number: u64) -> Draw
     ensures { result ≡ draw_of number }
 {
-    if number == 2 {
-        Draw::Directed
-    } else {
-        Draw::Up
+    match number {
+        2 => Draw::Directed,
+        3 => Draw::Inside,
+        _ => Draw::Up,
     }
 }
 

@@ -26,8 +26,10 @@ run f -l 0 --seed=+18446744073709551615 ==> Run f; (0, 18446744073709551615, 2, 
 ## a rule of drawing has a number
 run f --draw 1 ==> Run f; (100, 0, 2, 10000000); (None, None, None, None); false; Up
 run f --draw 2 ==> Run f; (100, 0, 2, 10000000); (None, None, None, None); false; Directed
+run f --draw 3 ==> Run f; (100, 0, 2, 10000000); (None, None, None, None); false; Inside
 --draw=+02 run f --seed 7 ==> Run f; (100, 7, 2, 10000000); (None, None, None, None); false; Directed
 print f --draw 2 --locals ==> Print f; (100, 0, 2, 10000000); (None, None, None, None); true; Directed
+--locals --draw=003 print f ==> Print f; (100, 0, 2, 10000000); (None, None, None, None); true; Inside
 
 ## a large run is asked for by its number
 stress 6 ==> Stress(6) 6; (100, 0, 2, 10000000); (None, None, None, None); false; Up

@@ -86,9 +86,9 @@ print f --budget 0 ==> Usage(Words)
 run f --budget=00 ==> Usage(Words)
 print f --budget 1000000000001 ==> Usage(Words)
 run f --draw 0 ==> Usage(Words)
-run f --draw 3 ==> Usage(Words)
+run f --draw 4 ==> Usage(Words)
 run f --draw=up ==> Usage(Words)
-stress 6 --draw 3 ==> Usage(Words)
+stress 6 --draw 4 ==> Usage(Words)
 
 ## an empty word is no number
 run f -l '' ==> Usage(Words)

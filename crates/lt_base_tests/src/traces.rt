@@ -29,6 +29,7 @@ a line of no values at 6 ==> "\n"
 a header declares variables
 a header ==> "#seed 7\n#inputs \"temp\":real\n#outputs \"heat\":bool\n"
 a header where directions are drawn ==> "#seed 7\n#draw 2\n#inputs \"temp\":real\n#outputs \"heat\":bool\n"
+a header where targets are drawn inside ==> "#seed 7\n#draw 3\n#inputs \"temp\":real\n#outputs \"heat\":bool\n"
 a header with a local ==> "#seed 0\n#inputs\n#outputs \"heat\":bool\n#locals \"gust.1\":int\n"
 
 steps and ends are lines
@@ -84,6 +85,7 @@ fn text_of(alloc: Global, name: &str) -> Result<Vec<u8>, Fail> {
         "a line of no values at 6" => line(alloc, &[], &[], 6),
         "a header" => header_of_output(alloc, Draw::Up),
         "a header where directions are drawn" => header_of_output(alloc, Draw::Directed),
+        "a header where targets are drawn inside" => header_of_output(alloc, Draw::Inside),
         "a header with a local" => header_of_local(alloc),
         "a step with a local" => {
             let locals = [Some(Value::Num(-12))];

@@ -21,7 +21,7 @@ $ run f --help
 
 $ walk f -l 5 -l 5
 
-$ run f --draw 3
+$ run f --draw 4
 
 $ run f --draw
 

@@ -7,7 +7,7 @@ use std::test::Fail;
 fn what_is_drawn_is_named_by_the_seed(rt: HostRuntime) -> Result<(), Fail> {
     // The same call twice writes the same.
     for _ in 0..2 {
-        check_rows(&rt, "", 27, DRAWN)?;
+        check_rows(&rt, "", 32, DRAWN)?;
     }
     Ok(())
 }
@@ -127,6 +127,44 @@ f is node n() returns (x: int [0;9]) = loop (x = 2 or x = 7)
 > #step 1\n2 #outs\n#step 2\n2 #outs\n#step 3\n2 #outs\n#step 4\n7 #outs
 > #step 5\n7 #outs\n#step 6\n7 #outs\n#step 7\n7 #outs\n#step 8\n2 #outs
 > #end limit 8
+
+## by the third rule of drawing each variable aims between the least and the greatest number that it can have
+
+-- In turn 2, 2, 2 and 3 are aimed at. 2 can't be: the first and the third one lead downward, and the second one upward.
+$ run f -l 4 --seed 2 --draw 3
+f is node n() returns (x: int [0;3]) = loop x <> 2
+> #seed 2\n#draw 3\n#inputs "x":int\n#outputs
+> #step 1\n1 #outs\n#step 2\n3 #outs\n#step 3\n1 #outs\n#step 4\n3 #outs
+> #end limit 4
+
+-- By 3 the words leave 1, 1, 1, 2, 1, 0.
+$ run f -l 6 --draw 3
+f is node n() returns (x: int [0;100]) = loop x > 97
+> #seed 0\n#draw 3\n#inputs "x":int\n#outputs
+> #step 1\n99 #outs\n#step 2\n99 #outs\n#step 3\n99 #outs\n#step 4\n100 #outs
+> #step 5\n99 #outs\n#step 6\n98 #outs
+> #end limit 6
+
+-- The first one can have 3 to 9, and its words leave 6, 6, 2, 4 by 7. Then the second one can have one number alone.
+$ run f -l 4 --draw 3
+f is node n() returns (x, y: int [0;9]) = loop x + y = 12
+> #seed 0\n#draw 3\n#inputs "x":int "y":int\n#outputs
+> #step 1\n9 3 #outs\n#step 2\n9 3 #outs\n#step 3\n5 7 #outs\n#step 4\n7 5 #outs
+> #end limit 4
+
+-- It can have 2.50, 5.00, 7.50 and 10.00, and the words leave 2, 2, 2, 3 by 4.
+$ run f -l 4 --seed 2 --draw 3
+f is node n() returns (x: real [0.0;10.0;2.5]) = loop x > 1.0
+> #seed 2\n#draw 3\n#inputs "x":real\n#outputs
+> #step 1\n7.50 #outs\n#step 2\n7.50 #outs\n#step 3\n7.50 #outs\n#step 4\n10.00 #outs
+> #end limit 4
+
+-- Booleans that constraints name one by one are as they say, and others are the same by each rule.
+$ run f --draw 3
+f is node n() returns (a, b, c, d, e, f, g, h, i: bool) = a
+> #seed 0\n#draw 3\n#inputs "a":bool "b":bool "c":bool "d":bool "e":bool "f":bool "g":bool "h":bool "i":bool\n#outputs
+> #step 1\nt f f f t t t f f #outs
+> #end normal 1
 
 ## an alternative without weight is never taken
 f is node n() returns (x: int [0;3]) = { |0: x = 1 |3: x = 2 }

@@ -8,7 +8,7 @@ fn earlier_traces_are_played_again(rt: HostRuntime) -> Result<(), Fail> {
     check_rows(
         &rt,
         "",
-        19,
+        21,
         r##"
 ## the trace of a run is played again
 -- After the row of a run stands that of its trace, which is played again without the controller.
@@ -25,6 +25,19 @@ $ run f --replay t -l 2
 f is node n(y: int [5;9]) returns (x: int [0;9]) = loop x = y
 > #seed 0\n#inputs "x":int\n#outputs "y":int
 > #step 1\n5 #outs 7\n#step 2\n7 #outs 8\n#end limit 2
+t is its trace
+files 2
+
+$ run f --sut c -l 2 --seed 2 --draw 3
+f is node n(y: int) returns (x: int [0;3]) = loop x <> 2
+> #seed 2\n#draw 3\n#inputs "x":int\n#outputs "y":int
+> #step 1\n1 #outs 7\n#step 2\n3 #outs 8\n#end limit 2
+c got "1\n3\n"
+
+$ run f --replay t -l 2 --seed 2 --draw 3
+f is node n(y: int) returns (x: int [0;3]) = loop x <> 2
+> #seed 2\n#draw 3\n#inputs "x":int\n#outputs "y":int
+> #step 1\n1 #outs 7\n#step 2\n3 #outs 8\n#end limit 2
 t is its trace
 files 2
 

@@ -2,7 +2,7 @@
 use Rattle.std.specs.Prelude.{◌≢◌, ℕ, ◌+◌, ◌%◌, ◌^◌, ◌<◌, ◌==◌, Bool, false}
 use Rattle.lt_draw.specs.Word.{slots}
 use Rattle.lt_draw.specs.declared.directions.Draw.{Draw}
-use Rattle.lt_draw.specs.declared.directions.Draw.TheVariants.{Directed, Up}
+use Rattle.lt_draw.specs.declared.directions.Draw.TheVariants.{Directed, Inside, Up}
 
 -- how many variables have slots
 abbrev pub most_drawn : ℕ
@@ -25,6 +25,7 @@ is_downward word = word % 2 == 1
 abbrev pub goes_down : Draw → (ℕ → ℕ) → ℕ → Bool
 goes_down Up word variable = false
 goes_down Directed word variable = is_downward (word (slot_of_direction variable))
+goes_down Inside word variable = is_downward (word (slot_of_direction variable))
 
 -- No target and no direction have one slot, and each has a slot of the step.
 abbrev pub SlotsAreApart : Type 0

@@ -11,6 +11,10 @@ pub enum Draw {
 
     /// Each variable has a direction of its own, which is drawn too.
     Directed,
+
+    /// Each variable has a direction, and its target is drawn between the least and the greatest of the points that
+    /// are possible for it.
+    Inside,
 }
 
 /// Whether a word says that a variable goes downward from its target.

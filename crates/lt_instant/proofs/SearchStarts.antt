@@ -6,7 +6,7 @@ use Rattle.lt_draw.specs.Word.{word_at}
 use Rattle.lt_num.specs.Range.{HasPoints}
 use Rattle.lt_num.specs.declared.range.Range.{Range}
 use Rattle.lt_instant.specs.SearchStartView.{IsSearchStartOf, AreDrawn}
-use Rattle.lt_instant.specs.Solved.{directions_from, directions_of, drawn_ranges, targets_from, targets_of}
+use Rattle.lt_instant.specs.Solved.{directions_from, directions_of, drawn_ranges, target_words_from, target_words_of, targets_from, targets_of}
 use Rattle.lt_instant.specs.declared.search_start.SearchStart.{SearchStart}
 use Rattle.lt_instant.specs.declared.draw_context.DrawContext.{DrawContext}
 use Rattle.lt_instant.specs.inner.DrawContextView.{scene_of, word_of}
@@ -32,6 +32,9 @@ module _ (m : DrawContext) (rs : List Range) (is : rs ≡ drawn_ranges (scene_of
     -- those that are drawn by the words of a moment are the targets and the directions of the rules
     pub targets_are : start.targets.items ≡ targets_of (scene_of m) (word_of m)
     targets_are = drawn.targets ∙ (λ i. targets_from (word_at m.words.now.seed (m.step_is i)) 0 (is i))
+
+    pub words_are : start.words.items ≡ target_words_of (scene_of m) (word_of m)
+    words_are = drawn.words ∙ (λ i. target_words_from (word_at m.words.now.seed (m.step_is i)) 0 (length (is i)))
 
     pub down_are : start.down.items ≡ directions_of (scene_of m) m.draw (word_of m)
     down_are = drawn.down ∙ (λ i. directions_from m.draw (word_at m.words.now.seed (m.step_is i)) 0 (length (is i)))

@@ -1,4 +1,4 @@
-//! Where the search for the first solution of an instant begins.
+//! What the search for the solution of an instant is drawn from.
 
 ghost use Rattle.std.specs.Prelude.{◌≤◌, All, IfOk, List, length};
 ghost use Rattle.lt_draw.specs.Direction.{most_drawn};
@@ -14,7 +14,10 @@ use std::alloc::{AllocError, Global};
 /// they are asked for, and once in an instant.
 #[derive(Drop)]
 pub(crate) struct SearchStart {
-    /// The targets.
+    /// The words that variables have their targets from.
+    pub words: Vec<u64>,
+
+    /// The targets in the whole ranges.
     pub targets: Vec<i64>,
 
     /// The directions: whether each variable goes downward from its target.
@@ -42,6 +45,7 @@ impl SearchStart {
         ensures { (ranges : List Range) → length ranges ≤ count → IfOk result (IsSearchStartOf ranges) }
     {
         Ok(SearchStart {
+            words: Vec::with_capacity(alloc, count)?,
             targets: Vec::with_capacity(alloc, count)?,
             down: Vec::with_capacity(alloc, count)?,
             instant: None,
@@ -64,7 +68,7 @@ impl SearchStart {
         if self.instant == asked {
             return;
         }
-        find_targets(&mut self.targets, words, ranges);
+        find_targets(&mut self.words, &mut self.targets, words, ranges);
         find_directions(&mut self.down, draw, words, ranges.len());
         self.instant = asked;
     }

@@ -6,7 +6,7 @@ use Rattle.std.proofs.lemmas.Fmt.{length-decimal-le, length-decimal-le_wide}
 use Rattle.std.proofs.lemmas.List.Sums.{sum_by-cons}
 use Rattle.std.proofs.Math.Nat.{div-le_self}
 use Rattle.lt_draw.specs.declared.directions.Draw.{Draw}
-use Rattle.lt_draw.specs.declared.directions.Draw.TheVariants.{Directed, Up}
+use Rattle.lt_draw.specs.declared.directions.Draw.TheVariants.{Directed, Inside, Up}
 use Rattle.lt_num.specs.Text.{last_digits, decimals_text, size_text, text_of}
 use Rattle.lt_num.specs.declared.fault.Arith.{Arith}
 use Rattle.lt_num.specs.declared.fault.Arith.TheVariants as arith_fault
@@ -49,6 +49,7 @@ locals-length (Some ds) = omega (arith, declared-all ds, length-append (codes "#
 draw-length : (draw : Draw) → length (draw_header draw) ≤ 8
 draw-length Up = omega arith
 draw-length Directed = omega arith
+draw-length Inside = omega arith
 
 number-length : (n : ℕ) → n < 2 ^ 64 → length (decimal n) ≤ 20
 number-length n small = length-decimal-le 20 n (omega arith) (omega arith) small

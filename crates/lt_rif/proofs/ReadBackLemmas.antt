@@ -5,7 +5,7 @@ use Rattle.std.proofs.lemmas.Bool.Decides.{nat_tests}
 use Rattle.std.proofs.lemmas.Fmt.{digits_decimal}
 use Rattle.std.proofs.lemmas.List.Folds.{list_any-append}
 use Rattle.lt_draw.specs.declared.directions.Draw.{Draw}
-use Rattle.lt_draw.specs.declared.directions.Draw.TheVariants.{Directed, Up}
+use Rattle.lt_draw.specs.declared.directions.Draw.TheVariants.{Directed, Inside, Up}
 use Rattle.lt_num.specs.Text.{size_text, text_of}
 use Rattle.lt_num.specs.declared.kind.Kind.{Kind}
 use Rattle.lt_num.specs.declared.kind.Kind.TheVariants as kind
@@ -454,6 +454,7 @@ draw-then : (draw : Draw) (gap : List Filler) → AreFillers gap → HeaderParts
 unfolding class_of
 draw-then Up gap are = record { parts = gap; are = are; is = refl }
 draw-then Directed gap are = record { parts = comment (codes "#draw 2") ∷ gap; are = ((refl, refl), are); is = refl }
+draw-then Inside gap are = record { parts = comment (codes "#draw 3") ∷ gap; are = ((refl, refl), are); is = refl }
 
 locals-parts : (locals : Option (List DeclaredVariable)) → AreOnLines (unwrap_or locals []) → HeaderParts (locals_header locals)
 unfolding class_of

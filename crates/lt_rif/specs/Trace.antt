@@ -4,7 +4,7 @@ use Rattle.std.specs.List.{flat_map, join_by}
 use Rattle.std.specs.String.{string_bytes}
 use Rattle.std.specs.declared.option.Option.{Option}
 use Rattle.lt_draw.specs.declared.directions.Draw.{Draw}
-use Rattle.lt_draw.specs.declared.directions.Draw.TheVariants.{Directed, Up}
+use Rattle.lt_draw.specs.declared.directions.Draw.TheVariants.{Directed, Inside, Up}
 use Rattle.lt_num.specs.Text.{text_of}
 use Rattle.lt_num.specs.declared.fault.Arith.{Arith}
 use Rattle.lt_num.specs.declared.fault.Arith.TheVariants as arith_fault
@@ -48,10 +48,11 @@ kind_text kind.Real = codes "real"
 abbrev pub declared_text : DeclaredVariable → List ℕ
 declared_text d = codes " \"" ++ d.name ++ codes "\":" ++ kind_text d.kind
 
--- the line of the rule of drawing, which stands exactly where directions are drawn
+-- the line of the rule of drawing, which stands where it is another than the first
 abbrev pub draw_header : Draw → List ℕ
 draw_header Up = []
 draw_header Directed = line (codes "#draw 2")
+draw_header Inside = line (codes "#draw 3")
 
 -- the line of the locals, where they are written
 abbrev pub locals_header : Option (List DeclaredVariable) → List ℕ

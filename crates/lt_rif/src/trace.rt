@@ -50,13 +50,15 @@ pub fn write_header(
     append_locals_header(into, locals);
 }
 
-// Appends the line of the rule of drawing, where directions are drawn.
+// Appends the line of the rule of drawing, where it is another than the first.
 fn append_draw_header(into: &mut Vec<u8>, draw: Draw)
     requires { HasRoom into.old (draw_header draw) }
     ensures { AddsText into.old into.new (draw_header draw) }
 {
-    if draw == Draw::Directed {
-        append(into, b"#draw 2\n");
+    match draw {
+        Draw::Up => {}
+        Draw::Directed => append(into, b"#draw 2\n"),
+        Draw::Inside => append(into, b"#draw 3\n"),
     }
 }
 

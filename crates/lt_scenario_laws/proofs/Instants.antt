@@ -6,7 +6,7 @@ use Rattle.std.proofs.lemmas.Int.{ints}
 use Rattle.lt_draw.specs.declared.directions.Draw.{Draw}
 use Rattle.lt_formula.specs.Domain.{IsDomain}
 use Rattle.lt_formula.specs.Expression.{Expression}
-use Rattle.lt_formula.specs.Solution.{FirstSolutionIsFirst, IsFirst, IsPointOf, IsSatisfiable, first_solution, orders_from}
+use Rattle.lt_formula.specs.Solution.{IsPointOf}
 use Rattle.lt_loop.specs.Machine as l
 use Rattle.lt_loop.specs.Machine.{GivenUp, giving_up, is_given_up, over, values}
 use Rattle.lt_loop.specs.declared.machine.ScenarioEnd.TheVariants as scenario_end
@@ -32,7 +32,8 @@ use Rattle.lt_term.specs.Tree.{Lasts}
 use Rattle.lt_instant.specs.Drawn.{Met}
 use Rattle.lt_instant.specs.Instant as i
 use Rattle.lt_instant.specs.Instant.{Leaf, go_instant, instant_of, is_too_large, leaf_instant, taken_in, taken_instant, words_of}
-use Rattle.lt_instant.specs.Solved.{directions_of, drawn_ranges, holds_of, is_in_scope, locals_by, marks_from, outputs_by, ranges_at, ranges_of_all, scope_of, scoped, solution_of, targets_from, targets_of, values_from}
+use Rattle.lt_instant.specs.Legal.{SolutionsPass}
+use Rattle.lt_instant.specs.Solved.{CanHold, holds_of, is_in_scope, locals_by, marks_from, outputs_by, ranges_at, ranges_of_all, scoped, solution_of, values_from}
 use Rattle.lt_step.specs.Machine.{Phase, State, answered, finished, locals_in, outputs_in, outputs_of, running, started, step_in}
 use Rattle.lt_play.proofs.Public.{value_within}
 use Rattle.lt_play.specs.Rules.{instant_by, known_scene, known_variable, scenario_rules}
@@ -106,37 +107,19 @@ locals_after pass [] vs ls raws has point = locals_own pass ls 0 vs raws has poi
 locals_after pass (o ∷ outs) vs ls [] has point = absurd point
 locals_after pass (o ∷ outs) vs ls (z ∷ raws) has point = subst (λ (xs : List Value). MayBeValuesOf vs (scoped ls 0 xs)) (sym (values_next (length outs) vs z raws)) (locals_after pass outs vs ls raws has point.1)
 
--- ---- the first solution
-
--- as many ranges as targets
-scope_many : (marks : List Bool) (rs : List Range) → length (ranges_in marks rs) ≡ length rs
-scope_many [] [] = refl
-scope_many [] (r ∷ rs) = ap suc (scope_many [] rs)
-scope_many (mark ∷ marks) [] = refl
-scope_many (mark ∷ marks) (r ∷ rs) = ap suc (scope_many marks rs)
-
-targets_many : (word : ℕ → ℕ) (k : ℕ) (rs : List Range) → length (targets_from word k rs) ≡ length rs
-targets_many word k [] = refl
-targets_many word k (r ∷ rs) = ap suc (targets_many word (suc k) rs)
+-- ---- a solution
 
 -- a solution, if there is one, is a point of these ranges
 abbrev IsPoint : List Range → Option (List ℤ) → Type 0
 IsPoint rs None = Unit {0}
 IsPoint rs (Some raws) = IsPointOf rs raws
 
-solved : (rs : List Range) (A : Type 0) (B C : List ℤ → Type 0) (o : Option (List ℤ)) → MatchOption o A (λ raws. IsPointOf rs raws × B raws × C raws) → IsPoint rs o
-solved rs A B C None h = tt
-solved rs A B C (Some raws) h = h.0
+solved : (rs : List Range) (A : Type 0) (B : List ℤ → Type 0) (o : Option (List ℤ)) → MatchOption o A (λ raws. IsPointOf rs raws × B raws) → IsPoint rs o
+solved rs A B None h = tt
+solved rs A B (Some raws) h = h.0
 
-solution_is_point : FirstSolutionIsFirst → (s : Scene) (draw : Draw) (word : ℕ → ℕ) (ls : Lasts) (f : Formula) → IsPoint (ranges_at s ls) (solution_of s draw word ls f)
-solution_is_point law s draw word ls f =
-    let holds = holds_of s f in
-    let ranges = ranges_at s ls in
-    let targets = targets_of s word in
-    let down = directions_of s draw word in
-    let many : length targets ≡ length ranges = targets_many word 0 (drawn_ranges s) ∙ sym (scope_many (scope_of s ls) (drawn_ranges s)) in
-    solved ranges (IsSatisfiable holds ranges → ⊥) (λ raws. IsTrue (holds raws)) (λ raws. IsFirst holds ranges (orders_from ranges targets down) raws) (first_solution holds ranges targets down)
-    (law holds ranges targets down many)
+solution_is_point : SolutionsPass → (s : Scene) (draw : Draw) (word : ℕ → ℕ) (ls : Lasts) (f : Formula) → IsPoint (ranges_at s ls) (solution_of s draw word ls f)
+solution_is_point law s draw word ls f = solved (ranges_at s ls) (CanHold s f ls → ⊥) (λ raws. IsTrue (holds_of s f raws)) (solution_of s draw word ls f) (law s draw word ls f)
 
 -- ---- an instant
 
@@ -154,7 +137,7 @@ values_own s xs ys c first second third outputs locals next is =
     let three : c ≡ next = cc in
     (subst (AreValuesOf s.outputs) one first, subst (MayBeValuesOf s.locals) two second, sym (ap (λ (x : Configuration). outputs_of x.previous) three) ∙ third ∙ one)
 
-module _ (law : FirstSolutionIsFirst) (pass : PointsPass) (s : Scene) (has : HasRanges s) where
+module _ (law : SolutionsPass) (pass : PointsPass) (s : Scene) (has : HasRanges s) where
   go_own : (c : Configuration) (y : List Value) (ls : Lasts) (n : Process Expression) (o : Option (List ℤ)) → IsPoint (ranges_at s ls) o → GivesOwn s (go_instant s c y ls n o)
   go_own c y ls n None point = λ outputs locals next is. absurd (cc)
   go_own c y ls n (Some raws) point =
@@ -224,7 +207,7 @@ made_shown m has i.deadlock own next is = absurd (cc)
 made_shown m has (i.fault f) own next is = absurd (cc)
 made_shown m has i.too_large own next is = absurd (cc)
 
-phase_shown : FirstSolutionIsFirst → PointsPass → (m : State) → HasRanges m.scene → (p : Phase) (y : List Value) (next : State) → instant_by (step_in m p y) ≡ values next
+phase_shown : SolutionsPass → PointsPass → (m : State) → HasRanges m.scene → (p : Phase) (y : List Value) (next : State) → instant_by (step_in m p y) ≡ values next
     → (next.scene ≡ m.scene) × Shows (known_scene m.scene) (outputs_in next.phase) (locals_in next.phase)
 phase_shown law pass m has (running c locals) y next is = made_shown m has (instant_of m.scene m.seed m.draw c y) (instant_own law pass m.scene has m.seed m.draw c y) next is
 phase_shown law pass m has finished y next is = absurd (cc)
@@ -239,7 +222,7 @@ kept_values None m y next is = is
 kept_values (Some g) m y next is = not_given_up (is_given_up scenario_rules g m y) g.need (scenario_rules.instant m y) next is
 
 -- so do all of a run
-all_shown : FirstSolutionIsFirst → PointsPass → (s : Scene) → HasRanges s → (u : Option GivenUp) (left : ℕ) (m : State) (y : List Value) → m.scene ≡ s → ShowsFor (giving_up u scenario_rules) (known_scene s) left m y
+all_shown : SolutionsPass → PointsPass → (s : Scene) → HasRanges s → (u : Option GivenUp) (left : ℕ) (m : State) (y : List Value) → m.scene ≡ s → ShowsFor (giving_up u scenario_rules) (known_scene s) left m y
 all_shown law pass s has u zero m y is = tt
 all_shown law pass s has u (suc left) m y is = λ next at.
     let shown = phase_shown law pass m (subst HasRanges (sym is) has) m.phase y next (kept_values u m y next at) in (
@@ -249,11 +232,11 @@ all_shown law pass s has u (suc left) m y is = λ next at.
 
 -- ---- the laws
 
-pub instants_give_their_own : NamesAreThere → FirstSolutionIsFirst → PointsAreThose → TestTellsPoints → InstantsGiveTheirOwn
+pub instants_give_their_own : NamesAreThere → SolutionsPass → PointsAreThose → TestTellsPoints → InstantsGiveTheirOwn
 instants_give_their_own there law those tells decimals node text scene seed draw c next inputs outputs locals is made =
     let own = instant_own law (points_pass those tells) scene (scenario_has_ranges there decimals node text scene is) seed draw c inputs outputs locals next made in
     (own.0, own.1)
 
-pub scenarios_show_their_instants : NamesAreThere → FirstSolutionIsFirst → PointsAreThose → TestTellsPoints → ScenariosShowTheirInstants
+pub scenarios_show_their_instants : NamesAreThere → SolutionsPass → PointsAreThose → TestTellsPoints → ScenariosShowTheirInstants
 scenarios_show_their_instants there law those tells decimals node text scene seed budget draw limit u is =
     all_shown law (points_pass those tells) scene (scenario_has_ranges there decimals node text scene is) u limit (started scene seed budget draw) (first_inputs (known_scene scene)) refl

@@ -2,7 +2,7 @@
 
 ghost use Rattle.lt_scenario_laws.specs.Traced.{InstantsGiveTheirOwn, ScenarioPrefixesShowTheirRun, ScenarioReplaysAreTheSame, ScenarioTracesShowTheirRun, ScenariosAreTraceable, ScenariosShowTheirInstants};
 
-use lt_formula::first_solution_is_first;
+use lt_instant::solutions_pass;
 use lt_lexer::tokens_stand_in_turn;
 use lt_macros::names_are_there;
 use lt_num::{points_are_those, test_tells_points};
@@ -27,7 +27,7 @@ pub fn instants_give_their_own()
     // Laws that the proof needs: a variable's range is one of its kind, a solution is a point of the ranges, and what
     // is one passes the test of points.
     names_are_there();
-    first_solution_is_first();
+    solutions_pass();
     points_are_those();
     test_tells_points();
 }
@@ -39,7 +39,7 @@ pub fn scenarios_show_their_instants()
     // Laws that the proof needs: a variable's range is one of its kind, a solution is a point of the ranges, and what
     // is one passes the test of points.
     names_are_there();
-    first_solution_is_first();
+    solutions_pass();
     points_are_those();
     test_tells_points();
 }

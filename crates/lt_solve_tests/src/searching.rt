@@ -154,9 +154,9 @@ fn is_point(range: Range, raw: i64) -> bool
     raw.abs_diff(range.low) % range.step.unsigned_abs() == 0
 }
 
-// Puts which constraints are loaded, at how many decimals, the answer of a search, and the values of a solution, as
-// `[4] at 2 decimals, Solution [0, 2, 0, 0, 1, 0]`.
-fn put_answer(
+/// Puts which constraints are loaded, at how many decimals, the answer of a search, and the values of a solution, as
+/// `[4] at 2 decimals, Solution [0, 2, 0, 0, 1, 0]`.
+pub(crate) fn put_answer(
     found: &mut String,
     space: &Space,
     answer: Answer,

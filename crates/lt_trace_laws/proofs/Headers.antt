@@ -10,7 +10,7 @@ use Rattle.std.proofs.lemmas.Fmt.{digits_decimal}
 use Rattle.std.proofs.lemmas.List.Folds.{list_any-append}
 use Rattle.std.proofs.lemmas.Str.Parse.{digit_at, numerals_by_value, tells_all_ascii_digits, IsNumeralModel}
 use Rattle.lt_draw.specs.declared.directions.Draw.{Draw}
-use Rattle.lt_draw.specs.declared.directions.Draw.TheVariants.{Directed, Up}
+use Rattle.lt_draw.specs.declared.directions.Draw.TheVariants.{Directed, Inside, Up}
 use Rattle.lt_num.specs.declared.kind.Kind.{Kind}
 use Rattle.lt_num.specs.declared.kind.Kind.TheVariants as kind
 use Rattle.lt_rif.specs.ReadBack.{AreOnLines}
@@ -92,6 +92,7 @@ draw_then : (draw : Draw) (gap : List Filler) → AreFillers gap → Parts (draw
 unfolding class_of
 draw_then Up gap are = record { gap = gap; are = are; is = refl }
 draw_then Directed gap are = record { gap = comment (codes "#draw 2") ∷ gap; are = ((refl, refl), are); is = refl }
+draw_then Inside gap are = record { gap = comment (codes "#draw 3") ∷ gap; are = ((refl, refl), are); is = refl }
 
 locals_parts : (locals : Option (List DeclaredVariable)) → AreOnLines (unwrap_or locals []) → Parts (locals_header locals)
 locals_parts None are = record { gap = []; are = tt; is = refl }
