@@ -46,5 +46,5 @@ print f --sut c --replay t --locals ==> Print f; (100, 0, 2, 10000000); (None, S
 
 #[test]
 fn words_ask_for_what_they_say(rt: HostRuntime) -> Result<(), Fail> {
-    check(&rt, ASKED, 25)
+    check(&rt, ASKED, 27)
 }

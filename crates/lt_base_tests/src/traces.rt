@@ -51,7 +51,7 @@ end Budget ==> "#step 3\n#outs\n#end budget 170141183460469231731687303715884105
 
 #[test]
 fn traces_are_written_as_lines(rt: HostRuntime) -> Result<(), Fail> {
-    check(&rt, rt.alloc(), &Subject::Traces, TEXTS, 20)
+    check(&rt, rt.alloc(), &Subject::Traces, TEXTS, 21)
 }
 
 /// Puts the text of what a row names.
