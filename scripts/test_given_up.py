@@ -72,7 +72,7 @@ class GivenUp(unittest.TestCase):
         if GIVEN.quick:
             self.skipTest("a program with checks takes longer")
         need = hard_texts.pigeons_need(10)
-        for words in ((), ("--budget", LEAST), ("--budget", MOST)):
+        for words in ((), ("--budget", LEAST), ("--budget", MOST), ("--draw", "3")):
             with self.subTest(words):
                 found = self.outcome(hard_texts.pigeons(10, 9), *words)
                 self.assertEqual(end_of(found), f"10 budget {need} 1")
