@@ -3,12 +3,13 @@
     python3 scripts/check_docs.py [--program PATH] [--plant PATH] [--quick]
 
 The programs are those that `rt ci` leaves in the checkout, where no option names others. With
---quick other tests leave out what takes long where nothing is proved of the program. A command
-stands after `$ ` in a block of a document, or after `-- $ ` in the comment of an example. What it
-writes, standard error among it, stands below, where a line `..` stands for any lines. A command in
-a sentence has to end well, or by an end of its run. The row of a table that has the text of a node
-is run too: it says the outputs and the end, or a refusal with its place. Commands that ask for the
-program itself, as --prove, are left out, and so are those with a word in capitals.
+--quick this and other tests leave out what takes long where nothing is proved of the program. A
+command stands after `$ ` in a block of a document, or after `-- $ ` in the comment of an example.
+What it writes, standard error among it, stands below, where a line `..` stands for any lines. A
+command in a sentence has to end well, or by an end of its run. The row of a table that has the
+text of a node is run too: it says the outputs and the end, or a refusal with its place. Commands
+that ask for the program itself, as --prove, are left out, and so are those with a word in
+capitals.
 """
 
 import argparse
@@ -45,6 +46,9 @@ IN_A_LINE = """awk '/#outs/ {print $1} /#end/ {$1 = ""; print}' | xargs"""
 
 # The statuses of a run that ended in one of its ways, and of a call that went well.
 ENDED = (0, 1, 4, 5, 6, 7, 8, 10, 14)
+
+# What a program with checks takes more than a minute for: a search that is given up.
+LONG = "examples/pigeons.lut"
 
 # Words that ask for the program, and not for what it does.
 OF_THE_SCRIPT = ("--unproved", "--is-proved", "--prove", "--version", "--which")
@@ -194,13 +198,15 @@ def fault_of(shown, room):
     return [head, "  printed:", *indented(wanted), "  found:", *indented(found)]
 
 
-def check(program, plant):
+def check(named):
     """How many commands were run, and what is wrong with them."""
     count, faults = 0, []
     for commands in all_commands():
         with tempfile.TemporaryDirectory(prefix="check-docs-") as room:
-            furnish(room, program, plant)
+            furnish(room, named.program, named.plant)
             for shown in commands:
+                if named.quick and LONG in shown.command:
+                    continue
                 count += 1
                 faults += fault_of(shown, room)
     return count, faults
@@ -220,12 +226,11 @@ def given(words):
 
 def main(words):
     named = given(words)
-    program, plant = named.program, named.plant
-    for path in (program, plant):
+    for path in (named.program, named.plant):
         if not os.access(path, os.X_OK):
             print(f"check_docs: {path} is not there, so no command can be run", file=sys.stderr)
             return 2
-    count, faults = check(program, plant)
+    count, faults = check(named)
     for line in faults:
         print(line)
     wrong = sum(not it.startswith(" ") for it in faults)
