@@ -1,6 +1,6 @@
 //! Tightening of ranges by rows.
 
-ghost use Rattle.std.specs.Prelude.{◌≡◌, ◌≢◌, ◌<◌, ◌≤◌, ◌-◌, ◌*◌, ◌^◌, suc, length, pos, neg_ℤ, ◌-ℤ◌, ◌≤ℤ◌, unsigned_abs, IfSome};
+ghost use Rattle.std.specs.Prelude.{◌≡◌, ◌≢◌, ◌<◌, ◌≤◌, ◌-◌, ◌*◌, ◌^◌, suc, length, pos, neg_ℤ, negsuc, ◌-ℤ◌, ◌≤ℤ◌, unsigned_abs, IfSome};
 ghost use Rattle.std.specs.Int.{int_div_euclid};
 ghost use Rattle.lt_bounds.specs.Rows.{rows_of, reach, ReachesAll, AreWholeRows};
 ghost use Rattle.lt_bounds.specs.Tightening.{tightened, told, least_of, least_sum, cut, where_some, is_broken, row_taken, rows_taken};
@@ -190,6 +190,19 @@ fn quotient(others: i128, coefficient: i128) -> i128
     match coefficient {
         1 => -others,
         -1 => others,
-        _ => (-others).div_euclid(coefficient),
+        _ => long_quotient(-others, coefficient),
+    }
+}
+
+// A number divided by another one, in Euclid's way. Most have 64 bits, whose quotients take less time.
+fn long_quotient(number: i128, divisor: i128) -> i128
+    requires number { unsigned_abs number < 2 ^ 127 }
+    requires divisor { divisor ≢ pos 0 }
+    requires several { divisor ≢ negsuc 0 }
+    ensures { result ≡ int_div_euclid number divisor }
+{
+    match (i64::try_from(number), i64::try_from(divisor)) {
+        (Ok(short), Ok(by)) => i128::from(short.div_euclid(by)),
+        _ => number.div_euclid(divisor),
     }
 }
