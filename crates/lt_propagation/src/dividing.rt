@@ -357,11 +357,22 @@ fn with_term(
             rest: remainder.rest + factor * i128::from(range.low),
         });
     }
-    if is_multiple(factor, divisor) {
+    if divides(divisor, term.1) {
         Some(remainder)
     } else {
         None
     }
+}
+
+// Whether a divisor, which often is the coefficient itself, divides it.
+fn divides(divisor: i64, coefficient: i64) -> bool
+    requires { pos 0 <ℤ divisor }
+    ensures { result ≡ true → IsMultiple divisor coefficient }
+{
+    if coefficient == divisor {
+        return true;
+    }
+    is_short_multiple(coefficient, divisor)
 }
 
 // A divisor of the terms of all variables with several values but one, as great as it is found; 1 where there is none.
@@ -387,11 +398,14 @@ fn divisor_of(terms: &[(u32, i64)], but: usize, count: usize, ranges: &[Interval
 
 // A common divisor of two numbers, by remainders: the greatest, and of 0 and another number that one.
 fn common_divisor(one: u64, other: u64) -> u64 {
-    let mut greater = one;
-    let mut smaller = other;
+    let mut greater = one.max(other);
+    let mut smaller = one.min(other);
     for _ in 0..MOST_REMAINDERS {
         if smaller == 0 {
             return greater;
+        }
+        if smaller == 1 {
+            return 1;
         }
         let rest = greater % smaller;
         greater = smaller;

@@ -70,10 +70,10 @@ returns-then-range-clause-rest c =
     let size = product_size f low most_coefficient most_raw c.requires.factor sizes.0 in
     omega (arith, ints, product, size, c.requires.rest)
 
-pub returns-then-is_multiple-clause-is : goal.returns-then-is_multiple-clause-is
-returns-then-is_multiple-clause-is c = λ values p.
+pub returns-then-divides-clause-is : goal.returns-then-divides-clause-is
+returns-then-divides-clause-is c = λ values p.
     let d = c.args.divisor in
     let f = c.args.term.1 in
     let divisor : to_z w64 (of_z w64 d) ≡ d = omega (arith, ints) in
-    let factor : to_z w128 (of_z w128 c.from-factor.result) ≡ f = omega (arith, ints, c.requires.factor) in
-    but_multiple d (value_of c.args.remainder c.args.but c.args.count values) f (get_or (take c.args.count values) c.args.term.0 (pos 0)) ((rw (divisor, factor) at c.is_multiple.ensures.only) c.if-is_multiple.true)
+    let factor : to_z w64 (of_z w64 f) ≡ f = omega (arith, ints, c.requires.factor) in
+    but_multiple d (value_of c.args.remainder c.args.but c.args.count values) f (get_or (take c.args.count values) c.args.term.0 (pos 0)) ((rw (divisor, factor) at c.divides.ensures) c.if-divides.true)
