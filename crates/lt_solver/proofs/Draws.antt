@@ -30,8 +30,8 @@ use Rattle.lt_space.specs.CircuitView.{circuit_formulas}
 use Rattle.lt_space.specs.declared.circuit.Circuit.{Circuit}
 use Rattle.lt_solver.specs.inner.Dive.{Covers, IsDiving, test_of}
 use Rattle.lt_solver.specs.inner.Points.{AreFixed}
-use Rattle.lt_solver.specs.inner.Drawing.{AreDrawn, IsDrawn, IsFirstLeft, Passes, TellsRanges, place_of, place_only}
-use Rattle.lt_solver.proofs.Dives.{fixed_more, left_dives, part_dives, point_wider, set_at}
+use Rattle.lt_solver.specs.inner.Drawing.{AreDrawn, IsDrawn, IsFirstLeft, IsTaken, Passes, TellsRanges, place_of, place_only}
+use Rattle.lt_solver.proofs.Dives.{fixed_more, left_dives, part_dives, part_narrower, point_wider, set_at}
 use Rattle.lt_solver.proofs.Drawn.{all_drawn, drawn_stays, lt_true, one_in}
 use Rattle.lt_solver.proofs.Fixing.{low_in, one_more_fixed, point_in}
 use Rattle.lt_solver.proofs.Scaled.{box_long, scale_at, scaled_at, scaled_some, scales_long, value_told, value_within}
@@ -267,6 +267,30 @@ pass_part test box i true start place next part d u none before ks p on =
     (λ h. let no = none ks (point_set box ks i part p.0 (omega (arith, ints, is.1, h), omega (arith, ints, is.0, under))) in let yes = p.1 in absurd (cc))
     (λ h. lt_false next (place_of ks i) h)
 
+-- Where a look at a part of a variable's places leaves some, none that passes comes before the first of these.
+pub left_part : (test : List ℤ → Bool) (box : List Interval) (i : ℕ) (down : Bool) (start place : ℤ) (part left : Interval)
+    → (down ≡ true → part.high ≡ place) → (down ≡ false → part.low ≡ place) → left.high ≤ℤ part.high → part.low ≤ℤ left.low
+    → ((ks : List ℤ) → Passes test (set box i part) ks → IsWithin left (place_of ks i))
+    → ((ks : List ℤ) → Passes test box ks → comes_before down (place_of ks i) start ≡ false → comes_before down (place_of ks i) place ≡ false)
+    → left.low ≤ℤ left.high → (ks : List ℤ) → Passes test box ks → comes_before down (place_of ks i) start ≡ false → comes_before down (place_of ks i) (if down then left.high else left.low) ≡ false
+left_part test box i false start place part left d u under over kept before some ks p on =
+    let is = u refl in
+    let from = up_from (place_of ks i) place (before ks p on) in
+    by_lt_z (place_of ks i) left.low
+    (λ h. let w = kept ks (point_set box ks i part p.0 (omega (arith, ints, is, from), omega (arith, ints, h, under, some)), p.1) in absurd (omega (arith, ints, h, w.0)))
+    (λ h. lt_false (place_of ks i) left.low h)
+left_part test box i true start place part left d u under over kept before some ks p on =
+    let is = d refl in
+    let to = up_from place (place_of ks i) (before ks p on) in
+    by_lt_z left.high (place_of ks i)
+    (λ h. let w = kept ks (point_set box ks i part p.0 (omega (arith, ints, h, over, some), omega (arith, ints, is, to)), p.1) in absurd (omega (arith, ints, h, w.1)))
+    (λ h. lt_false left.high (place_of ks i) h)
+
+-- the end of an interval in a direction
+pub end_within : (down : Bool) (r : Interval) → r.low ≤ℤ r.high → IsWithin r (if down then r.high else r.low)
+end_within false r some = (omega (arith, ints), some)
+end_within true r some = (some, omega (arith, ints))
+
 -- A variable is drawn where its first places are found.
 pub is_drawn : (test : List ℤ → Bool) (box : List Interval) (i word : ℕ) (down : Bool) (left : Interval) (known low high aim stop place : ℤ) (lows highs takens : List ℤ)
     → ((ks : List ℤ) → Passes test box ks → IsWithin left (place_of ks i))
@@ -319,6 +343,21 @@ pub only_place : (box : List Interval) (ks : List ℤ) (i : ℕ) (k : ℤ) → i
 only_place box ks i k here p =
     let w = subst (λ (r : Interval). IsWithin r (place_of ks i)) (set_at box i (place_only k) here) (point_within (set box i (place_only k)) ks i (omega (arith, here, length-set box i (place_only k))) p) in
     omega (arith, ints, w.0, w.1)
+
+-- places of a box, one of which is another one
+pub changed_in : (box : List Interval) (ks : List ℤ) (i : ℕ) (k : ℤ) → IsInBox box ks → IsWithin (range_at box i) k → IsInBox box (set ks i k)
+changed_in [] [] i k p w = p
+changed_in [] (v ∷ vs) i k p w = absurd p
+changed_in (r ∷ rs) [] i k p w = absurd p
+changed_in (r ∷ rs) (v ∷ vs) zero k p w = (w, p.1)
+changed_in (r ∷ rs) (v ∷ vs) (suc i) k p w = (p.0, changed_in rs vs i k p.1 w)
+
+pub changed_part : (box : List Interval) (ks : List ℤ) (i : ℕ) (r : Interval) (k : ℤ) → IsInBox box ks → IsWithin r k → IsInBox (set box i r) (set ks i k)
+changed_part [] [] i r k p w = p
+changed_part [] (v ∷ vs) i r k p w = absurd p
+changed_part (s ∷ rs) [] i r k p w = absurd p
+changed_part (s ∷ rs) (v ∷ vs) zero r k p w = (w, p.1)
+changed_part (s ∷ rs) (v ∷ vs) (suc i) r k p w = (p.0, changed_part rs vs i r k p.1 w)
 
 -- places of a box are small
 module _ (scales : List Scale) (box : List Interval) (i : ℕ) (scaled : AreScaled scales box) (here : i < length box) (k : ℤ) where
@@ -415,3 +454,33 @@ module _ (decimals : ℕ) (circuit : Circuit) (root : ℕ) (scales : List Scale)
   place_dives k w new long domains covers =
       let d = part_dives decimals circuit root scales starts i point ranges dives within (place_only k) (w.0, omega (arith, ints), w.1) new long domains covers in
       record { scaled = d.scaled; count = d.count; long = d.long; domains = d.domains; covers = d.covers; fixed = fixed_more i point k dives.fixed }
+
+-- A variable of a dive is taken at a place.
+module _ (decimals : ℕ) (circuit : Circuit) (root : ℕ) (scales : List Scale) (starts : List ℤ) (i : ℕ) (point ranges : List Interval)
+    (dives : IsDiving decimals circuit root scales starts i point ranges) (within : i < length starts) (k : ℤ) (there : IsWithin (range_at point i) k) where
+  abbrev pub taken_box : List Interval
+  taken_box = set point i (place_only k)
+
+  pub place_narrower : IsNarrower point taken_box
+  place_narrower = part_narrower scales i point dives.scaled (omega (arith, within, dives.count)) (place_only k) (there.0, omega (arith, ints), there.1)
+
+  -- the wide box stays
+  pub same_dives : IsDiving decimals circuit root scales starts (suc i) taken_box ranges
+  same_dives =
+      place_dives decimals circuit root scales starts i point ranges dives within k there ranges refl dives.domains
+      (λ ks p h. dives.covers ks (point_wider point taken_box ks place_narrower p) h)
+
+  -- a point of the box with that place
+  pub is_taken : (down : Bool) (start stop : ℤ) → IsFirstLeft (test_of decimals circuit root scales) point i down start stop k → (ks : List ℤ) → Passes (test_of decimals circuit root scales) taken_box ks
+      → (new : List Interval) → new ≡ taken_box → IsTaken (test_of decimals circuit root scales) point new i down start stop
+  is_taken down start stop first ks p new is = record {
+    place = k;
+    first = first;
+    taken = (ks, (point_wider point taken_box ks place_narrower p.0, p.1), only_place point ks i k (omega (arith, within, dives.count)) p.0);
+    new_box = is;
+  }
+
+-- a place is the first one that is left where none is passed by
+pub first_itself : (test : List ℤ → Bool) (box : List Interval) (i : ℕ) (down : Bool) (start stop : ℤ) → comes_before down stop start ≡ false → IsFirstLeft test box i down start stop start
+first_itself test box i false start stop order = (lt_false start start (omega (arith, ints)), order, λ ks p on. on)
+first_itself test box i true start stop order = (lt_false start start (omega (arith, ints)), order, λ ks p on. on)

@@ -10,6 +10,7 @@ ghost use Rattle.lt_solver.specs.inner.Known.{IsKnown, Knows};
 ghost use Rattle.lt_solver.specs.inner.Roomy.{IsRoomy};
 
 use crate::classifying::BoxRoom;
+use crate::corners::CornerMisses;
 use lt_formula::{Memory, Scale};
 use lt_num::Interval;
 use lt_propagation::find_ties;
@@ -52,6 +53,9 @@ pub(crate) struct SearchScratch {
     /// How many first points weren't found to pass, one after the other.
     pub(crate) misses: u32,
 
+    /// The same of corners.
+    pub(crate) corner_misses: CornerMisses,
+
     /// Room to measure needs in, with the hard variables of the last one.
     pub(crate) need: lt_need::NeedScratch,
 }
@@ -81,6 +85,7 @@ impl SearchScratch {
             latest: vec![in alloc; 0; LATEST]?,
             same: Vec::with_capacity(alloc, gates)?,
             misses: 0,
+            corner_misses: CornerMisses { low: 0, high: 0 },
             need: lt_need::NeedScratch::make(alloc, gates)?,
         })
     }
@@ -107,6 +112,7 @@ impl SearchScratch {
         requires latest { 0 < length self.old.latest.items }
         ensures ties { AreTies (space_circuit space.now) self.new.same.items }
         ensures due { self.new.boxes.recall.is_due ≡ true → IsCopied self.new.boxes.recall space.now }
+        ensures copied { self.new.boxes.recall.is_copied ≡ true → IsCopied self.new.boxes.recall space.now }
         ensures knows { Knows self.old → Knows self.new }
         ensures roomy { (variables gates : ℕ) → IsRoomy variables gates self.old →
             IsRoomy variables gates self.new }
@@ -117,6 +123,7 @@ impl SearchScratch {
         ensures current { self.new.current ≡ self.old.current }
     {
         self.boxes.recall.is_due = is_known;
+        self.boxes.recall.is_copied = is_known;
         if is_known {
             self.boxes.refuter.propagator.prepare_again();
             return;
@@ -142,6 +149,7 @@ impl SearchScratch {
         ensures current { self.new.current ≡ self.old.current }
         ensures same { self.new.same ≡ self.old.same }
         ensures due { self.new.boxes.recall.is_due ≡ self.old.boxes.recall.is_due }
+        ensures flag { self.new.boxes.recall.is_copied ≡ self.old.boxes.recall.is_copied }
     {
         self.is_kept = false;
         if self.boxes.recall.keep(space) && self.scope.capacity() >= scope.len() {

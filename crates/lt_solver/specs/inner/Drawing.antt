@@ -29,6 +29,14 @@ IsFirstLeft passes box i down start stop place =
     (comes_before down place start ≡ false) × (comes_before down stop place ≡ false)
     × ((places : List ℤ) → Passes passes box places → comes_before down (place_of places i) start ≡ false → comes_before down (place_of places i) place ≡ false)
 
+-- A variable of a box is fixed, in a direction, at the first place from one on that some point has that passes. The new box has all
+-- that have this one.
+pub record IsTaken (passes : List ℤ → Bool) (old new : List Interval) (i : ℕ) (down : Bool) (start stop : ℤ) : Type 0 where
+  pub place : ℤ
+  pub first : IsFirstLeft passes old i down start stop place
+  pub taken : (places : List ℤ) × Passes passes old places × (place_of places i ≡ place)
+  pub new_box : new ≡ slice_set old i (place_only place)
+
 -- A variable of a box is drawn, by a word and a direction: some that pass have its least place, some its greatest one, and some the
 -- one that is taken. The new box has all that have this one.
 pub record IsDrawn (passes : List ℤ → Bool) (old new : List Interval) (i word : ℕ) (down : Bool) : Type 0 where

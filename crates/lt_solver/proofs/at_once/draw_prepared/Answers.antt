@@ -1,26 +1,21 @@
-use Rattle.std.proofs.Common.{◌≡◌, ◌++◌, Bool, true, negsuc, pos, replicate, take, drop, ℕ, ℤ, List, Some, length, ap, sym, subst, ◌∙◌, arith}
+use Rattle.std.proofs.Common.{◌≡◌, ◌≤◌, ◌*◌, ◌++◌, Bool, negsuc, pos, replicate, ℕ, ℤ, List, length, ap, sym, subst, ◌∙◌, arith}
+use Rattle.std.specs.Prelude.{vec_capacity}
 use Rattle.lt_bounds.proofs.Public.{narrower_length}
 use Rattle.lt_bounds.specs.Places.{AreScaled, values_in_box}
-use Rattle.lt_formula.specs.Box.{IsInBox}
-use Rattle.lt_formula.specs.Translation.{values_at}
 use Rattle.lt_formula.specs.declared.scale.Scale.{Scale}
 use Rattle.lt_num.specs.declared.interval.Interval.{Interval}
 use Rattle.lt_space.specs.CircuitView.{circuit_formulas, circuit_len}
 use Rattle.lt_space.specs.Formula.{holds}
 use Rattle.lt_space.specs.SpaceView.{space_circuit, space_decimals, space_formula, space_root}
 use Rattle.lt_propagation.proofs.Gates.{formulas_length}
-use Rattle.lt_propagation.specs.Domains.{AreDomains}
 use Rattle.lt_propagation.specs.Ties.{AreTies}
 use Rattle.lt_propagation.specs.declared.linked.Linked.{Linked}
-use Rattle.lt_solver.specs.inner.Classified.{passes}
-use Rattle.lt_solver.specs.inner.Dive.{Covers}
-use Rattle.lt_solver.specs.inner.Drawing.{Passes, TellsRanges}
 use Rattle.lt_solver.specs.inner.Known.{AreTiesOf}
-use Rattle.lt_solver.specs.inner.Points.{first_point}
 use Rattle.lt_solver.specs.inner.Propagated.{IsPropagated}
-use Rattle.lt_solver.proofs.Begins.{narrower_told, same_first}
+use Rattle.lt_solver.proofs.Begins.{narrower_told}
 use Rattle.lt_solver.proofs.Dives.{point_wider}
 use Rattle.lt_solver.proofs.Drawn.{none_inside}
+use Rattle.lt_solver.proofs.Recalls.{still_copied}
 use Rattle.lt_solver.proofs.Scaled.{scaled_narrower}
 use Rattle.lt_solver.proofs.Written.{refilled}
 use Rattle.lt_solver.proofs.at_once.draw_prepared.Goals as goal
@@ -95,8 +90,8 @@ pub returns-then-not-propagate_box-clause-knows : goal.returns-then-not-propagat
 returns-then-not-propagate_box-clause-knows c knows kept =
     subst (λ (copy : Linked). AreTiesOf copy c.args.room.now.same.items) (sym c.propagate_box.ensures.same) (knows kept)
 
-pub copy_box-requires : goal.copy_box-requires
-copy_box-requires c =
+pub draw_propagated-requires-clause-dives : goal.draw_propagated-requires-clause-dives
+draw_propagated-requires-clause-dives c =
     let room = c.args.room.now in
     let space = c.args.space.now in
     let old = room.current.items in
@@ -106,13 +101,20 @@ copy_box-requires c =
     subst (λ (ss : List Scale). IsPropagated (space_decimals space) (circuit_formulas (space_circuit space)) (space_root space) ss old c.propagate_box.result new wide) c.deref-4.ensures.value
     (subst (λ (b : List Interval). IsPropagated (space_decimals space) (circuit_formulas (space_circuit space)) (space_root space) c.deref-4.result.now b c.propagate_box.result new wide) c.deref_mut.ensures.value c.propagate_box.ensures.propagated) in
     let shorter = narrower_length old new P.narrower in
-    let scaled = scaled_narrower room.scales.items old new c.requires.scaled P.narrower in
+    let box = refilled room.current.len old new room.current.ok.0 shorter in
     let begun = c.widen.new.widened in
-    let wide_is : c.deref-5.result.now ≡ wide = c.deref-5.ensures.value ∙ refilled begun.len begun.items wide begun.ok.0 (c.propagate_box.auto.widened ∙ ap length c.deref_mut-2.ensures.value) in
-    omega (arith, ap length wide_is, P.long, formulas_length (space_circuit space), shorter, c.requires.roomy.wide.copy)
+    let around = refilled begun.len begun.items wide begun.ok.0 (c.propagate_box.auto.widened ∙ ap length c.deref_mut-2.ensures.value) in
+    rw (box, around) (record {
+      scaled = scaled_narrower room.scales.items old new c.requires.scaled P.narrower;
+      count = c.requires.starts ∙ sym shorter;
+      long = omega (arith, P.long, formulas_length (space_circuit space));
+      domains = P.domains;
+      covers = P.covers c.if-not-propagate_box.false;
+      fixed = tt;
+    })
 
-pub copy_box-requires-2 : goal.copy_box-requires-2
-copy_box-requires-2 c =
+pub draw_propagated-requires-clause-words : goal.draw_propagated-requires-clause-words
+draw_propagated-requires-clause-words c =
     let room = c.args.room.now in
     let space = c.args.space.now in
     let old = room.current.items in
@@ -122,12 +124,11 @@ copy_box-requires-2 c =
     subst (λ (ss : List Scale). IsPropagated (space_decimals space) (circuit_formulas (space_circuit space)) (space_root space) ss old c.propagate_box.result new wide) c.deref-4.ensures.value
     (subst (λ (b : List Interval). IsPropagated (space_decimals space) (circuit_formulas (space_circuit space)) (space_root space) c.deref-4.result.now b c.propagate_box.result new wide) c.deref_mut.ensures.value c.propagate_box.ensures.propagated) in
     let shorter = narrower_length old new P.narrower in
-    let scaled = scaled_narrower room.scales.items old new c.requires.scaled P.narrower in
-    let box6 : c.deref-6.result.now ≡ new = c.deref-6.ensures.value ∙ refilled room.current.len old new room.current.ok.0 shorter in
-    omega (arith, ap length box6, shorter, c.requires.roomy.wide.point)
+    let box = refilled room.current.len old new room.current.ok.0 shorter in
+    c.requires.words ∙ sym shorter ∙ sym (ap length box)
 
-pub is_found-requires : goal.is_found-requires
-is_found-requires c =
+pub draw_propagated-requires-clause-witness : goal.draw_propagated-requires-clause-witness
+draw_propagated-requires-clause-witness c =
     let room = c.args.room.now in
     let space = c.args.space.now in
     let old = room.current.items in
@@ -137,136 +138,56 @@ is_found-requires c =
     subst (λ (ss : List Scale). IsPropagated (space_decimals space) (circuit_formulas (space_circuit space)) (space_root space) ss old c.propagate_box.result new wide) c.deref-4.ensures.value
     (subst (λ (b : List Interval). IsPropagated (space_decimals space) (circuit_formulas (space_circuit space)) (space_root space) c.deref-4.result.now b c.propagate_box.result new wide) c.deref_mut.ensures.value c.propagate_box.ensures.propagated) in
     let shorter = narrower_length old new P.narrower in
-    let scaled = scaled_narrower room.scales.items old new c.requires.scaled P.narrower in
-    let begun = c.widen.new.widened in
-    let wide_is : c.deref-5.result.now ≡ wide = c.deref-5.ensures.value ∙ refilled begun.len begun.items wide begun.ok.0 (c.propagate_box.auto.widened ∙ ap length c.deref_mut-2.ensures.value) in
-    let box6 : c.deref-6.result.now ≡ new = c.deref-6.ensures.value ∙ refilled room.current.len old new room.current.ok.0 shorter in
-    let point_is : c.deref_mut-3.result.now ≡ new = c.deref_mut-3.ensures.value ∙ c.copy_box-2.ensures.items ∙ box6 in
-    let copied : c.copy_box.new.copy.items ≡ wide = c.copy_box.ensures.items ∙ wide_is in
-    let along = ap length point_is in
-    record {
-      ties = subst (λ (xs : List ℕ). AreTies (space_circuit space) xs) (sym c.deref-7.ensures.value) c.requires.ties;
-      scaled = subst (λ (ss : List Scale). AreScaled ss c.deref_mut-3.result.now) (sym c.deref-8.ensures.value) (subst (AreScaled room.scales.items) (sym point_is) scaled);
-      starts = ap length c.deref-9.ensures.value ∙ c.requires.starts ∙ sym shorter ∙ sym along;
-      witness = c.requires.witness ∙ sym shorter ∙ sym along;
-      long = omega (arith, ap length copied, P.long, formulas_length (space_circuit space), along);
-      domains = subst AreDomains (sym copied) P.domains;
-      covers = subst (λ (ss : List Scale). Covers (space_decimals space) (space_circuit space) (space_root space) ss c.deref_mut-3.result.now c.copy_box.new.copy.items) (sym c.deref-8.ensures.value)
-          (subst (λ (b : List Interval). Covers (space_decimals space) (space_circuit space) (space_root space) room.scales.items b c.copy_box.new.copy.items) (sym point_is)
-          (subst (λ (w : List Interval). Covers (space_decimals space) (space_circuit space) (space_root space) room.scales.items new w) (sym copied) (P.covers c.if-not-propagate_box.false)));
-      kleenes = c.requires.roomy.wide.kleenes;
-    }
+    let box = refilled room.current.len old new room.current.ok.0 shorter in
+    c.requires.witness ∙ sym shorter ∙ sym (ap length box)
 
-pub returns-then-not-is_found-clause-roomy : goal.returns-then-not-is_found-clause-roomy
-returns-then-not-is_found-clause-roomy c gates before =
+pub draw_propagated-requires-clause-values : goal.draw_propagated-requires-clause-values
+draw_propagated-requires-clause-values c =
+    let room = c.args.room.now in
+    let space = c.args.space.now in
+    let old = room.current.items in
+    let new = c.propagate_box.new.current in
+    let wide = c.propagate_box.new.widened in
+    let P : IsPropagated (space_decimals space) (circuit_formulas (space_circuit space)) (space_root space) room.scales.items old c.propagate_box.result new wide =
+    subst (λ (ss : List Scale). IsPropagated (space_decimals space) (circuit_formulas (space_circuit space)) (space_root space) ss old c.propagate_box.result new wide) c.deref-4.ensures.value
+    (subst (λ (b : List Interval). IsPropagated (space_decimals space) (circuit_formulas (space_circuit space)) (space_root space) c.deref-4.result.now b c.propagate_box.result new wide) c.deref_mut.ensures.value c.propagate_box.ensures.propagated) in
+    let shorter = narrower_length old new P.narrower in
+    let box = refilled room.current.len old new room.current.ok.0 shorter in
+    c.requires.values ∙ sym shorter ∙ sym (ap length box)
+
+pub draw_propagated-requires-clause-copied : goal.draw_propagated-requires-clause-copied
+draw_propagated-requires-clause-copied c is =
+    let after = c.propagate_box.ensures in
+    still_copied c.args.room.now.boxes.recall c.propagate_box.new.recall c.args.space.now after.same after.digits (c.requires.copied (sym after.flag ∙ is))
+
+pub draw_propagated-requires-clause-roomy : goal.draw_propagated-requires-clause-roomy
+draw_propagated-requires-clause-roomy c =
+    let room = c.args.room.now in
+    let space = c.args.space.now in
+    let old = room.current.items in
+    let new = c.propagate_box.new.current in
+    let wide = c.propagate_box.new.widened in
+    let P : IsPropagated (space_decimals space) (circuit_formulas (space_circuit space)) (space_root space) room.scales.items old c.propagate_box.result new wide =
+    subst (λ (ss : List Scale). IsPropagated (space_decimals space) (circuit_formulas (space_circuit space)) (space_root space) ss old c.propagate_box.result new wide) c.deref-4.ensures.value
+    (subst (λ (b : List Interval). IsPropagated (space_decimals space) (circuit_formulas (space_circuit space)) (space_root space) c.deref-4.result.now b c.propagate_box.result new wide) c.deref_mut.ensures.value c.propagate_box.ensures.propagated) in
+    let shorter = narrower_length old new P.narrower in
+    let box = refilled room.current.len old new room.current.ok.0 shorter in
+    let many = ap length box ∙ shorter in
+    let before = c.requires.roomy in
     record {
-      scales = before.scales;
-      starts = before.starts;
-      current = before.current;
-      stack = before.stack;
+      scales = omega (arith, many, before.scales);
+      starts = omega (arith, many, before.starts);
+      current = omega (arith, many, before.current);
+      stack = subst (λ n. n * 42 * n ≤ vec_capacity room.stack) (sym many) before.stack;
       wide = record {
-        widened = omega (arith, before.wide.widened, c.widen.ensures.room);
-        point = omega (arith, before.wide.point, c.copy_box-2.ensures.room);
-        copy = omega (arith, before.wide.copy, c.copy_box.ensures.room, c.is_found.ensures.copy);
-        kleenes = omega (arith, before.wide.kleenes, c.is_found.ensures.kleenes);
+        widened = omega (arith, many, before.wide.widened, c.widen.ensures.room);
+        point = omega (arith, many, before.wide.point);
+        copy = omega (arith, many, before.wide.copy);
+        kleenes = before.wide.kleenes;
       };
       latest = before.latest;
       same = before.same;
       need = before.need;
-    }
-
-pub returns-then-not-is_found-clause-knows : goal.returns-then-not-is_found-clause-knows
-returns-then-not-is_found-clause-knows c knows kept =
-    subst (λ (copy : Linked). AreTiesOf copy c.args.room.now.same.items) (sym c.propagate_box.ensures.same) (knows kept)
-
-pub draw_all-requires : goal.draw_all-requires
-draw_all-requires c =
-    let room = c.args.room.now in
-    let space = c.args.space.now in
-    let old = room.current.items in
-    let new = c.propagate_box.new.current in
-    let wide = c.propagate_box.new.widened in
-    let P : IsPropagated (space_decimals space) (circuit_formulas (space_circuit space)) (space_root space) room.scales.items old c.propagate_box.result new wide =
-    subst (λ (ss : List Scale). IsPropagated (space_decimals space) (circuit_formulas (space_circuit space)) (space_root space) ss old c.propagate_box.result new wide) c.deref-4.ensures.value
-    (subst (λ (b : List Interval). IsPropagated (space_decimals space) (circuit_formulas (space_circuit space)) (space_root space) c.deref-4.result.now b c.propagate_box.result new wide) c.deref_mut.ensures.value c.propagate_box.ensures.propagated) in
-    let shorter = narrower_length old new P.narrower in
-    let scaled = scaled_narrower room.scales.items old new c.requires.scaled P.narrower in
-    let box_is : c.deref_mut-4.result.now ≡ new = c.deref_mut-4.ensures.value ∙ refilled room.current.len old new room.current.ok.0 shorter in
-    let begun = c.widen.new.widened in
-    let around : c.deref_mut-5.result.now ≡ wide = c.deref_mut-5.ensures.value ∙ refilled begun.len begun.items wide begun.ok.0 (c.propagate_box.auto.widened ∙ ap length c.deref_mut-2.ensures.value) in
-    let box6 : c.deref-6.result.now ≡ new = c.deref-6.ensures.value ∙ refilled room.current.len old new room.current.ok.0 shorter in
-    let point_is : c.deref_mut-3.result.now ≡ new = c.deref_mut-3.ensures.value ∙ c.copy_box-2.ensures.items ∙ box6 in
-    let along = ap length box_is in
-    let starts = ap length c.deref-12.ensures.value ∙ c.requires.starts in
-    let found = c.is_found.ensures.found c.if-not-is_found.false in
-    record {
-      ties = subst (λ (xs : List ℕ). AreTies (space_circuit space) xs) (sym c.deref-10.ensures.value) c.requires.ties;
-      words = c.requires.words ∙ sym starts;
-      dives = record {
-        scaled = subst (λ (ss : List Scale). AreScaled ss c.deref_mut-4.result.now) (sym c.deref-11.ensures.value) (subst (AreScaled room.scales.items) (sym box_is) scaled);
-        count = starts ∙ sym shorter ∙ sym along;
-        long = omega (arith, ap length around, P.long, formulas_length (space_circuit space), along);
-        domains = subst AreDomains (sym around) P.domains;
-        covers = subst (λ (ss : List Scale). Covers (space_decimals space) (space_circuit space) (space_root space) ss c.deref_mut-4.result.now c.deref_mut-5.result.now) (sym c.deref-11.ensures.value)
-            (subst (λ (b : List Interval). Covers (space_decimals space) (space_circuit space) (space_root space) room.scales.items b c.deref_mut-5.result.now) (sym box_is)
-            (subst (λ (w : List Interval). Covers (space_decimals space) (space_circuit space) (space_root space) room.scales.items new w) (sym around) (P.covers c.if-not-propagate_box.false)));
-        fixed = tt;
-      };
-      witness = subst (λ (b : List Interval). Passes (passes space c.deref-11.result.now) b c.is_found.new.witness) (point_is ∙ sym box_is)
-          (subst (λ (ss : List Scale). Passes (passes space ss) c.deref_mut-3.result.now c.is_found.new.witness) (c.deref-8.ensures.value ∙ sym c.deref-11.ensures.value) found);
-      found = c.requires.values ∙ sym shorter ∙ sym along;
-      point = omega (arith, along, shorter, c.requires.roomy.wide.point, c.copy_box-2.ensures.room);
-      copy = omega (arith, ap length around, P.long, formulas_length (space_circuit space), shorter, c.requires.roomy.wide.copy, c.copy_box.ensures.room, c.is_found.ensures.copy);
-      kleenes = omega (arith, c.requires.roomy.wide.kleenes, c.is_found.ensures.kleenes);
-    }
-
-pub returns-then-not-draw_all-clause-roomy : goal.returns-then-not-draw_all-clause-roomy
-returns-then-not-draw_all-clause-roomy c gates before =
-    record {
-      scales = before.scales;
-      starts = before.starts;
-      current = before.current;
-      stack = before.stack;
-      wide = record {
-        widened = omega (arith, before.wide.widened, c.widen.ensures.room);
-        point = omega (arith, before.wide.point, c.copy_box-2.ensures.room, c.draw_all.ensures.point);
-        copy = omega (arith, before.wide.copy, c.copy_box.ensures.room, c.is_found.ensures.copy, c.draw_all.ensures.copy);
-        kleenes = omega (arith, before.wide.kleenes, c.is_found.ensures.kleenes, c.draw_all.ensures.kleenes);
-      };
-      latest = before.latest;
-      same = before.same;
-      need = before.need;
-    }
-
-pub returns-then-not-draw_all-clause-knows : goal.returns-then-not-draw_all-clause-knows
-returns-then-not-draw_all-clause-knows c knows kept =
-    subst (λ (copy : Linked). AreTiesOf copy c.args.room.now.same.items) (sym c.propagate_box.ensures.same) (knows kept)
-
-pub write_first-requires : goal.write_first-requires
-write_first-requires c =
-    let room = c.args.room.now in
-    let space = c.args.space.now in
-    let old = room.current.items in
-    let new = c.propagate_box.new.current in
-    let wide = c.propagate_box.new.widened in
-    let P : IsPropagated (space_decimals space) (circuit_formulas (space_circuit space)) (space_root space) room.scales.items old c.propagate_box.result new wide =
-    subst (λ (ss : List Scale). IsPropagated (space_decimals space) (circuit_formulas (space_circuit space)) (space_root space) ss old c.propagate_box.result new wide) c.deref-4.ensures.value
-    (subst (λ (b : List Interval). IsPropagated (space_decimals space) (circuit_formulas (space_circuit space)) (space_root space) c.deref-4.result.now b c.propagate_box.result new wide) c.deref_mut.ensures.value c.propagate_box.ensures.propagated) in
-    let shorter = narrower_length old new P.narrower in
-    let scaled = scaled_narrower room.scales.items old new c.requires.scaled P.narrower in
-    let box_is : c.deref_mut-4.result.now ≡ new = c.deref_mut-4.ensures.value ∙ refilled room.current.len old new room.current.ok.0 shorter in
-    let begun = c.widen.new.widened in
-    let around : c.deref_mut-5.result.now ≡ wide = c.deref_mut-5.ensures.value ∙ refilled begun.len begun.items wide begun.ok.0 (c.propagate_box.auto.widened ∙ ap length c.deref_mut-2.ensures.value) in
-    let so = c.if-not-draw_all.false in
-    let last = c.draw_all.new.current in
-    let lasting : length last ≡ length old = c.draw_all.auto.current ∙ ap length box_is ∙ shorter in
-    let inner = take room.current.len (new ++ drop (length new) old) in
-    let inner_long : length inner ≡ length old = ap length (refilled room.current.len old new room.current.ok.0 shorter) ∙ shorter in
-    let box14 : c.deref-14.result.now ≡ last = c.deref-14.ensures.value ∙ refilled room.current.len inner last (room.current.ok.0 ∙ sym inner_long) (lasting ∙ sym inner_long) in
-    record {
-      scaled = subst (λ (ss : List Scale). AreScaled ss c.deref-14.result.now) (c.deref-11.ensures.value ∙ sym c.deref-13.ensures.value) (subst (AreScaled c.deref-11.result.now) (sym box14) (c.draw_all.ensures.scaled so));
-      starts = omega (arith, ap length box14, lasting, c.draw_all.auto.witness, c.is_found.auto.witness, c.requires.witness);
-      values = omega (arith, ap length box14, lasting, c.draw_all.auto.found, c.requires.values);
     }
 
 pub returns-clause-found : goal.returns-clause-found
@@ -274,47 +195,35 @@ returns-clause-found c ranges told =
     let room = c.args.room.now in
     let space = c.args.space.now in
     let old = room.current.items in
-    let test : List ℤ → Bool = λ vs. holds (space_decimals space) vs (space_formula space) in
     let new = c.propagate_box.new.current in
     let wide = c.propagate_box.new.widened in
     let P : IsPropagated (space_decimals space) (circuit_formulas (space_circuit space)) (space_root space) room.scales.items old c.propagate_box.result new wide =
     subst (λ (ss : List Scale). IsPropagated (space_decimals space) (circuit_formulas (space_circuit space)) (space_root space) ss old c.propagate_box.result new wide) c.deref-4.ensures.value
     (subst (λ (b : List Interval). IsPropagated (space_decimals space) (circuit_formulas (space_circuit space)) (space_root space) c.deref-4.result.now b c.propagate_box.result new wide) c.deref_mut.ensures.value c.propagate_box.ensures.propagated) in
     let shorter = narrower_length old new P.narrower in
-    let scaled = scaled_narrower room.scales.items old new c.requires.scaled P.narrower in
-    let box_is : c.deref_mut-4.result.now ≡ new = c.deref_mut-4.ensures.value ∙ refilled room.current.len old new room.current.ok.0 shorter in
-    let begun = c.widen.new.widened in
-    let around : c.deref_mut-5.result.now ≡ wide = c.deref_mut-5.ensures.value ∙ refilled begun.len begun.items wide begun.ok.0 (c.propagate_box.auto.widened ∙ ap length c.deref_mut-2.ensures.value) in
-    let so = c.if-not-draw_all.false in
-    let last = c.draw_all.new.current in
-    let lasting : length last ≡ length old = c.draw_all.auto.current ∙ ap length box_is ∙ shorter in
-    let inner = take room.current.len (new ++ drop (length new) old) in
-    let inner_long : length inner ≡ length old = ap length (refilled room.current.len old new room.current.ok.0 shorter) ∙ shorter in
-    let box14 : c.deref-14.result.now ≡ last = c.deref-14.ensures.value ∙ refilled room.current.len inner last (room.current.ok.0 ∙ sym inner_long) (lasting ∙ sym inner_long) in
-    let witness = c.draw_all.new.witness in
+    let box = refilled room.current.len old new room.current.ok.0 shorter in
+    let test : List ℤ → Bool = λ vs. holds (space_decimals space) vs (space_formula space) in
     let narrow = narrower_told test room.scales.items old new ranges shorter (λ ks p. point_wider old new ks P.narrower p) (P.kept c.if-not-propagate_box.false) told in
-    let there = subst (λ (ss : List Scale). TellsRanges test ss c.deref_mut-4.result.now ranges) (sym c.deref-11.ensures.value) (subst (λ (b : List Interval). TellsRanges test room.scales.items b ranges) (sym box_is) narrow) in
-    c.draw_all.ensures.drawn so ranges there
-    ∙ ap Some (sym (c.write_first.ensures ∙ (λ i. values_at (c.deref-13.ensures.value i) (first_point witness (box14 i))) ∙ (λ i. values_at (sym c.deref-11.ensures.value i) (same_first last witness (c.draw_all.ensures.witness so).0 i))))
+    c.draw_propagated.ensures.found ranges (rw box narrow)
 
 pub returns-clause-roomy : goal.returns-clause-roomy
 returns-clause-roomy c gates before =
-    record {
+    c.draw_propagated.ensures.roomy (length c.args.room.now.current.items) gates (record {
       scales = before.scales;
       starts = before.starts;
       current = before.current;
       stack = before.stack;
       wide = record {
         widened = omega (arith, before.wide.widened, c.widen.ensures.room);
-        point = omega (arith, before.wide.point, c.copy_box-2.ensures.room, c.draw_all.ensures.point);
-        copy = omega (arith, before.wide.copy, c.copy_box.ensures.room, c.is_found.ensures.copy, c.draw_all.ensures.copy);
-        kleenes = omega (arith, before.wide.kleenes, c.is_found.ensures.kleenes, c.draw_all.ensures.kleenes);
+        point = before.wide.point;
+        copy = before.wide.copy;
+        kleenes = before.wide.kleenes;
       };
       latest = before.latest;
       same = before.same;
       need = before.need;
-    }
+    })
 
 pub returns-clause-knows : goal.returns-clause-knows
-returns-clause-knows c knows kept =
-    subst (λ (copy : Linked). AreTiesOf copy c.args.room.now.same.items) (sym c.propagate_box.ensures.same) (knows kept)
+returns-clause-knows c knows =
+    c.draw_propagated.ensures.knows (λ kept. subst (λ (copy : Linked). AreTiesOf copy c.args.room.now.same.items) (sym c.propagate_box.ensures.same) (knows kept))

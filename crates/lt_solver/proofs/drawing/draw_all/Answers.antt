@@ -1,9 +1,25 @@
-use Rattle.std.proofs.Common.{◌≡◌, rules, Bool, List, ℤ, add-one, length, get_or, false, sym, subst, arith}
+use Rattle.std.proofs.Common.{◌≡◌, rules, Bool, List, ℤ, add-one, length, get_or, false, sym, subst, ◌∙◌, arith}
 use Rattle.lt_space.specs.Formula.{holds}
-use Rattle.lt_space.specs.SpaceView.{space_decimals, space_formula}
+use Rattle.lt_space.specs.CircuitView.{circuit_formulas}
+use Rattle.lt_space.specs.SpaceView.{space_circuit, space_decimals, space_formula, space_root}
+use Rattle.lt_propagation.specs.Linked.{IsCopyOf}
+use Rattle.lt_propagation.specs.declared.linked.Linked.{Linked}
 use Rattle.lt_solver.specs.inner.Drawing.{AreDrawn}
 use Rattle.lt_solver.proofs.Draws.{drawn_all, one_drawn}
 use Rattle.lt_solver.proofs.drawing.draw_all.Goals as goal
+
+pub draw_one-requires-clause-copied : goal.draw_one-requires-clause-copied
+draw_one-requires-clause-copied c so =
+    let s = c.loop-i.invariant in
+    let space = c.args.space.now in
+    let known = c.requires.copied (sym s.flag ∙ so) in
+    (subst (λ (copy : Linked). IsCopyOf copy (circuit_formulas (space_circuit space)) (space_root space)) (sym s.circuit) known.0, s.decimals ∙ known.1)
+
+pub returns-then-not-draw_one-clause-circuit : goal.returns-then-not-draw_one-clause-circuit
+returns-then-not-draw_one-clause-circuit c = c.draw_one.ensures.circuit ∙ c.loop-i.invariant.circuit
+
+pub returns-clause-circuit : goal.returns-clause-circuit
+returns-clause-circuit c = c.loop-i.invariant.circuit
 
 pub loop-i-preserved : goal.loop-i-preserved
 loop-i-preserved c =
@@ -24,6 +40,9 @@ loop-i-preserved c =
       point = omega (arith, s.point, c.draw_one.ensures.point);
       copy = omega (arith, s.copy, c.draw_one.ensures.copy);
       kleenes = omega (arith, s.kleenes, c.draw_one.ensures.kleenes);
+      circuit = c.draw_one.ensures.circuit ∙ s.circuit;
+      decimals = c.draw_one.ensures.decimals ∙ s.decimals;
+      flag = c.draw_one.ensures.flag ∙ s.flag;
     }
 
 pub returns-clause-drawn : goal.returns-clause-drawn

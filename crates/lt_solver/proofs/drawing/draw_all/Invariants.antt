@@ -19,4 +19,7 @@ invariant-loop-i l = record {
   point : vec_capacity l.fn.point ≤ vec_capacity l.point;
   copy : vec_capacity l.fn.room.current ≤ vec_capacity l.room.current;
   kleenes : vec_capacity l.room.kleenes ≡ vec_capacity l.fn.room.kleenes;
+  circuit : l.recall.circuit ≡ l.fn.recall.circuit;
+  decimals : l.recall.decimals ≡ l.fn.recall.decimals;
+  flag : l.recall.is_copied ≡ l.fn.recall.is_copied;
 }

@@ -2,7 +2,7 @@ use Rattle.std.proofs.Common.{rules, ◌≡◌, ◌∙◌, to_z, of_z, w64, add-
 use Rattle.std.proofs.lemmas.List.{length-set}
 use Rattle.lt_bounds.specs.Ranges.{range_at}
 use Rattle.lt_solver.proofs.Draws.{lows_in, written_low}
-use Rattle.lt_solver.proofs.drawing.write_first_places.Goals as goal
+use Rattle.lt_solver.proofs.witnessing.write_first_places.Goals as goal
 
 pub loop-i-init : goal.loop-i-init
 loop-i-init c = record { long = c.requires.long; written = λ k h. absurd (omega (arith, h)) }

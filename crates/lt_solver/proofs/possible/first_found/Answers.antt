@@ -11,7 +11,7 @@ use Rattle.lt_solver.specs.inner.Drawing.{IsFirstLeft, place_of, place_only}
 use Rattle.lt_solver.proofs.Dives.{part_narrower, point_wider}
 use Rattle.lt_solver.proofs.Draws.{between, only_place, place_stays, place_there}
 use Rattle.lt_solver.proofs.Scaled.{box_long}
-use Rattle.lt_solver.proofs.drawing.first_found.Goals as goal
+use Rattle.lt_solver.proofs.possible.first_found.Goals as goal
 
 -- one between two places of a box is in it, and is one that the code has
 module _ (test : List ℤ → Bool) (scales : List Scale) (box : List Interval) (i : ℕ) (scaled : AreScaled scales box) (here : i < length box) (ks : List ℤ) (p : IsInBox box ks) (down : Bool) (start stop place : ℤ)

@@ -2,7 +2,7 @@ use Rattle.lt_bounds.proofs.Public.{narrower_some}
 use Rattle.lt_solver.proofs.Begins.{known_passes}
 use Rattle.lt_solver.proofs.Dives.{point_wider}
 use Rattle.lt_solver.proofs.Scaled.{scaled_narrower}
-use Rattle.lt_solver.proofs.drawing.is_found.Goals as goal
+use Rattle.lt_solver.proofs.witnessing.is_found.Goals as goal
 
 pub kleene_within-requires-clause-scaled : goal.kleene_within-requires-clause-scaled
 kleene_within-requires-clause-scaled c = scaled_narrower c.args.scales.now c.args.point.now c.dive.new.point c.requires.scaled c.dive.ensures.narrower

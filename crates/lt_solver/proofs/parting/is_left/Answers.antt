@@ -14,7 +14,7 @@ use Rattle.lt_solver.specs.inner.Classified.{passes}
 use Rattle.lt_solver.proofs.Dives.{not_true, part_covers, part_domains, part_scaled}
 use Rattle.lt_solver.proofs.Scaled.{scale_at, scaled_scales, scales_long}
 use Rattle.lt_solver.proofs.Written.{refilled}
-use Rattle.lt_solver.proofs.drawing.is_left.Goals as goal
+use Rattle.lt_solver.proofs.parting.is_left.Goals as goal
 
 pub bounds-scales-i : goal.bounds-scales-i
 bounds-scales-i c = omega (arith, c.requires.within, scales_long c.args.scales.now c.args.current.now c.requires.scaled)
