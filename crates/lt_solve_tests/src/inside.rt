@@ -1,14 +1,18 @@
-//! Solutions that are drawn inside of what is possible.
+//! Solutions that are drawn inside of what is possible, compared with worked rows and with a plain trial of the rule.
 
 ghost use Rattle.std.specs.Prelude.{IsTrue};
 ghost use Rattle.lt_solver.specs.Domains.{are_domains};
 
-use crate::rows::{Told, Topic, check};
+use crate::problems::{Problem, RANGES, STEPS};
+use crate::rows::{Told, Topic, check, check_found};
 use crate::searching::{Question, load, put_answer};
 use crate::sheet::Sheet;
+use crate::solutions::PROBLEMS;
+use crate::trial::inside_by_trial;
 use lt_num::Range;
 use lt_solver::Workspace;
 use std::alloc::Global;
+use std::process::Abort;
 use std::test::Fail;
 
 // The range of a Boolean.
@@ -103,4 +107,45 @@ pub(crate) fn put_inside(
         question.budget,
     );
     put_answer(found, &space, answer, workspace.values())
+}
+
+// What is drawn inside of the problem of a number is what the trial draws. The answer is whether it has a solution.
+fn check_problem(rt: &impl Abort, alloc: Global, number: u64) -> Result<bool, Fail> {
+    let problem = Problem::make(alloc, number)?;
+    let solution = inside_by_trial(alloc, &problem)?;
+    let mut due = format!(in alloc; "problem {number}: ")?;
+    problem.put_due(&mut due, solution)?;
+    check_drawn(rt, alloc, number, &problem, &due)?;
+    Ok(solution.is_some())
+}
+
+// What is drawn inside of a problem is what is due.
+fn check_drawn(
+    rt: &impl Abort,
+    alloc: Global,
+    number: u64,
+    problem: &Problem,
+    due: &str,
+) -> Result<(), Fail> {
+    let mut found = format!(in alloc; "problem {number}: ")?;
+    if problem.has_steps {
+        put_inside(&mut found, alloc, &problem.sheet, &STEPS, problem.inside)?;
+    } else {
+        put_inside(&mut found, alloc, &problem.sheet, &RANGES, problem.inside)?;
+    }
+    check_found(rt, &found, due);
+    Ok(())
+}
+
+#[test]
+fn insides_are_those_of_a_trial(rt: HostRuntime) -> Result<(), Fail> {
+    let mut solved = 0u64;
+    for number in 0..PROBLEMS {
+        if check_problem(&rt, rt.alloc(), number)? {
+            solved = solved.saturating_add(1);
+        }
+    }
+    // Both answers come often.
+    assert!(rt; solved > 100 && solved < PROBLEMS - 20);
+    Ok(())
 }

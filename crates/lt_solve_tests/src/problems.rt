@@ -1,4 +1,4 @@
-//! Small problems, made from a number, and their first solutions by going through all points.
+//! Small problems, made from a number, and their solutions by going through all points.
 
 ghost use Rattle.std.specs.Prelude.{◌<◌, ◌≤◌};
 
@@ -115,6 +115,15 @@ impl Numbers {
         }
         question
     }
+
+    // A word for each variable.
+    fn words(&mut self) -> [i64; 6] {
+        let mut words = [0; 6];
+        for i in 0..6 {
+            words[i] = self.below(1_000) as i64;
+        }
+        words
+    }
 }
 
 /// Constraints over the six variables, and what is searched for.
@@ -122,6 +131,9 @@ impl Numbers {
 pub(crate) struct Problem {
     pub(crate) sheet: Sheet,
     pub(crate) question: Question,
+
+    /// The same where it is drawn inside of what is possible: words stand for the targets.
+    pub(crate) inside: Question,
 
     /// Whether the ranges are those with steps.
     pub(crate) has_steps: bool,
@@ -135,15 +147,20 @@ impl Problem {
         put_truths(&mut sheet, &mut numbers)?;
         let has_steps = numbers.below(2) > 0;
         let question = numbers.question(if has_steps { &STEPS } else { &RANGES });
+        let inside = Question {
+            targets: numbers.words(),
+            ..question
+        };
         Ok(Problem {
             sheet,
             question,
+            inside,
             has_steps,
         })
     }
 
-    // The range of a variable.
-    fn range(&self, variable: usize) -> Range
+    /// The range of a variable.
+    pub(crate) fn range(&self, variable: usize) -> Range
         requires { variable < 6 }
     {
         if self.has_steps {
@@ -153,20 +170,31 @@ impl Problem {
         }
     }
 
-    /// Puts what is to be found, by going through all points, and answers whether there is a solution.
-    pub(crate) fn put_due(&self, due: &mut String) -> Result<bool, Fail> {
+    /// Puts what is to be found, where this is the solution.
+    pub(crate) fn put_due(&self, due: &mut String, solution: Option<[i64; 6]>) -> Result<(), Fail> {
         let wanted = self.sheet.numbers.as_slice();
         write!(due, "{wanted:?} at 2 decimals, ")?;
-        let first = self.first_by_trial();
-        match first {
+        match solution {
             Some(point) => write!(due, "Solution {point:?}")?,
             None => due.push_str("Unsat")?,
         }
-        Ok(first.is_some())
+        Ok(())
     }
 
-    // The first point at which all constraints are true, by going through the points in their order.
-    fn first_by_trial(&self) -> Option<[i64; 6]> {
+    /// All points at which all constraints are true.
+    pub(crate) fn solutions(&self, alloc: Global) -> Result<Vec<[i64; 6]>, Fail> {
+        let mut solutions = Vec::new(alloc);
+        for number in 0..self.points() {
+            let point = self.point(number);
+            if self.is_true_at(&point) {
+                solutions.push(point)?;
+            }
+        }
+        Ok(solutions)
+    }
+
+    /// The first point at which all constraints are true, by going through the points in their order.
+    pub(crate) fn first_by_trial(&self) -> Option<[i64; 6]> {
         for number in 0..self.points() {
             let point = self.point(number);
             if self.is_true_at(&point) {
@@ -258,8 +286,8 @@ impl Problem {
     }
 }
 
-// How many points a range has.
-fn count_of(range: Range) -> u64
+/// How many points a range has.
+pub(crate) fn count_of(range: Range) -> u64
     ensures { 1 ≤ result }
 {
     steps_between(range.low, range.high, range.step).saturating_add(1)
@@ -270,8 +298,8 @@ fn steps_between(low: i64, high: i64, step: i64) -> u64 {
     high.abs_diff(low) / step.unsigned_abs().max(1)
 }
 
-// The point of a range so many steps over its low end.
-fn point_at(range: Range, steps: u64) -> i64 {
+/// The point of a range so many steps over its low end.
+pub(crate) fn point_at(range: Range, steps: u64) -> i64 {
     let steps = i64::try_from(steps).unwrap_or(0);
     range.low.wrapping_add(range.step.wrapping_mul(steps))
 }

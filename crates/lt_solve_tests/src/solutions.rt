@@ -8,8 +8,8 @@ use std::alloc::Global;
 use std::process::Abort;
 use std::test::Fail;
 
-// How many problems there are.
-const PROBLEMS: u64 = 400;
+/// How many problems there are.
+pub(crate) const PROBLEMS: u64 = 400;
 
 // What is out of scope.
 const ZERO: Range = Range {
@@ -130,10 +130,11 @@ fn searches(rt: HostRuntime) -> Result<(), Fail> {
 // What is found for the problem of a number is what going through all points finds. The answer is whether it has a solution.
 fn check_problem(rt: &impl Abort, alloc: Global, number: u64) -> Result<bool, Fail> {
     let problem = Problem::make(alloc, number)?;
+    let first = problem.first_by_trial();
     let mut due = format!(in alloc; "problem {number}: ")?;
-    let is_solved = problem.put_due(&mut due)?;
+    problem.put_due(&mut due, first)?;
     check_solution(rt, alloc, number, &problem, &due)?;
-    Ok(is_solved)
+    Ok(first.is_some())
 }
 
 // What is found for a problem is what is due.
