@@ -291,31 +291,6 @@ pub end_within : (down : Bool) (r : Interval) → r.low ≤ℤ r.high → IsWith
 end_within false r some = (omega (arith, ints), some)
 end_within true r some = (some, omega (arith, ints))
 
--- A variable is drawn where its first places are found.
-pub is_drawn : (test : List ℤ → Bool) (box : List Interval) (i word : ℕ) (down : Bool) (left : Interval) (known low high aim stop place : ℤ) (lows highs takens : List ℤ)
-    → ((ks : List ℤ) → Passes test box ks → IsWithin left (place_of ks i))
-    → IsFirstLeft test box i false left.low known low → Passes test box lows → place_of lows i ≡ low
-    → IsFirstLeft test box i true left.high low high → Passes test box highs → place_of highs i ≡ high
-    → aim ≡ low +ℤ pos (word % (int_gap low high + 1))
-    → IsFirstLeft test box i down aim stop place → Passes test box takens → place_of takens i ≡ place
-    → (new : List Interval) → new ≡ set box i (place_only place) → IsDrawn test box new i word down
-is_drawn test box i word down left known low high drawn stop place lows highs takens within f pl el g ph eh a h pt et new is = record {
-  low = low;
-  high = high;
-  place = place;
-  lowest = (lows, pl, el);
-  highest = (highs, ph, eh);
-  taken = (takens, pt, et);
-  all = λ ks p.
-      let w = within ks p in (
-        up_from (place_of ks i) low (f.2 ks p (lt_false (place_of ks i) left.low w.0)),
-        up_from high (place_of ks i) (g.2 ks p (lt_false left.high (place_of ks i) w.1)),
-      );
-  on = subst (λ z. comes_before down place z ≡ false) a h.0;
-  none = λ ks p on. h.2 ks p (subst (λ z. comes_before down (place_of ks i) z ≡ false) (sym a) on);
-  new_box = is;
-}
-
 -- low ends that are written
 pub written_low : (places : List Interval) (lows : List ℤ) (i : ℕ) (v : ℤ) → length lows ≡ length places → i < length lows → v ≡ (range_at places i).low → ((k : ℕ) → k < i → place_of lows k ≡ (range_at places k).low)
     → (k : ℕ) → k < suc i → place_of (set lows i v) k ≡ (range_at places k).low

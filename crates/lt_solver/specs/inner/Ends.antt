@@ -1,5 +1,5 @@
 -- Between which places of a variable a box has points that pass.
-use Rattle.std.specs.Prelude.{◌≡◌, ℕ, Bool, List, ℤ, true, ◌≤ℤ◌}
+use Rattle.std.specs.Prelude.{ℕ, Bool, List, ℤ, ◌≤ℤ◌}
 use Rattle.std.specs.Coded.{×_prop, Π_prop, →_prop}
 use Rattle.std.proofs.Props.{props}
 use Rattle.lt_formula.specs.declared.scale.Scale.{Scale}

@@ -1,7 +1,7 @@
 use Rattle.std.proofs.Common.{◌≡◌, Bool, [], ℤ, List, Vec, length, ap, sym, subst, ◌∙◌, arith}
 use Rattle.std.specs.declared.alloc.Global.{Global}
 use Rattle.lt_bounds.specs.Places.{AreScaled}
-use Rattle.lt_formula.specs.Translation.{box_of, scales_of, starts_of}
+use Rattle.lt_formula.specs.Translation.{box_of, scales_of}
 use Rattle.lt_formula.specs.declared.scale.Scale.{Scale}
 use Rattle.lt_num.specs.declared.interval.Interval.{Interval}
 use Rattle.lt_space.specs.CircuitView.{circuit_len}

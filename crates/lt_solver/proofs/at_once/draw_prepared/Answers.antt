@@ -1,4 +1,4 @@
-use Rattle.std.proofs.Common.{◌≡◌, ◌≤◌, ◌*◌, ◌++◌, Bool, negsuc, pos, replicate, ℕ, ℤ, List, length, ap, sym, subst, ◌∙◌, arith}
+use Rattle.std.proofs.Common.{◌≤◌, ◌*◌, ◌++◌, Bool, negsuc, pos, replicate, ℕ, ℤ, List, length, ap, sym, subst, ◌∙◌, arith}
 use Rattle.std.specs.Prelude.{vec_capacity}
 use Rattle.lt_bounds.proofs.Public.{narrower_length}
 use Rattle.lt_bounds.specs.Places.{AreScaled, values_in_box}

@@ -1,4 +1,4 @@
-use Rattle.std.proofs.Common.{◌≡◌, suc, List, ℤ, FitsSigned, ◌+ℤ◌, ◌≤ℤ◌, length, set, get_or, Some, pos, of_z, to_z, w64, rules, refl, add-one, ap, sym, subst, ◌∙◌, arith}
+use Rattle.std.proofs.Common.{◌≡◌, suc, List, ℤ, ◌≤ℤ◌, length, set, get_or, Some, pos, of_z, to_z, w64, rules, refl, add-one, ap, sym, subst, ◌∙◌, arith}
 use Rattle.std.proofs.lemmas.Int.{ints}
 use Rattle.lt_bounds.proofs.Public.{narrower_same}
 use Rattle.lt_bounds.specs.Ranges.{IsNarrower, range_at}

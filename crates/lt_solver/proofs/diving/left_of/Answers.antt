@@ -1,8 +1,6 @@
-use Rattle.std.proofs.Common.{◌≡◌, List, length, set, get_or, pos, map, arith}
+use Rattle.std.proofs.Common.{set, get_or, pos, map, arith}
 use Rattle.std.proofs.lemmas.List.{length-set}
-use Rattle.lt_bounds.proofs.Public.{narrower_same}
 use Rattle.lt_formula.specs.Translation.{values_at}
-use Rattle.lt_num.specs.declared.interval.Interval.{Interval}
 use Rattle.lt_space.specs.CircuitView.{circuit_formulas}
 use Rattle.lt_propagation.specs.Domains.{AreDomains}
 use Rattle.lt_propagation.specs.Wide.{sign_at}

@@ -1,10 +1,9 @@
-use Rattle.std.proofs.Common.{◌≡◌, rules, Bool, List, ℤ, add-one, length, get_or, false, sym, subst, ◌∙◌, arith}
+use Rattle.std.proofs.Common.{rules, Bool, List, ℤ, add-one, sym, subst, ◌∙◌, arith}
 use Rattle.lt_space.specs.Formula.{holds}
 use Rattle.lt_space.specs.CircuitView.{circuit_formulas}
 use Rattle.lt_space.specs.SpaceView.{space_circuit, space_decimals, space_formula, space_root}
 use Rattle.lt_propagation.specs.Linked.{IsCopyOf}
 use Rattle.lt_propagation.specs.declared.linked.Linked.{Linked}
-use Rattle.lt_solver.specs.inner.Drawing.{AreDrawn}
 use Rattle.lt_solver.proofs.Draws.{drawn_all, one_drawn}
 use Rattle.lt_solver.proofs.drawing.draw_all.Goals as goal
 

@@ -1,4 +1,4 @@
-use Rattle.std.proofs.Common.{rules, ◌≡◌, ◌∙◌, ◌≤◌, ◌<◌, ◌+◌, ◌%◌, ◌≤ℤ◌, ◌+ℤ◌, ℕ, ℤ, Bool, true, false, List, length, pos, unsigned_abs, if◌then◌else◌, to_z, of_z, w64, add-one, refl, ap, sym, subst, arith}
+use Rattle.std.proofs.Common.{rules, ◌≡◌, ◌∙◌, ◌≤◌, ◌<◌, ◌+◌, ◌%◌, ◌≤ℤ◌, ◌+ℤ◌, ℕ, ℤ, Bool, false, List, length, pos, unsigned_abs, if◌then◌else◌, to_z, of_z, w64, add-one, refl, sym, subst, arith}
 use Rattle.std.proofs.lemmas.Int.{ints}
 use Rattle.std.specs.Int.{int_gap}
 use Rattle.lt_bounds.specs.Places.{AreScaled}

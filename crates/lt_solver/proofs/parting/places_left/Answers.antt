@@ -1,7 +1,6 @@
-use Rattle.std.proofs.Common.{◌≡◌, ◌≤◌, ◌≤ℤ◌, List, ℤ, true, length, get_or, map, pos, set, subst, sym, ap, unsigned_abs, arith}
+use Rattle.std.proofs.Common.{◌≤ℤ◌, List, length, map, set, subst, sym, ap, arith}
 use Rattle.std.proofs.lemmas.List.{length-set}
 use Rattle.lt_bounds.specs.Ranges.{range_at}
-use Rattle.lt_num.specs.Bounds.{most_raw}
 use Rattle.lt_num.specs.Interval.{IsWithin}
 use Rattle.lt_num.specs.declared.interval.Interval.{Interval}
 use Rattle.lt_space.specs.CircuitView.{circuit_formulas}

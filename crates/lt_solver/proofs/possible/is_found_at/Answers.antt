@@ -1,4 +1,4 @@
-use Rattle.std.proofs.Common.{◌≡◌, ◌≤ℤ◌, ◌∙◌, List, set, to_z, of_z, w64, ap, sym, subst, arith}
+use Rattle.std.proofs.Common.{◌≡◌, ◌≤ℤ◌, ◌∙◌, List, set, to_z, of_z, w64, sym, subst, arith}
 use Rattle.std.proofs.lemmas.Int.{ints}
 use Rattle.lt_bounds.specs.Places.{AreScaled}
 use Rattle.lt_bounds.specs.Ranges.{range_at}

@@ -1,4 +1,4 @@
-use Rattle.std.proofs.Common.{◌≡◌, ◌∙◌, set, sym, subst, to_z, of_z, w64, arith}
+use Rattle.std.proofs.Common.{◌∙◌, set, sym, subst, to_z, of_z, w64, arith}
 use Rattle.std.proofs.lemmas.Int.{ints}
 use Rattle.lt_formula.specs.Box.{IsInBox}
 use Rattle.lt_space.specs.CircuitView.{circuit_formulas}

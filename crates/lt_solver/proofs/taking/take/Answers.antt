@@ -1,10 +1,9 @@
-use Rattle.std.proofs.Common.{rules, ◌≡◌, ◌≢◌, ◌∙◌, ◌<◌, ◌+◌, ◌≤ℤ◌, ℕ, ℤ, Bool, suc, true, false, List, length, set, to_z, of_z, w64, add-one, ap, sym, subst, refl, arith}
+use Rattle.std.proofs.Common.{◌≡◌, ◌∙◌, ◌<◌, ℕ, ℤ, Bool, suc, List, length, set, to_z, of_z, w64, add-one, ap, sym, subst, refl, arith}
 use Rattle.std.proofs.lemmas.Int.{ints}
 use Rattle.std.proofs.lemmas.List.{length-set}
 use Rattle.lt_bounds.specs.Places.{AreScaled}
 use Rattle.lt_bounds.specs.Ranges.{range_at}
 use Rattle.lt_formula.specs.Box.{IsInBox}
-use Rattle.lt_formula.specs.Solution.{comes_before}
 use Rattle.lt_formula.specs.declared.scale.Scale.{Scale}
 use Rattle.lt_num.specs.Interval.{IsWithin}
 use Rattle.lt_num.specs.declared.interval.Interval.{Interval}
