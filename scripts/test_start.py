@@ -242,7 +242,7 @@ def code(text):
 def code_blocks(file):
     """The blocks of a document without commands, each as the lines of a scenario's text."""
     inside, _ = check_docs.blocks(check_docs.read(file))
-    texts = ["\n".join(line for _, line in block) for block in inside]
+    texts = ["\n".join(line for _, line in block) for _, block in inside]
     return [code(it) for it in texts if "$ " not in it]
 
 
