@@ -3,13 +3,20 @@
     python3 scripts/check_docs.py [--program PATH] [--plant PATH] [--quick]
 
 The programs are those that `rt ci` leaves in the checkout, where no option names others. With
---quick this and other tests leave out what takes long where nothing is proved of the program. A
-command stands after `$ ` in a block of a document, or after `-- $ ` in the comment of an example.
-What it writes, standard error among it, stands below, where a line `..` stands for any lines. A
-command in a sentence has to end well, or by an end of its run. The row of a table that has the
-text of a node is run too: it says the outputs and the end, or a refusal with its place. Commands
-that ask for the program itself, as --prove, are left out, and so are those with a word in
-capitals.
+--quick this and other tests leave out what takes long where nothing is proved of the program.
+
+- A command follows `$ ` in a block of a document, or `-- $ ` in the comment of an example. Below it
+  is what it writes, with standard error. A line `..` there may be any lines.
+- A command begins at the top of a checkout, which is `~/lurette`. A `cd` or an `export` also holds
+  for the later commands of its document's blocks.
+- A block whose fence names a language and a file, as ```c heater.c, is written into that file.
+- A command in a sentence has to end well, or by an end of its run.
+- The row of a table that has the text of a node is run too: it says the outputs and the end, or a
+  refusal with its place.
+
+Commands that ask for the program itself, as --prove, are left out, and so are those with a word in
+capitals. Where a tool is missing that a command calls, as a compiler, this command and those after
+it in its block are left out, and the last line says so.
 """
 
 import argparse
@@ -24,14 +31,31 @@ from collections import namedtuple
 
 import calls
 
-DOCUMENTS = ("README.md", "docs/LANGUAGE.md", "docs/COMMAND.md", "docs/TRACE.md")
+DOCUMENTS = (
+    "README.md",
+    "docs/TUTORIAL.md",
+    "docs/LANGUAGE.md",
+    "docs/COMMAND.md",
+    "docs/TRACE.md",
+    "docs/SEEDS.md",
+    "docs/CI.md",
+    "docs/QUESTIONS.md",
+    "docs/FROM-LUTIN.md",
+)
 
 # How long a command is waited for, also on a machine that does much else.
 SECONDS = 600
 
-# A command, with the file and the line where it stands, and the lines that are to come of it; or
-# None in their place, where nothing is printed.
-Shown = namedtuple("Shown", "file line command wanted")
+# A command, with its file and line; the lines that are to come of it, or None where the document
+# prints none; the commands before it that still hold; and the tool that it lacks here, or None.
+Shown = namedtuple("Shown", "file line command wanted before lacks", defaults=["", None])
+
+# The beginning of a block that is a file, and a command that holds for those after it.
+FILE_FENCE = re.compile(r"```\w+ (\S+)")
+LASTING = re.compile(r"(cd|export) ")
+
+# What a machine may lack of what the documents call.
+TOOLS = ("cc", "make", "parallel")
 
 # Where a program stands that runs from a sentence: what names a file or a word by capitals is none.
 INLINE = re.compile(r"`(\./(?:lurette|lt_plant) [^`]*)`")
@@ -72,13 +96,14 @@ def sessions(file, lines):
 
 
 def blocks(text):
-    """The blocks of a document between fences, and its other lines, each with its number."""
+    """The blocks of a document, each with the line of its fence, and the other lines. Each line has
+    its number."""
     inside, outside, block = [], [], None
     for number, line in enumerate(text.splitlines(), 1):
         if line.startswith("```"):
             if block is not None:
-                inside.append(block)
-            block = [] if block is None else None
+                inside.append((fence, block))
+            fence, block = line, [] if block is None else None
         elif block is None:
             outside.append((number, line))
         else:
@@ -110,9 +135,35 @@ def is_run(command):
     return not any(it in command for it in OF_THE_SCRIPT)
 
 
+def missing_tool(command):
+    """The tool that a command calls and this machine lacks, or None."""
+    calls_it = lambda tool: re.search(rf"(?:^|[|;&] *){tool} ", command)
+    return next((it for it in TOOLS if calls_it(it) and shutil.which(it) is None), None)
+
+
+def writing(file, name, block):
+    """The command that writes a block into the file that its fence names."""
+    text = "".join(f"{line}\n" for _, line in block)
+    command = f"mkdir -p $(dirname {name}); printf %s {shlex.quote(text)} >{name}"
+    return Shown(file, block[0][0], command, [])
+
+
+def commands_of_blocks(file, inside):
+    """The commands of a document's blocks, each with those before it that still hold."""
+    found, before = [], ""
+    for fence, block in inside:
+        named, lacks = FILE_FENCE.match(fence), None
+        for shown in [writing(file, named[1], block)] if named else sessions(file, block):
+            lacks = lacks or missing_tool(shown.command)
+            found.append(shown._replace(before=before, lacks=lacks))
+            if LASTING.match(shown.command):
+                before += f"{shown.command}; "
+    return found
+
+
 def commands_of_document(file, text):
     inside, outside = blocks(text)
-    found = [it for block in inside for it in sessions(file, block)]
+    found = commands_of_blocks(file, inside)
     for number, line in outside:
         found += command_of_row(file, number, line)
         for command in INLINE.findall(line):
@@ -150,9 +201,9 @@ def all_commands():
 def furnish(room, program, plant):
     """Puts into a folder what commands at the top of the repository find there. It is a tree as
     `scripts/install` makes one: it has the scripts and the programs, and no source."""
+    os.makedirs(os.path.join(room, "program"))
     for name in ("docs", "examples", "scripts"):
         shutil.copytree(os.path.join(calls.TOP, name), os.path.join(room, name))
-    os.mkdir(os.path.join(room, "program"))
     for name, path in (("lurette", program), ("lt_plant", plant)):
         shutil.copy(os.path.join(calls.TOP, name), os.path.join(room, name))
         kept = os.path.join(room, "program", name)
@@ -165,6 +216,7 @@ def furnish(room, program, plant):
 def outcome(command, room):
     """The status of a command, and the lines that it writes."""
     how = {"stdout": subprocess.PIPE, "stderr": subprocess.STDOUT, "stdin": subprocess.DEVNULL}
+    how["env"] = {**os.environ, "HOME": os.path.dirname(room)}
     try:
         run = subprocess.run(["sh", "-c", command], cwd=room, timeout=SECONDS, check=False, **how)
     except subprocess.TimeoutExpired:
@@ -183,7 +235,7 @@ def fits(found, wanted):
 
 def fault_of(shown, room):
     """What is wrong with a command, in lines; none where it gives what is printed."""
-    status, found = outcome(shown.command, room)
+    status, found = outcome(shown.before + shown.command, room)
     if shown.wanted is None:
         is_well = status in ENDED
         wanted = ["(a status of a run that ended)"]
@@ -199,17 +251,21 @@ def fault_of(shown, room):
 
 
 def check(named):
-    """How many commands were run, and what is wrong with them."""
-    count, faults = 0, []
+    """How many commands were run, what is wrong with them, and the tools that others lack."""
+    count, faults, lacking = 0, [], []
     for commands in all_commands():
-        with tempfile.TemporaryDirectory(prefix="check-docs-") as room:
+        with tempfile.TemporaryDirectory(prefix="check-docs-") as home:
+            room = os.path.join(home, "lurette")
             furnish(room, named.program, named.plant)
             for shown in commands:
                 if named.quick and LONG in shown.command:
                     continue
+                if shown.lacks:
+                    lacking.append(shown.lacks)
+                    continue
                 count += 1
                 faults += fault_of(shown, room)
-    return count, faults
+    return count, faults, lacking
 
 
 def given(words):
@@ -230,11 +286,13 @@ def main(words):
         if not os.access(path, os.X_OK):
             print(f"check_docs: {path} is not there, so no command can be run", file=sys.stderr)
             return 2
-    count, faults = check(named)
+    count, faults, lacking = check(named)
     for line in faults:
         print(line)
     wrong = sum(not it.startswith(" ") for it in faults)
     print(f"check_docs: {count - wrong} of {count} commands give what is printed")
+    for tool in sorted(set(lacking)):
+        print(f"check_docs: {tool} isn't here, so {lacking.count(tool)} commands are left out")
     return 1 if faults else 0
 
 

@@ -54,7 +54,7 @@ def rest_of(lines, beginning):
     """What stands in the next line behind what it has to begin with."""
     line = lines.take()
     if line != beginning and not line.startswith(beginning + " "):
-        raise lines.wrong(f"{beginning} is due here")
+        raise lines.wrong(f"{beginning} is expected here")
     return line[len(beginning) + 1 :]
 
 
@@ -79,7 +79,7 @@ def value_of(lines, variable, word):
 def step_of(lines, variables, number):
     """The values of a step, which takes two lines."""
     if rest_of(lines, "#step") != str(number):
-        raise lines.wrong(f"#step {number} is due here")
+        raise lines.wrong(f"#step {number} is expected here")
     words, values, role = lines.take().split(), [], "#inputs"
     roles = [it.role for it in variables]
     for due in (*variables, None):
@@ -87,7 +87,7 @@ def step_of(lines, variables, number):
         while role != (due.role if due else last_role(roles)):
             role = ROLES[ROLES.index(role) + 1]
             if words[:1] != [MARKS[role]]:
-                raise lines.wrong(f"{MARKS[role]} is due here")
+                raise lines.wrong(f"{MARKS[role]} is expected here")
             words.pop(0)
         if due:
             if not words or words[0] in MARKS.values():
@@ -107,7 +107,7 @@ def trace_of(text):
     lines = Lines(text)
     seed = rest_of(lines, "#seed")
     if not re.fullmatch("[0-9]+", seed):
-        raise lines.wrong("#seed S is due here")
+        raise lines.wrong("#seed S is expected here")
     if lines.peek() in ("#draw 2", "#draw 3"):
         lines.take()
     variables = declared(lines, "#inputs") + declared(lines, "#outputs")
@@ -118,7 +118,7 @@ def trace_of(text):
         steps.append(step_of(lines, variables, len(steps) + 1))
     end = rest_of(lines, "#end")
     if not re.fullmatch(r"\S.* [0-9]+", end):
-        raise lines.wrong("#end WHY K is due here")
+        raise lines.wrong("#end WHY K is expected here")
     if lines.take():
         raise lines.wrong("nothing comes after the end")
     return Trace(seed, variables, steps, end)

@@ -25,33 +25,33 @@ CODES = {
     "lex.BadByte": "This byte begins no word, number, symbol or comment of the language.",
     "lex.OpenComment": "This comment isn't closed: a `*)` is missing.",
     "lex.NumberTooLong": "This number has more than 18 digits.",
-    "parse.Unexpected": "No program goes on with this: something before it is missing or too much.",
-    "parse.TooDeep": "Here more than 200 constructs are open in one another.",
-    "type.Unknown": "Nothing of this name is known here: it is misspelled, or declared further on.",
+    "parse.Unexpected": "No program continues like this: something before it is missing or too much.",
+    "parse.TooDeep": "More than 200 constructs are nested here.",
+    "type.Unknown": "This name isn't known here: it is misspelled, or declared further on.",
     "type.Twice": "This name is declared a second time.",
-    "type.Mismatch": "This has another type than its place wants. `1` is an int, `1.0` is a real.",
-    "type.Arity": "The name takes another number of arguments than are given here.",
-    "type.PreOfExpression": "`pre` takes the name of a variable, and this name is none.",
+    "type.Mismatch": "This has the wrong type here. `1` is an int, `1.0` is a real.",
+    "type.Arity": "The name takes a different number of arguments.",
+    "type.PreOfExpression": "`pre` takes the name of a variable, and this isn't one.",
     "type.EmptyRange": "The low end of this range is over its high end.",
     "type.RangeTooLarge": "This number of a range is past 10^12 units of the last decimal.",
     "type.NoNode": "The text declares no node, so there is nothing to run.",
-    "type.BadStep": "This step is 0 or less, in units of the last decimal: it leads no further.",
+    "type.BadStep": "This step is 0 or less, in units of the last decimal.",
     "expand.UnknownNode": "The text has no node of the name that --node gives.",
     "expand.TooLarge": "With its macros replaced the node is past a limit of size or depth.",
-    "expand.BadStatic": "A bound or a first value is a fixed value, and one that may stand here.",
-    "expand.NonLinear": "Of two values that are multiplied or divided, one has to be known before.",
+    "expand.BadStatic": "This bound or first value isn't fixed, or isn't allowed here.",
+    "expand.NonLinear": "Of two values that are multiplied or divided, one has to be known before the draw.",
     "expand.ControllableCondition": "An `if` between numbers can't depend on what is drawn now.",
     "expand.ControllableWeight": "A weight can't depend on what is drawn in the same instant.",
-    "run.TooManyAtoms": "A constraint joins over 16 conditions by other words than `and`: split it.",
-    "run.NeedsController": "The scenario has inputs: name their giver by --sut or by --replay.",
+    "run.TooManyAtoms": "A part of a constraint joins over 16 conditions by `or` and the like: split it.",
+    "run.NeedsController": "The scenario has inputs: give them values by --sut or --replay.",
 }
 
 # Each kind of a fault of the words.
 USAGES = {
-    "words": "An option is unknown, given twice or without its word, or MODE or FILE is missing.",
+    "words": "An option is unknown, given twice or lacks its argument, or MODE or FILE is missing.",
     "mode": "The first word is none of the modes run, print and stress.",
-    "number": "After stress stands a number from 0 to 999999, in digits alone.",
-    "both": "A run takes its inputs from --sut or from --replay, and not from both.",
+    "number": "After stress comes a number from 0 to 999999, in digits only.",
+    "both": "A run takes its inputs from --sut or from --replay, not from both.",
 }
 
 # Each kind of an arithmetic fault.
@@ -64,8 +64,8 @@ FAULTS = {
 
 # Each kind of a refused reply.
 REPLIES = {
-    "NotAValue": "It answered a word that is no value of the kind that is due.",
-    "OutOfRange": "It answered a number that is outside the range which the scenario declares.",
+    "NotAValue": "It answered a word that isn't a value of the right kind.",
+    "OutOfRange": "It answered a number outside the range that the scenario declares.",
     "TooLong": "It wrote 65,536 bytes without a whole answer.",
 }
 
@@ -80,9 +80,9 @@ DEVICES = {
 # What the first word of any other line says.
 ENDS = {
     "oracle": "The oracle found this step wrong: it is the last one of the trace.",
-    "deadlock": "No values do for this instant. Look at what its constraints and ranges leave.",
-    "raise": "The scenario raised this exception, and no `catch` is for it.",
-    "ended": "It closed its output, or ended, where an answer was due.",
+    "deadlock": "No values are possible for this instant. Look at its constraints and ranges.",
+    "raise": "The scenario raised this exception, and no `catch` catches it.",
+    "ended": "It closed its output, or ended, when the run needed an answer.",
     "budget": "The search for these values was given up: whether there are any isn't known.",
     "memory": "Memory ran out.",
     "toolarge": "This instant offers more than 65,536 alternatives.",

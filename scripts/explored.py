@@ -1,4 +1,4 @@
-"""How much of what is possible each rule of drawing comes to: the table of docs/LANGUAGE.md.
+"""How much of what is possible each rule of drawing comes to: the table of docs/TUTORIAL.md.
 
     python3 scripts/explored.py [--program PATH]
 

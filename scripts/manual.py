@@ -114,7 +114,7 @@ def man():
         f".SH WORDS BEFORE THE MODE\n{listed(of_the_script())}"
         f".SH EXIT STATUS\n{listed([*statuses(), ('125', 'there is no program to run')])}"
         f".SH EXAMPLES\n.nf\n{set_in(examples)}\n.fi\n"
-        ".SH SEE ALSO\nThe folder docs beside the program: COMMAND.md, LANGUAGE.md and TRACE.md.\n"
+        ".SH SEE ALSO\nIn the folder docs: TUTORIAL.md, COMMAND.md, LANGUAGE.md and TRACE.md.\n"
     )
 
 

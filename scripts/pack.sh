@@ -29,6 +29,7 @@ pack() {
     for file in $FOR_USERS; do
         cp -p "$top/scripts/$file" "$tree/scripts/"
     done
-    cp -Rp "$top/docs" "$top/examples" "$top/README.md" "$top/CHANGELOG.md" "$top/VERSION" "$tree/"
+    cp -Rp "$top/docs" "$top/examples" "$top/editors" "$tree/"
+    cp -p "$top/README.md" "$top/CHANGELOG.md" "$top/VERSION" "$tree/"
     "$top/lurette" --version >"$tree/program/version"
 }

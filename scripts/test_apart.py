@@ -163,7 +163,7 @@ class Documents(unittest.TestCase):
 
     def test_the_room_by_each_rule(self):
         """Its temperature in each twentieth step, in a line for each rule."""
-        shown = read("docs/LANGUAGE.md").rpartition("| xargs; done\n")[2].splitlines()
+        shown = read("docs/TUTORIAL.md").rpartition("| xargs; done\n")[2].splitlines()
         for rule in (1, 2, 3):
             found = first_values(apart.room(), 200, 0, rule, apart.thermostat())
             self.assertEqual(" ".join(found[19::20]), shown[rule - 1])
@@ -189,7 +189,7 @@ class Documents(unittest.TestCase):
 
     def test_the_table_of_patterns(self):
         row = re.compile(r"^\| `(\w+)` \| .* \| `(.*)` \| (.*) \.\. \|$", re.M)
-        rows = row.findall(read("docs/LANGUAGE.md"))
+        rows = row.findall(read("docs/TUTORIAL.md"))
         self.assertEqual([name for name, *_ in rows], list(apart.PATTERNS))
         texts = " ".join(read("examples/patterns.lut").split())
         for name, text, values in rows:

@@ -47,17 +47,17 @@ class Reading(unittest.TestCase):
         return str(found.exception)
 
     def test_other_texts_are_refused_with_a_line(self):
-        self.assertEqual(self.refused("#seed 7\n", ""), "line 1: #seed is due here")
-        wanted = "line 2: #inputs is due here"
+        self.assertEqual(self.refused("#seed 7\n", ""), "line 1: #seed is expected here")
+        wanted = "line 2: #inputs is expected here"
         self.assertEqual(self.refused("#seed 7\n", "#seed 7\n#draw 4\n"), wanted)
         self.assertEqual(self.refused('"door":bool', "door"), 'line 2: door is not "NAME":KIND')
-        self.assertEqual(self.refused("#step 2", "#step 3"), "line 7: #step 2 is due here")
+        self.assertEqual(self.refused("#step 2", "#step 3"), "line 7: #step 2 is expected here")
         self.assertEqual(self.refused("18.00 t", "18.00 1"), "line 6: 1 is no value of door")
         self.assertEqual(self.refused("18.00 t", "18.00"), "line 6: a value of door is missing")
-        self.assertEqual(self.refused("#outs t", "t"), "line 8: #outs is due here")
+        self.assertEqual(self.refused("#outs t", "t"), "line 8: #outs is expected here")
         self.assertEqual(self.refused("#locs -3", "#locs -3 4"), "line 8: 4 is too much")
         self.assertEqual(self.refused("#outs f", "#outs ?"), "line 6: ? is no value of heat")
-        self.assertEqual(self.refused("#end oracle 2\n", ""), "line 9: #end is due here")
+        self.assertEqual(self.refused("#end oracle 2\n", ""), "line 9: #end is expected here")
         self.assertIn("line 10", self.refused("oracle 2\n", "oracle 2\nmore\n"))
 
     def test_an_empty_text_is_refused(self):

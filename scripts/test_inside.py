@@ -133,7 +133,7 @@ class Inside(unittest.TestCase):
 
     def test_the_table_of_what_is_explored(self):
         table = explored.table(GIVEN.program)
-        page = check_docs.read("docs/LANGUAGE.md").splitlines()
+        page = check_docs.read("docs/TUTORIAL.md").splitlines()
         self.assertIn(table[0], page)
         at = page.index(table[0])
         self.assertEqual(page[at : at + len(table) + 1], [*table, ""])

@@ -17,7 +17,7 @@ class Packed(Repository):
 
     def setUp(self):
         super().setUp()
-        for name in ("docs", "examples"):
+        for name in ("docs", "examples", "editors"):
             shutil.copytree(os.path.join(TOP, name), os.path.join(self.top, name))
         for name in ("README.md", "CHANGELOG.md"):
             shutil.copy(os.path.join(TOP, name), self.top)

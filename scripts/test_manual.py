@@ -23,7 +23,7 @@ SCENARIO = b"node n() returns (x: real [0.0; 9.0]; y: int [0; 9]) = loop x > 0.0
 
 def said_of(option):
     """The default and the ends of an option's numbers, as COMMAND's row has them; or None."""
-    default = re.search(r"\b(\w+) where the option isn't given|the (first) one of", option.meaning)
+    default = re.search(r"\b(\w+) by default|the (first) one of", option.meaning)
     ends = re.search(r"\bfrom (\d+) to (\d+)|, (\d) or (\d);", option.meaning)
     default = default and (default[1] if default[1] and default[1].isdigit() else None)
     return default, ends and tuple(it for it in ends.groups() if it)

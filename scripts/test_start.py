@@ -242,7 +242,7 @@ def code(text):
 def code_blocks(file):
     """The blocks of a document without commands, each as the lines of a scenario's text."""
     inside, _ = check_docs.blocks(check_docs.read(file))
-    texts = ["\n".join(line for _, line in block) for block in inside]
+    texts = ["\n".join(line for _, line in block) for _, block in inside]
     return [code(it) for it in texts if "$ " not in it]
 
 
@@ -254,6 +254,24 @@ class Documents(unittest.TestCase):
         self.assertEqual(
             told, [(3, "one two", ["x"]), (6, "three", []), (8, "./lurette run f", None)]
         )
+
+    def test_blocks_are_files_and_commands_last(self):
+        text = "```c a.c\nint x;\n```\n```\n$ cd ~/m\n$ one\n```\n`./lurette run f`\n"
+        found = check_docs.commands_of_document("d", text)
+        told = [(it.command, it.before) for it in found]
+        writes = "mkdir -p $(dirname a.c); printf %s 'int x;\n' >a.c"
+        wanted = [(writes, ""), ("cd ~/m", ""), ("one", "cd ~/m; "), ("./lurette run f", "")]
+        self.assertEqual(told, wanted)
+
+    def test_commands_that_lack_a_tool(self):
+        known, check_docs.TOOLS = check_docs.TOOLS, ("no-such-tool",)
+        try:
+            text = "```\n$ one\n$ one | no-such-tool x\n$ two\n```\n```\n$ no-such-tools\n```\n"
+            found = check_docs.commands_of_document("d", text)
+        finally:
+            check_docs.TOOLS = known
+        tool = "no-such-tool"
+        self.assertEqual([it.lacks for it in found], [None, tool, tool, None])
 
     def test_rows_of_tables(self):
         rows = [

@@ -1,0 +1,1 @@
+au BufRead,BufNewFile *.lut setfiletype lutin
