@@ -15,13 +15,13 @@ abbrev pub AreEnds : (List ℤ → Bool) → List Interval → ℕ → List ℤ 
 AreEnds passes box i lowest highest =
     Passes passes box lowest × (Passes passes box highest
     × ((places : List ℤ) → Passes passes box places →
-      (place_of lowest i ≤ℤ place_of places i) × (place_of places i ≤ℤ place_of highest i)))
+    (place_of lowest i ≤ℤ place_of places i) × (place_of places i ≤ℤ place_of highest i)))
 
 -- They are so by the formula of each circuit that this is a copy of.
 abbrev pub AreEndsOf : Linked → ℕ → List Scale → List Interval → ℕ → List ℤ → List ℤ → Type 0
 AreEndsOf copy decimals scales box i lowest highest =
     (formulas : List Formula) (root : ℕ) → IsCopyOf copy formulas root →
-      AreEnds (holds_at decimals formulas root scales) box i lowest highest
+    AreEnds (holds_at decimals formulas root scales) box i lowest highest
 
 -- It holds in one way: so a struct may keep it in a ghost field.
 pub AreEndsOf-prop : (copy : Linked) (decimals : ℕ) (scales : List Scale) (box : List Interval) (i : ℕ) (lowest highest : List ℤ)
