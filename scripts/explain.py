@@ -4,8 +4,9 @@
 
 Standard output, standard error and the status are the program's own. What is said more comes behind
 its last line, on standard error: a sentence, the line of the file with a caret at the place, and
-behind a run that found something the call that plays it again. On a terminal it is also said where
-the program waits long for a controller or an oracle.
+behind a run that found something the call that plays it again. Of an earlier trace that is replayed
+by another seed or rule of drawing it is said which ones it has, also where all went well. On a
+terminal it is also said where the program waits long for a controller or an oracle.
 """
 
 import os
@@ -72,10 +73,13 @@ REPLIES = {
 # What failed of each device.
 DEVICES = {
     "file": "A file couldn't be read: is its name right, and may it be read?",
-    "controller": "The connection to the controller failed; with the number 0 it wasn't started.",
-    "oracle": "The connection to the oracle failed; with the number 0 it wasn't started.",
+    "controller": "The connection to the controller failed.",
+    "oracle": "The connection to the oracle failed.",
     "trace": "What was to be written to standard output couldn't be written.",
 }
+
+# What `device controller 0` and `device oracle 0` say.
+NOT_STARTED = "It couldn't be started. Is its name right? A program of this folder is ./NAME."
 
 # What the first word of any other line says.
 ENDS = {
@@ -87,6 +91,12 @@ ENDS = {
     "memory": "Memory ran out.",
     "toolarge": "This instant offers more than 65,536 alternatives.",
 }
+
+# What `ended controller` says where an earlier trace answers.
+NO_MORE = "The trace that is replayed has no answer for this step."
+
+# The beginning of a trace, with its seed and the rule of drawing, which isn't there if it is 1.
+HEADER = re.compile(rb"#seed (\d+)\n(?:#draw (\d)\n)?")
 
 # First words of a line, each with the table that has the sentence of a word after it.
 TABLES = {
@@ -114,6 +124,8 @@ def sentence(line):
     words = line.replace(":", " ", 1).split()
     if not words:
         return None
+    if words[0] == "device" and words[2:] == ["0"] and words[1] in ("controller", "oracle"):
+        return NOT_STARTED
     table = TABLES.get(words[0])
     if table is None:
         return ENDS.get(words[0])
@@ -190,9 +202,31 @@ def help_of_search(line, words):
     return [helps, head, *shown, *rest]
 
 
+def replay_hint(line, words):
+    """What a replay needs whose earlier trace has another seed or rule of drawing than the call, or
+    too few answers; in a list."""
+    name = call_words.text_of(words, "--replay")
+    try:
+        with open(name or "", "rb") as file:
+            header = HEADER.match(file.read(64))
+    except OSError:
+        return []
+    if header is None or line.startswith(("usage", "refused", "device")):
+        return []
+    number = lambda role, default: (call_words.text_of(words, role) or default).lstrip("0") or "0"
+    seed, rule = header[1].decode(), (header[2] or b"1").decode()
+    is_same = (number("--seed", "0"), number("--draw", "1")) == (seed, rule)
+    if is_same and not line.startswith("ended controller"):
+        return []
+    needs = f"--seed {seed} --draw {rule}"
+    return [f"{name} was written with {needs}: its replay needs these, and the same -l."]
+
+
 def explanation(line, words):
     """The lines that explain a line of the program."""
     meant, place, name = sentence(line), place_in(line), file_of(line, words)
+    if line.startswith("ended controller") and call_words.text_of(words, "--replay") is not None:
+        meant = NO_MORE
     if meant is None:
         return []
     if line.startswith("budget "):
@@ -249,9 +283,12 @@ def main(program, *words):
     status = run.wait()
     # A program that still runs may hold standard error open.
     copier.join(1)
+    line, trace = line_of(bytes(kept)), next_calls.trace_file()
     if status > 0:
-        line, trace = line_of(bytes(kept)), next_calls.trace_file()
-        for told in explanation(line, words) + next_calls.lines(line, words, trace):
+        for told in explanation(line, words):
+            say(told)
+    if status >= 0:
+        for told in replay_hint(line, words) + next_calls.lines(line, words, trace):
             say(told)
     return status if status >= 0 else 128 - status
 

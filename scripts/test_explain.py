@@ -58,6 +58,12 @@ class Sentences(unittest.TestCase):
         for meant in (it for table in tables for it in table.values()):
             self.assertLessEqual(len(meant), 90, meant)
 
+    def test_a_program_that_was_not_started_is_told_apart(self):
+        for side in ("controller", "oracle"):
+            self.assertEqual(explain.sentence(f"device {side} 0"), explain.NOT_STARTED)
+            self.assertEqual(explain.sentence(f"device {side} 10"), explain.DEVICES[side])
+        self.assertEqual(explain.sentence("device trace 0"), explain.DEVICES["trace"])
+
     def test_nothing_is_said_of_other_lines(self):
         self.assertIsNone(explain.sentence("hello"))
         self.assertIsNone(explain.sentence(""))
@@ -134,6 +140,45 @@ node o() returns (x, y: int) = x < y
         text = b"node n() returns (b, c: bool) = b and c or not b"
         for words in (["run", "f"], ["run", "f", "--node", "m"], ["run", "nothing"]):
             self.assertEqual(len(self.explained(text, "budget 1000 1", words)), 2)
+
+
+class Replays(unittest.TestCase):
+    """The seed and the rule of an earlier trace are told where the call has others."""
+
+    def hints(self, header, line, call):
+        with tempfile.TemporaryDirectory() as room:
+            path = os.path.join(room, "old")
+            with open(path, "w", encoding="utf-8") as file:
+                file.write(f"{header}#inputs\n#outputs\n#end limit 0\n")
+            words = ["run", "f", "--replay", path, *call.split()]
+            return [it.replace(path, "old") for it in explain.replay_hint(line, words)]
+
+    def test_another_seed_or_rule_is_told(self):
+        for header, call, wanted in (
+            ("#seed 14\n#draw 3\n", "--draw 3", "--seed 14 --draw 3"),
+            ("#seed 14\n#draw 3\n", "--seed=14", "--seed 14 --draw 3"),
+            ("#seed 0\n", "--draw 2", "--seed 0 --draw 1"),
+        ):
+            told = f"old was written with {wanted}: its replay needs these, and the same -l."
+            for line in ("oracle 7", "ended controller 8", "fault Overflow 5", ""):
+                self.assertEqual(self.hints(header, line, call), [told], (header, call, line))
+
+    def test_with_the_same_ones_only_too_few_answers_are(self):
+        header, call = "#seed 14\n#draw 3\n", "--seed 014 --draw 3"
+        self.assertEqual(self.hints(header, "oracle 7", call), [])
+        self.assertEqual(len(self.hints(header, "ended controller 8", call)), 1)
+        self.assertEqual(self.hints("#seed 0\n", "", ""), [])
+
+    def test_nothing_is_told_without_a_header_or_a_run(self):
+        self.assertEqual(self.hints("", "ended controller 8", ""), [])
+        self.assertEqual(self.hints("#seed 1\n", "refused lex.BadByte at 0", ""), [])
+        self.assertEqual(explain.replay_hint("ended controller 8", ["run", "f", "--sut", "c"]), [])
+        self.assertEqual(explain.replay_hint("oracle 1", ["run", "f", "--replay", "nothing"]), [])
+
+    def test_too_few_answers_of_a_trace_have_their_own_sentence(self):
+        replay = ["run", "f", "--replay", "nothing"]
+        self.assertEqual(explain.explanation("ended controller 8", replay), [explain.NO_MORE])
+        self.assertEqual(explain.explanation("ended oracle 8", replay), [explain.ENDS["ended"]])
 
 
 class Programs(unittest.TestCase):

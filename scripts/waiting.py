@@ -8,7 +8,7 @@ SECONDS, PAUSE = 5, 0.5
 # The number of the system's call that reads, on x86-64.
 READS = "0"
 
-HINT = "it may not flush its answer (stdbuf -oL CMD, or flush=True in Python)"
+HINT = "it may not flush its answer: fflush(stdout) in C, flush=True in Python, or stdbuf -oL CMD"
 
 
 def content(path):
