@@ -55,6 +55,14 @@ class Minutes(unittest.TestCase):
         ]
         self.assertEqual(module().table(crates, 756)[2:], wanted)
 
+    def test_a_number_that_is_used_again_is_another_process(self):
+        gate_minutes = module()
+        minutes = gate_minutes.Minutes(1)
+        minutes.kinds[7, 100] = "low", "proof"
+        for began, seconds in ((100, 30), (200, 2)):
+            minutes.take({7: gate_minutes.Process(0, began, seconds)})
+        self.assertEqual(minutes.by_crate()["low"]["proof"], 30)
+
     def test_a_run_is_watched(self):
         with tempfile.TemporaryDirectory(prefix="lurette-") as room:
             for name, text in (("rt", RT), ("rattle", RATTLE)):
