@@ -589,8 +589,13 @@ def ramp():
     return of_one(Variable("speed", 0, 40, 0), Loop(Then(Loop(up), Loop(down))))
 
 
+def full():
+    (rise,) = stepping("level", 3)
+    return of_one(Variable("level", 0, 10, 0), Loop(Priority(rise, is_true("level", 10))))
+
+
 # Those of examples/patterns.lut.
-PATTERNS = {it.__name__: it for it in (walk, hold, burst, rare, phases, ramp)}
+PATTERNS = {it.__name__: it for it in (walk, hold, burst, rare, phases, ramp, full)}
 
 # The controller of a scenario without inputs.
 NOBODY = lambda told: []
