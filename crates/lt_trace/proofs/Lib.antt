@@ -1,0 +1,16 @@
+pub mod Words
+pub mod Values
+pub mod Lines
+pub mod Feeds
+pub mod Numbers
+pub mod Fronts
+pub mod Spaces
+pub mod Ends
+pub mod Headers
+pub mod Steps
+pub mod Chains
+pub mod OneEnd
+pub mod OneLine
+pub mod Needs
+pub mod Readings
+pub mod Shapes
