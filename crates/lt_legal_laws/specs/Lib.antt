@@ -1,0 +1,2 @@
+-- what runs show is legal
+pub mod Runs
