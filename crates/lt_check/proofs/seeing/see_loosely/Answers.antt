@@ -1,0 +1,18 @@
+use Rattle.lt_term.specs.Mapped.{node_passes}
+use Rattle.lt_term.specs.SceneView.{numbers_of}
+use Rattle.lt_term.specs.TreeView.{tree_node}
+use Rattle.lt_check.specs.inner.SeenOf.{loose_of}
+use Rattle.lt_check.proofs.Sights.{all_at, seen_more}
+use Rattle.lt_check.proofs.seeing.see_loosely.Goals as goal
+
+pub see_node_loosely-requires-clause-passes : goal.see_node_loosely-requires-clause-passes
+see_node_loosely-requires-clause-passes c =
+    all_at (node_passes (numbers_of c.args.context.now.scenario.now)) tree_node c.args.nodes.now c.loop-node.node-index c.node-item.result c.node-item.result c.loop-node-test.true c.node-item.is c.requires.passes
+
+pub loop-node-preserved : goal.loop-node-preserved
+loop-node-preserved c =
+    let m = c.args.context.now in
+    record {
+      items = seen_more (loose_of m) c.args.nodes.now c.loop-node.node-index c.node-item.result c.loop-node.found.items c.push.new.self.items c.in_ok-one.one c.loop-node-test.true c.node-item.is c.loop-node.invariant.items c.in_ok-one.ensures.seen c.in_ok-push.ensures.items;
+      searcher = c.in_ok-one.ensures.searcher;
+    }
