@@ -45,14 +45,16 @@ CODES = {
     "expand.ControllableWeight": "A weight can't depend on what is drawn in the same instant.",
     "run.TooManyAtoms": "A part of a constraint joins over 16 conditions by `or` and the like: split it.",
     "run.NeedsController": "The scenario has inputs: give them values by --sut or --replay.",
+    "check.BadLine": "This line isn't the next one of a trace of this scenario, or it is missing.",
 }
 
 # Each kind of a fault of the words.
 USAGES = {
     "words": "An option is unknown, given twice or lacks its argument, or MODE or FILE is missing.",
-    "mode": "The first word is none of the modes run, print and stress.",
+    "mode": "The first word is none of the modes run, print, check and stress.",
     "number": "After stress comes a number from 0 to 999999, in digits only.",
     "both": "A run takes its inputs from --sut or from --replay, not from both.",
+    "trace": "A check takes the trace to check from --replay.",
 }
 
 # Each kind of an arithmetic fault.
@@ -90,6 +92,8 @@ ENDS = {
     "budget": "The search for these values was given up: whether there are any isn't known.",
     "memory": "Memory ran out.",
     "toolarge": "This instant offers more than 65,536 alternatives.",
+    "illegal": "No run of the scenario goes on with this step after those before it, or ends so.",
+    "candidates": "Over 4,096 ways of the scenario lead to this step: the check goes no further.",
 }
 
 # What `ended controller` says where an earlier trace answers.
@@ -202,6 +206,18 @@ def help_of_search(line, words):
     return [helps, head, *shown, *rest]
 
 
+def bad_line(meant, number, words):
+    """What is said of a line of the trace that is checked, with the line where there is one."""
+    name = call_words.text_of(words, "--replay")
+    try:
+        with open(name or "", "rb") as file:
+            lines = file.read().split(b"\n")
+    except OSError:
+        return [meant]
+    shown = lines[number - 1].decode("utf-8", "replace") if number <= len(lines) else ""
+    return [f"{name}:{number}: {meant}", *([f"    {shown}"] if shown else [])]
+
+
 def replay_hint(line, words):
     """What a replay needs whose earlier trace has another seed or rule of drawing than the call, or
     too few answers; in a list."""
@@ -212,6 +228,8 @@ def replay_hint(line, words):
     except OSError:
         return []
     if header is None or line.startswith(("usage", "refused", "device")):
+        return []
+    if call_words.text_of(words, "mode") != "run":
         return []
     number = lambda role, default: (call_words.text_of(words, role) or default).lstrip("0") or "0"
     seed, rule = header[1].decode(), (header[2] or b"1").decode()
@@ -229,6 +247,8 @@ def explanation(line, words):
         meant = NO_MORE
     if meant is None:
         return []
+    if line.startswith("refused check.BadLine"):
+        return bad_line(meant, place or 0, words)
     if line.startswith("budget "):
         return [meant, *help_of_search(line, words)]
     try:

@@ -1,21 +1,23 @@
 """Feeds hostile texts to the program, and judges what comes of each.
 
     python3 scripts/hostile.py tokens SEED BYTES [--program PATH]
-    python3 scripts/hostile.py mutated SEED COUNT [--program PATH]
-    python3 scripts/hostile.py (tokens | mutated) SEED NUMBER --show
+    python3 scripts/hostile.py (mutated | traces) SEED COUNT [--program PATH]
+    python3 scripts/hostile.py (tokens | mutated | traces) SEED NUMBER --show
 
 `tokens` makes texts of the language's tokens, from any one after another to those of a program, as
 long as so many bytes weren't tried. `mutated` changes the scenarios of `examples/`: it flips bytes,
 drops lines, swaps tokens, repeats pieces and enlarges numbers. Each text goes through `print` and
-through `run -l 3`, and what `print` wrote goes through `print` once more.
+through `run -l 3`, and what `print` wrote goes through `print` once more. `traces` makes traces of
+one scenario, or what is nearly one, and changes some of them so too. They go through `check`.
 
 A finding is an end that docs/COMMAND.md doesn't have: a signal, another status, another line on
 standard error, a trace that ends otherwise, a call that hadn't ended after ten seconds, took more
 than one of the processor each time of three, or more memory than a text of its length may, or a
-printed text that is printed in another way. It is told with the number of its text. The same seed and number make the
-same text, in every version of Python, as long as the examples stay as they are: --show writes it to
-standard output, and tries nothing. The program is the one that `rt ci` leaves in the checkout,
-where no option names another.
+printed text that is printed in another way. So is a trace that is refused for another line than the
+first that is wrong, or that is judged though one is. It is told with the number of its text. The
+same seed and number make the same text, in every version of Python, as long as the examples stay as
+they are: --show writes it to standard output, and tries nothing. The program is the one that
+`rt ci` leaves in the checkout, where no option names another.
 """
 
 import argparse
@@ -23,10 +25,12 @@ import glob
 import os
 import re
 import sys
+import tempfile
 from collections import Counter
 
 import calls
 import explain
+import trace_texts
 from chance import Chance
 
 STEPS = 3
@@ -220,7 +224,11 @@ def mutated_text(seed, number):
     return text
 
 
-TEXTS = {"tokens": text_of_tokens, "mutated": mutated_text}
+def text_of_trace(seed, number):
+    return trace_texts.text_of_trace(seed, number, CHANGES)
+
+
+TEXTS = {"tokens": text_of_tokens, "mutated": mutated_text, "traces": text_of_trace}
 
 # -- What may come of a call -----------------------------------------------------------------------
 
@@ -233,6 +241,7 @@ WITHOUT_PLACE = (
     "run.TooManyAtoms",
 )
 OF_PRINT = ("file.", "lex.", "parse.")
+OF_RUN = (*OF_PRINT, "type.", "expand.", "run.")
 UNREAD = (b"lurette: refused lex.", b"lurette: refused parse.")
 
 K = rf"[1-{STEPS}]"
@@ -255,7 +264,7 @@ LINES = {"run": RUN_LINES, "print": {0: "", 11: "memory"}}
 def is_refusal(mode, line, length):
     """Whether a line refuses a text of so many bytes, as the mode may."""
     code = line[len("refused ") :].split(" ")[0]
-    if code not in explain.CODES or mode == "print" and not code.startswith(OF_PRINT):
+    if code not in explain.CODES or not code.startswith(OF_PRINT if mode == "print" else OF_RUN):
         return False
     if code in WITHOUT_PLACE:
         return line == f"refused {code}"
@@ -365,12 +374,33 @@ def tried(program, text):
     return ends, faults + ([beside] if beside else [])
 
 
-def try_texts(program, kind, seed, most):
-    """Tries texts up to so many bytes of tokens, or so many mutated ones."""
+def checked(program, scenario, text):
+    """The end of a check of a trace, and what is wrong with it."""
+    words, memory = ("check", scenario, "--replay"), memory_for(len(text))
+    found = cheapest(lambda: calls.outcome(program, text, *words, memory=memory))
+    if found.status is None:
+        return ["check"], [f"check had not ended after {calls.SECONDS} seconds"]
+    fault = trace_texts.fault_of(text, found.status, line_of(found.errors), found.output)
+    fault = fault or fault_of_cost(len(text), found)
+    return [name_of_end("check", found)], [f"check {fault}"] if fault else []
+
+
+def try_kind(program, kind, seed, most):
+    """Tries texts of a kind; `traces` are all of one scenario."""
+    if kind != "traces":
+        return try_texts(lambda text: tried(program, text), kind, seed, most)
+    with tempfile.NamedTemporaryFile(prefix="lurette-") as scenario:
+        scenario.write(trace_texts.SCENARIO)
+        scenario.flush()
+        return try_texts(lambda text: checked(program, scenario.name, text), kind, seed, most)
+
+
+def try_texts(found_of, kind, seed, most):
+    """Tries texts up to so many bytes of tokens, or so many others."""
     counts, findings, number, size = Counter(), 0, 0, 0
     while (size if kind == "tokens" else number) < most:
         text = TEXTS[kind](seed, number)
-        ends, faults = tried(program, text)
+        ends, faults = found_of(text)
         counts.update(ends)
         for fault in faults:
             print(f"{kind} {seed} {number}: {fault}", flush=True)
@@ -396,7 +426,7 @@ def main(words):
     if not os.access(given.program, os.X_OK):
         print(f"hostile: {given.program} is not there, so no text can be tried", file=sys.stderr)
         return 2
-    return 1 if try_texts(given.program, given.kind, given.seed, given.most) else 0
+    return 1 if try_kind(given.program, given.kind, given.seed, given.most) else 0
 
 
 if __name__ == "__main__":

@@ -13,7 +13,7 @@ TOP = os.path.dirname(os.path.dirname(os.path.abspath(__file__)))
 # A row of the table of words: the word with what follows it, and its meaning.
 Word = namedtuple("Word", "name operand meaning")
 
-MODES = ("run", "print", "stress")
+MODES = ("run", "print", "check", "stress")
 
 BASH = """_lurette() {
     local word=${COMP_WORDS[COMP_CWORD]} before=${COMP_WORDS[COMP_CWORD - 1]}

@@ -81,6 +81,13 @@ def on(name, text, status, words="run f"):
     return Call(name, words.split(), status, {"f": text})
 
 
+def on_trace(name, text, status, values, end="limit 1"):
+    """A check of a trace of one step of an int."""
+    header = '#seed 0\n#inputs "i":int\n#outputs\n#locals\n#step 1\n'
+    files = {"f": text, "earlier": f"{header}{values}\n#end {end}\n"}
+    return Call(name, ["check", "f", "--replay", "earlier"], status, files)
+
+
 CALLS = (
     # Runs to their limit, alone and beside each side.
     Call("run", ALONE, 0),
@@ -106,6 +113,25 @@ CALLS = (
     Call("ended", ["run", "f", "--replay", "earlier"], 8, {"f": INPUT, "earlier": "t t\nf"}),
     on("budget", pigeons(10, 9), 10),
     on("toolarge", LARGE, 14),
+    # Checks. Each of the first three checks a trace that a run wrote before.
+    Call("check", ["check", "full", "--replay", "earlier"], 0, earlier=[*ALONE, "--locals"]),
+    Call(
+        "check, all beside a controller",
+        ["check", "full", "--node", "beside", "--replay", "earlier"],
+        0,
+        earlier=[*ALONE, *FULL_SUT, "--locals"],
+    ),
+    Call(
+        "check beside a controller",
+        ["check", "room", "--replay", "earlier"],
+        0,
+        earlier=[*BESIDE, "--locals", *SUT],
+    ),
+    on_trace("illegal", INT + "{ i < 5 |> i = 7 }", 12, "7 #outs #locs"),
+    on_trace("a check of a deadlock", INT + "i = 7 fby i > 9", 0, "7 #outs #locs", "deadlock 2"),
+    Call("usage trace", ["check", "full"], 2),
+    on_trace("refused check.BadLine", INT + "i = 7", 3, "07 #outs #locs"),
+    on("check of a trace that isn't there", INPUT, 9, "check f --replay nothing"),
     # The other modes.
     Call("print", ["print", "full"], 0),
     Call("stress", ["stress", "0"], 0),

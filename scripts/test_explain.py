@@ -11,7 +11,7 @@ TOP = os.path.dirname(os.path.dirname(os.path.abspath(__file__)))
 
 # What stands in COMMAND's table of lines for what a call puts there.
 PUT_IN = {
-    "usage: KIND": ["usage: " + it for it in ("words", "mode", "number", "both")],
+    "usage: KIND": ["usage: " + it for it in ("words", "mode", "number", "both", "trace")],
     "fault KIND K": [
         f"fault {it} 3" for it in ("NoPrevious", "DivisionByZero", "Overflow", "NegativeWeight")
     ],
@@ -102,6 +102,16 @@ class Places(unittest.TestCase):
         found = self.explained(b"1 x\n", line, ["run", "g", "--replay", "f"])
         self.assertEqual(found[0], f"f:1:3: {explain.REPLIES['NotAValue']}")
 
+    def test_a_bad_line_of_a_trace_is_shown(self):
+        words = ["check", "g", "--replay", "f"]
+        meant = explain.CODES["check.BadLine"]
+        found = self.explained(b"#seed 0\n#inputs \n", "refused check.BadLine at 2", words)
+        self.assertEqual(found, [f"f:2: {meant}", "    #inputs "])
+        found = self.explained(b"#seed 0\n", "refused check.BadLine at 2", words)
+        self.assertEqual(found, [f"f:2: {meant}"])
+        found = explain.explanation("refused check.BadLine at 2", ["check", "g"])
+        self.assertEqual(found, [meant])
+
     def test_where_no_file_has_the_place_the_sentence_stands_alone(self):
         line = "malformed controller NotAValue 1 at 2"
         found = self.explained(b"1 x\n", line, ["run", "f", "--sut", "c"])
@@ -145,12 +155,12 @@ node o() returns (x, y: int) = x < y
 class Replays(unittest.TestCase):
     """The seed and the rule of an earlier trace are told where the call has others."""
 
-    def hints(self, header, line, call):
+    def hints(self, header, line, call, mode="run"):
         with tempfile.TemporaryDirectory() as room:
             path = os.path.join(room, "old")
             with open(path, "w", encoding="utf-8") as file:
                 file.write(f"{header}#inputs\n#outputs\n#end limit 0\n")
-            words = ["run", "f", "--replay", path, *call.split()]
+            words = [mode, "f", "--replay", path, *call.split()]
             return [it.replace(path, "old") for it in explain.replay_hint(line, words)]
 
     def test_another_seed_or_rule_is_told(self):
@@ -172,6 +182,7 @@ class Replays(unittest.TestCase):
     def test_nothing_is_told_without_a_header_or_a_run(self):
         self.assertEqual(self.hints("", "ended controller 8", ""), [])
         self.assertEqual(self.hints("#seed 1\n", "refused lex.BadByte at 0", ""), [])
+        self.assertEqual(self.hints("#seed 1\n", "illegal 2", "", "check"), [])
         self.assertEqual(explain.replay_hint("ended controller 8", ["run", "f", "--sut", "c"]), [])
         self.assertEqual(explain.replay_hint("oracle 1", ["run", "f", "--replay", "nothing"]), [])
 

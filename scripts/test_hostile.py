@@ -5,6 +5,7 @@ import re
 import unittest
 
 import hostile
+import trace_texts
 from calls import Outcome
 from chance import Chance
 
@@ -16,7 +17,7 @@ def codes():
     """The rows of COMMAND's table of codes: each code with its modes and its place."""
     with open(os.path.join(TOP, "docs", "COMMAND.md"), encoding="utf-8") as file:
         page = file.read()
-    rows = re.findall(r"^\| `(\w+\.\w+)` \| (both|`run`) \| .* \| ([^|]*) \|$", page, re.M)
+    rows = re.findall(r"^\| `(\w+\.\w+)` \| ([^|]*) \| .* \| ([^|]*) \|$", page, re.M)
     return {code: (modes, place) for code, modes, place in rows}
 
 
@@ -59,9 +60,9 @@ class Ends(unittest.TestCase):
             place_said, other = f"refused {code} at 3", f"refused {code}"
             if place == "none":
                 place_said, other = other, place_said
-            self.assertIsNone(fault("run", 3, place_said), code)
+            self.assertEqual(fault("run", 3, place_said) is None, modes != "`check`", code)
             self.assertIsNotNone(fault("run", 3, other), code)
-            self.assertEqual(fault("print", 3, place_said) is None, modes == "both", code)
+            self.assertEqual(fault("print", 3, place_said) is None, modes == "all", code)
 
     def test_ends_that_are_right(self):
         for mode, status, said, output in (
@@ -119,6 +120,87 @@ class Ends(unittest.TestCase):
             left = iter(seconds)
             found = hostile.cheapest(lambda: Outcome(0, b"", b"", next(left)))
             self.assertEqual((found.seconds, list(left)), (cheapest, seconds[count:]))
+
+
+STEP = ("#step 1", "t 3 0.50 #outs f 9 #locs 0 ?", "")
+CHECKED = "\n".join(["#seed 7", "#draw 2", *trace_texts.HEADER, *STEP])
+
+
+class Traces(unittest.TestCase):
+    def bad(self, text):
+        return trace_texts.first_bad_line(text.encode())
+
+    def test_traces_have_no_bad_line(self):
+        for end in ("limit 1", "oracle 1", "raise f 2", "fault Overflow 2", "toolarge 2"):
+            self.assertEqual(self.bad(f"{CHECKED}#end {end}\n"), (0, 1), end)
+        most = 2**128 - 1
+        for end in ("ended oracle 2", "malformed oracle TooLong 2", f"budget {most} 2"):
+            self.assertEqual(self.bad(f"{CHECKED}#end {end}\n"), (0, 1), end)
+        self.assertEqual(self.bad(CHECKED.replace("#draw 2\n", "") + "#end limit 1\n"), (0, 1))
+
+    def test_the_first_bad_line_is_found(self):
+        for old, new, line in (
+            ("seed 7", "seed 07", 1),
+            ("seed 7", f"seed {2**64}", 1),
+            ("draw 2", "draw 1", 2),
+            ("draw 2", "draw 3\n#draw 3", 3),
+            ('"b":bool "x":int', '"x":int "b":bool', 3),
+            ('"k":bool', '"k": bool', 4),
+            ("#locals", "#locs", 5),
+            ("step 1", "step 2", 6),
+            ("t 3", "t 03", 7),
+            ("t 3", "t -0", 7),
+            ("t 3", f"t {10**12 + 1}", 7),
+            ("0.50", "0.5", 7),
+            ("0.50", "-0.00", 7),
+            ("f 9", "f 10", 7),
+            ("0 ?", "? ?", 8),
+            ("0 ?", "0", 7),
+        ):
+            self.assertEqual(self.bad(CHECKED.replace(old, new))[0], line, (old, new))
+        for end in ("limit 2", "limit 01", "oracle 0", "raise g 2", "deadlock 1", "fault X 2"):
+            self.assertEqual(self.bad(f"{CHECKED}#end {end}\n")[0], 8, end)
+        for end in (f"budget {2**128} 2", "budget 2", "device trace 2", "limit 1 ", "x 2"):
+            self.assertEqual(self.bad(f"{CHECKED}#end {end}\n")[0], 8, end)
+
+    def test_lines_that_are_missing_or_too_many(self):
+        for text, line in (
+            ("", 1),
+            ("#seed 7", 1),
+            ("#seed 7\n", 2),
+            (CHECKED, 8),
+            (CHECKED[:-1], 7),
+            (CHECKED + "#end limit 1", 8),
+            (CHECKED + "#end limit 1\nx", 9),
+            (CHECKED + "#end limit 1\n\n", 9),
+        ):
+            self.assertEqual(self.bad(text)[0], line, text)
+
+    def test_ends_of_checks(self):
+        trace, bad = f"{CHECKED}#end limit 1\n".encode(), CHECKED.encode()
+        for text, status, line, output in (
+            (trace, 0, "", b"legal 1\n"),
+            (trace, 12, "illegal 2", b""),
+            (trace, 13, "candidates 1", b""),
+            (trace, 10, "budget 720 1", b""),
+            (trace, 11, "memory", b""),
+            (bad, 3, "refused check.BadLine at 8", b""),
+        ):
+            self.assertIsNone(trace_texts.fault_of(text, status, line, output), line)
+        for text, status, line, output in (
+            (trace, 0, "", b"legal 2\n"),
+            (trace, 0, "", b"legal 1"),
+            (trace, 12, "illegal 3", b""),
+            (trace, 12, "candidates 1", b""),
+            (trace, 12, "illegal 1", b"legal 1\n"),
+            (trace, 3, "refused check.BadLine at 8", b""),
+            (trace, 4, "deadlock 1", b""),
+            (trace, -11, "", b""),
+            (bad, 0, "", b"legal 1\n"),
+            (bad, 12, "illegal 1", b""),
+            (bad, 3, "refused check.BadLine at 7", b""),
+        ):
+            self.assertIsNotNone(trace_texts.fault_of(text, status, line, output), (status, line))
 
 
 if __name__ == "__main__":

@@ -92,6 +92,15 @@ def choice(count):
     return "{ " + "| b " * count + "}"
 
 
+def checked(text, end, steps=1, why="limit"):
+    """A check of a trace of a Boolean that is true in each of so many steps."""
+    lines = ["#seed 0", '#inputs "b":bool', "#outputs", "#locals"]
+    for step in range(1, steps + 1):
+        lines += [f"#step {step}", "t #outs #locs"]
+    trace = "\n".join([*lines, f"#end {why} {steps}", ""])
+    return Row(text, end, ("check",), trace.encode())
+
+
 # A part whose tree has three nodes. So many of them side by side have 2^(n + 1) - 1.
 SHAPES = {
     "choices": "{ |1: b |1: b }",
@@ -108,6 +117,9 @@ def trees():
         tree = beside(part, 15)
         found.append(Row(f"{NODE}{{ |1: {tree} }}", "0 limit 1", one_step()))
         found.append(Row(f"{NODE}try {tree}", "14 toolarge 1", one_step()))
+    tree = beside(SHAPES["choices"], 15)
+    found.append(checked(f"{NODE}{{ |1: {tree} }}", "0"))
+    found.append(checked(f"{NODE}try {tree}", "12 illegal 1"))
     # Choices of 64: one of 64 * 64 * 14 leaves has 61,505 nodes, and one of 64 * 61 leaves 3,969.
     first = beside_all([choice(64), choice(64), choice(14)])
     second = beside_all([choice(64), choice(61)])
@@ -163,6 +175,8 @@ LIMITS = {
         Row(padded(NODE + "b", MIB + 1), "3 refused file.TooLong"),
         Row(padded(NODE + "b", MIB), "0", ("print",)),
         Row(padded(NODE + "b", MIB + 1), "3 refused file.TooLong", ("print",)),
+        checked(padded(NODE + "b", MIB), "0", why="normal"),
+        checked(padded(NODE + "b", MIB + 1), "3 refused file.TooLong"),
     ],
     "levels of nesting": [
         Row(NODE + "(" * 200 + "b" + ")" * 200, ONCE),
@@ -251,6 +265,13 @@ LIMITS = {
         Row(ranged("0.0", "10000000000.005", "real"), "3 refused type.RangeTooLarge at 31"),
     ],
     "nodes of an instant's tree": trees(),
+    # Of each part one of two constraints is left after a step.
+    "candidates": [
+        checked(NODE + beside("{ |1: true fby b |1: true fby not b }", 12), "0", 2, "normal"),
+        checked(NODE + beside("{ |1: true fby b |1: true fby not b }", 13), "13 candidates 1", 2),
+        # Equal ones are one.
+        checked(NODE + beside("{ |1: true fby b |1: true fby b }", 13), "0", 2, "normal"),
+    ],
     "atoms of a conjunct": [
         Row(
             f"node n() returns ({names('y', count)}: bool) = "
@@ -302,7 +323,7 @@ LIMITS = {
 
 
 # Limits that are reached only after much work.
-FAR = ("terms and expressions", "depth of terms", "depth of an expression")
+FAR = ("terms and expressions", "depth of terms", "depth of an expression", "candidates")
 
 
 def is_tried(name, row):
@@ -350,7 +371,7 @@ class Limits(unittest.TestCase):
             self.skipTest("a program without a proof takes more memory")
         shares = []
         for name, number, row in rows_to_try():
-            if not row.end.startswith("3 "):
+            if not row.end.startswith("3 ") or row.replies is not None:
                 continue
             with self.subTest(name, number=number, text=row.text[:60], words=row.words):
                 taken = calls.memory_of(GIVEN.program, row.text.encode(), *row.words)
@@ -370,11 +391,16 @@ class Limits(unittest.TestCase):
         if GIVEN.quick:
             self.skipTest("it reads 64 MiB")
         # Its end isn't read over: the file has one reply, and zeros after it.
-        for length, end in ((64 * MIB, "0 limit 1"), (64 * MIB + 1, "3 refused file.TooLong")):
+        for length, words, end in (
+            (64 * MIB, one_step(), "0 limit 1"),
+            (64 * MIB + 1, one_step(), "3 refused file.TooLong"),
+            (64 * MIB, ("check",), "3 refused check.BadLine at 1"),
+            (64 * MIB + 1, ("check",), "3 refused file.TooLong"),
+        ):
             with self.subTest(length), tempfile.NamedTemporaryFile(prefix="lurette-") as replies:
                 replies.write(b"1 #outs 5\n")
                 replies.truncate(length)
-                words = one_step("--replay", replies.name)
+                words = (*words, "--replay", replies.name)
                 found = calls.outcome(GIVEN.program, ECHO.encode(), *words, seconds=calls.PATIENCE)
                 self.assertEqual(end_of(found), end)
 

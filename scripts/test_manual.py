@@ -102,7 +102,7 @@ class Program(unittest.TestCase):
 class Page(unittest.TestCase):
     def test_each_row_stands_in_the_manual_page(self):
         page = manual.man()
-        self.assertEqual(page.count("\n.TP\n"), len(manual.words()) + 3 + 14)
+        self.assertEqual(page.count("\n.TP\n"), len(manual.words()) + 3 + 16)
         self.assertIn(".B \\-\\-seed N\nthe seed of a run, from 0 to 18446744073709551615", page)
         self.assertNotIn("](", page)
 

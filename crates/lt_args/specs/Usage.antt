@@ -9,6 +9,7 @@ usage_word usage.Words = codes "words"
 usage_word usage.Mode = codes "mode"
 usage_word usage.Number = codes "number"
 usage_word usage.Both = codes "both"
+usage_word usage.Trace = codes "trace"
 
 -- how the program is called
 abbrev pub usage_text : List ℕ

@@ -19,7 +19,7 @@ use Rattle.lt_args.specs.declared.usage.UsageKind.TheVariants as usage
 use Rattle.lt_args.specs.declared.usage.WordsRefusal.{WordsRefusal}
 use Rattle.lt_args.specs.declared.usage.WordsRefusal.TheVariants as refusal
 use Rattle.lt_args.specs.declared.words.Mode.{Mode}
-use Rattle.lt_args.specs.declared.words.Mode.TheVariants.{Run, Print, Stress}
+use Rattle.lt_args.specs.declared.words.Mode.TheVariants.{Check, Print, Run, Stress}
 
 -- what the words ask for
 pub record Request : Type 0 where
@@ -38,7 +38,7 @@ pub record Request : Type 0 where
   pub budget : ℕ
   -- the name of the node, where one is given
   pub node : Option (List ℕ)
-  -- where the inputs of the scenario come from
+  -- where the inputs of the scenario come from; in a check from the trace that is checked
   pub inputs : InputSource
   -- the command of the oracle, where one is given
   pub oracle : Option (List ℕ)
@@ -87,7 +87,11 @@ large_run word = if is_digits word then stress_of (digits_value 10 word) else Er
 -- the mode that a word is, where this one stands in the place of FILE
 abbrev pub mode_of : Text → Text → Result Mode UsageKind
 mode_of word file =
-    if bytes_eq word (codes "run") then Ok Run else if bytes_eq word (codes "print") then Ok Print else if bytes_eq word (codes "stress") then large_run file else Err usage.Mode
+    if bytes_eq word (codes "run") then Ok Run
+    else if bytes_eq word (codes "print") then Ok Print
+    else if bytes_eq word (codes "check") then Ok Check
+    else if bytes_eq word (codes "stress") then large_run file
+    else Err usage.Mode
 
 -- where the inputs come from, where this command of a controller is given, or this file of an earlier trace
 abbrev pub source_by : Option Text → Option Text → InputSource
@@ -95,9 +99,14 @@ source_by (Some command) replay = from_program command
 source_by None (Some name) = from_trace name
 source_by None None = from_nobody
 
+-- the command of a controller that a mode takes: a check takes none
+abbrev pub controller_in : Mode → List Row → Option Text
+controller_in Check found = None
+controller_in _ found = first_of (codes "sut") found
+
 -- where the inputs come from, by what was found in the words
-abbrev pub source_in : List Row → InputSource
-source_in found = source_by (first_of (codes "sut") found) (first_of (codes "replay") found)
+abbrev pub source_in : Mode → List Row → InputSource
+source_in mode found = source_by (controller_in mode found) (first_of (codes "replay") found)
 
 -- the rule of drawing that has this number
 abbrev pub draw_of : ℕ → Draw
@@ -114,7 +123,7 @@ request_of mode found = record {
   decimals = unwrap_or (number_at (codes "precision") found) default_decimals;
   budget = unwrap_or (number_at (codes "budget") found) default_budget;
   node = first_of (codes "node") found;
-  inputs = source_in found;
+  inputs = source_in mode found;
   oracle = first_of (codes "oracle") found;
   locals = flag_at (codes "locals") found;
 }
@@ -129,10 +138,22 @@ abbrev pub has_both : Mode → List Row → Bool
 has_both mode found =
     is_run mode && (is_some (first_of (codes "sut") found) && is_some (first_of (codes "replay") found))
 
+-- whether a trace is checked
+abbrev pub is_check : Mode → Bool
+is_check Check = true
+is_check _ = false
+
+-- whether a check is asked for without the trace
+abbrev pub lacks_trace : Mode → List Row → Bool
+lacks_trace mode found = is_check mode && not (is_some (first_of (codes "replay") found))
+
 -- what is asked for by what was found in the words, where there is such a mode
 abbrev pub in_mode : Result Mode UsageKind → List Row → Result Request UsageKind
 in_mode (Err kind) found = Err kind
-in_mode (Ok mode) found = if has_both mode found then Err usage.Both else Ok (request_of mode found)
+in_mode (Ok mode) found =
+    if has_both mode found then Err usage.Both
+    else if lacks_trace mode found then Err usage.Trace
+    else Ok (request_of mode found)
 
 -- what was found in words
 abbrev pub asked_by : List Row → Result Request UsageKind

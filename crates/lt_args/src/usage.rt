@@ -22,6 +22,9 @@ pub enum UsageKind {
 
     /// A run is given both a controller and an earlier trace that stands for one.
     Both,
+
+    /// A check is given no trace.
+    Trace,
 }
 
 /// Why words ask for nothing.
@@ -74,6 +77,7 @@ pub fn usage_word(kind: UsageKind) -> &'static [u8]
         UsageKind::Mode => b"mode",
         UsageKind::Number => b"number",
         UsageKind::Both => b"both",
+        UsageKind::Trace => b"trace",
     }
 }
 

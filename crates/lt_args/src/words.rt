@@ -1,10 +1,10 @@
 //! What the words of a call ask for.
 
-ghost use Rattle.std.specs.Prelude.{◌≡◌, map, string_bytes, Ok, Err, IfErr, IfOk, MatchResult};
+ghost use Rattle.std.specs.Prelude.{◌≡◌, map, option_map, string_bytes, Ok, Err, IfErr, IfOk, MatchResult};
 ghost use Rattle.clap.specs.Words.{found_of, rows_of};
 ghost use Rattle.lt_loop.specs.InputSource.{source_of};
 ghost use Rattle.lt_args.specs.Asked.{request};
-ghost use Rattle.lt_args.specs.Words.{HasSmallNumber, HaveForm, IsOfMeaning, IsPromised, IsRefusedBy, IsWithin, asked_by, draw_of, has_both, large_run, mode_of, request_of, requested, source_in, stress_of};
+ghost use Rattle.lt_args.specs.Words.{HasSmallNumber, HaveForm, IsOfMeaning, IsPromised, IsRefusedBy, IsWithin, asked_by, controller_in, draw_of, has_both, lacks_trace, large_run, mode_of, request_of, requested, source_in, stress_of};
 ghost use Rattle.lt_args.specs.inner.Fitting.{NumbersFit};
 
 use crate::command::command;
@@ -26,6 +26,9 @@ pub enum Mode {
 
     /// It is printed.
     Print,
+
+    /// An earlier trace is checked by it.
+    Check,
 
     /// A large run is made from this number, which is at most 999,999. It has no scenario's file.
     Stress(u64),
@@ -58,7 +61,7 @@ pub struct Request<'a> {
     /// The name of the node, where one is given.
     pub node: Option<&'a str>,
 
-    /// Where the inputs of the scenario come from. A run has one source alone.
+    /// Where the inputs of the scenario come from. A run has one source alone, and a check has the trace.
     pub inputs: InputSource<'a>,
 
     /// The command of the oracle, where one is given.
@@ -68,9 +71,9 @@ pub struct Request<'a> {
     pub locals: bool,
 }
 
-/// What the words ask for, as clap reads them: MODE and FILE, which is `run FILE`, `print FILE` or `stress N`, and `-l N`, `--seed N`,
+/// What the words ask for, as clap reads them: MODE and FILE, which is `run FILE`, `print FILE`, `check FILE` or `stress N`, and `-l N`, `--seed N`,
 /// `--precision N`, `--budget N`, `--node NAME`, `--sut CMD`, `--oracle CMD`, `--replay FILE`, `--locals` and
-/// `--draw N`, in any order and each at most once. A run has no `--sut` beside `--replay`.
+/// `--draw N`, in any order and each at most once. A run has no `--sut` beside `--replay`, and a check has a `--replay`.
 pub fn requested<'a>(alloc: Global, words: &'a [String]) -> Result<Request<'a>, WordsRefusal>
     ensures reads { MatchResult result
         (λ asked. requested (map string_bytes words.entry.now) ≡ Ok (request asked))
@@ -96,6 +99,9 @@ fn asked_by<'a>(found: &ArgMatches<'a>) -> Result<Request<'a>, UsageKind>
     if has_both(mode, found) {
         return Err(UsageKind::Both);
     }
+    if lacks_trace(mode, found) {
+        return Err(UsageKind::Trace);
+    }
     Ok(request_in(mode, found))
 }
 
@@ -108,6 +114,7 @@ fn mode_named(word: &str, file: &str) -> Result<Mode, UsageKind>
     match word {
         "run" => Ok(Mode::Run),
         "print" => Ok(Mode::Print),
+        "check" => Ok(Mode::Check),
         "stress" => large_run(file),
         _ => Err(UsageKind::Mode),
     }
@@ -147,11 +154,28 @@ fn has_both(mode: Mode, found: &ArgMatches<'_>) -> bool
     mode == Mode::Run && option_in(found, "sut").is_some() && option_in(found, "replay").is_some()
 }
 
-// Where the inputs come from by what was found in the words: a controller stands before an earlier trace.
-fn source_in<'a>(found: &ArgMatches<'a>) -> InputSource<'a>
-    ensures { source_of result ≡ source_in (rows_of (found_of found.now)) }
+// Whether a check would have no trace.
+fn lacks_trace(mode: Mode, found: &ArgMatches<'_>) -> bool
+    ensures { result ≡ lacks_trace mode (rows_of (found_of found.now)) }
 {
-    match (option_in(found, "sut"), option_in(found, "replay")) {
+    mode == Mode::Check && option_in(found, "replay").is_none()
+}
+
+// The command of a controller that a mode takes: a check takes none.
+fn controller_in<'a>(mode: Mode, found: &ArgMatches<'a>) -> Option<&'a str>
+    ensures { option_map (λ s. s.now) result ≡ controller_in mode (rows_of (found_of found.now)) }
+{
+    match mode {
+        Mode::Check => None,
+        Mode::Run | Mode::Print | Mode::Stress(_) => option_in(found, "sut"),
+    }
+}
+
+// Where the inputs come from by what was found in the words: a controller stands before an earlier trace.
+fn source_in<'a>(mode: Mode, found: &ArgMatches<'a>) -> InputSource<'a>
+    ensures { source_of result ≡ source_in mode (rows_of (found_of found.now)) }
+{
+    match (controller_in(mode, found), option_in(found, "replay")) {
         (Some(command), _) => InputSource::Program(command),
         (None, Some(file)) => InputSource::Trace(file),
         (None, None) => InputSource::Nobody,
@@ -185,7 +209,7 @@ fn request_in<'a>(mode: Mode, found: &ArgMatches<'a>) -> Request<'a>
         decimals: decimals_in(found).unwrap_or(DEFAULT_DECIMALS),
         budget: number_in(found, "budget").unwrap_or(DEFAULT_BUDGET),
         node: option_in(found, "node"),
-        inputs: source_in(found),
+        inputs: source_in(mode, found),
         oracle: option_in(found, "oracle"),
         locals: is_given(found, "locals"),
     }

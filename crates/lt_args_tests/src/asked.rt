@@ -37,6 +37,11 @@ stress 007 ==> Stress(7) 007; (100, 0, 2, 10000000); (None, None, None, None); f
 stress 0 ==> Stress(0) 0; (100, 0, 2, 10000000); (None, None, None, None); false; Up
 --sut c stress --replay=t 999999 ==> Stress(999999) 999999; (100, 0, 2, 10000000); (None, Some("c"), None, None); false; Up
 
+## a check has its trace, and no controller
+check f --replay t ==> Check f; (100, 0, 2, 10000000); (None, None, None, Some("t")); false; Up
+check f --sut c --replay=t --oracle o --locals -l 5 --seed 7 --draw 3 ==> Check f; (5, 7, 2, 10000000); (None, None, Some("o"), Some("t")); true; Inside
+--replay= --budget 1 check --node n --precision 0 f ==> Check f; (100, 0, 0, 1); (Some("n"), None, None, Some("")); false; Up
+
 ## words are taken as they stand
 run f --node n --oracle 'o -x 5' --sut '' ==> Run f; (100, 0, 2, 10000000); (Some("n"), Some(""), Some("o -x 5"), None); false; Up
 run f --node=-x --sut=--locals --oracle= ==> Run f; (100, 0, 2, 10000000); (Some("-x"), Some("--locals"), Some(""), None); false; Up
@@ -46,5 +51,5 @@ print f --sut c --replay t --locals ==> Print f; (100, 0, 2, 10000000); (None, S
 
 #[test]
 fn words_ask_for_what_they_say(rt: HostRuntime) -> Result<(), Fail> {
-    check(&rt, ASKED, 27)
+    check(&rt, ASKED, 30)
 }

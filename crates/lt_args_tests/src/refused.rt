@@ -117,9 +117,18 @@ stress - ==> Usage(Number)
 run f --sut c --replay t ==> Usage(Both)
 --replay=t --sut=c run f ==> Usage(Both)
 run --replay t f --locals --sut c ==> Usage(Both)
+
+## a check has a trace
+check f ==> Usage(Trace)
+check f --sut c --oracle o ==> Usage(Trace)
+-l 5 check --locals f ==> Usage(Trace)
+check --replay t ==> Usage(Words)
+check f --replay ==> Usage(Words)
+check f --help ==> Usage(Words)
+Check f --replay t ==> Usage(Mode)
 ";
 
 #[test]
 fn wrong_words_are_refused_by_their_kind(rt: HostRuntime) -> Result<(), Fail> {
-    check(&rt, REFUSED, 94)
+    check(&rt, REFUSED, 101)
 }

@@ -38,11 +38,14 @@ use Rattle.lt_session.specs.declared.session_end.SessionEnd.{SessionEnd}
 use Rattle.lt_session.specs.declared.session_end.SessionEnd.TheVariants as session_end
 use Rattle.lt_step.specs.Machine as step
 use Rattle.lt_step.specs.Machine.{CanAffordIn, State, answered, finished, may_give_up_in, running, step_in}
+use Rattle.lt_legal.specs.Verdict.{IsVerdict}
+use Rattle.lt_legal.specs.declared.verdict.Verdict.{Verdict}
+use Rattle.lt_legal.specs.declared.verdict.Verdict.TheVariants as verdict
 use Rattle.lt_term.specs.Scene.{Scene}
 use Rattle.lt_call.specs.Due.{Answer, Contents, Work}
 use Rattle.lt_call.specs.Given as given
 use Rattle.lt_call.specs.Given.{Gives, IsDone, status_of}
-use Rattle.lt_call.specs.Laws.{IsUnbroken, SidesTell, WorkIsAffordable}
+use Rattle.lt_call.specs.Laws.{IsGivenUp, IsGivenUpAt, IsUnbroken, SidesTell, WorkIsAffordable}
 use Rattle.lt_call.specs.Run.{IsContinuationOf, RunIsAffordable, first_machine, oracle_of, plan_of, run_of}
 use Rattle.lt_call.specs.declared.status.Ending.{Ending}
 use Rattle.lt_call.specs.declared.status.Status.{Status}
@@ -128,35 +131,75 @@ ended_so (session_end.Driven (drive_end.TraceWriteFailed n)) steps need at is = 
 ended_so (session_end.StartFailed w) steps need at is = absurd (cc is)
 ended_so session_end.Memory steps need at is = absurd (cc is)
 
+-- a run has no verdict
+never_checked : (how : SessionEnd) (steps : ℕ) (v : Verdict) → status_of how steps ≡ status.Checked v → ⊥
+never_checked (session_end.Driven (drive_end.Ended e)) steps v is = cc is
+never_checked (session_end.Driven (drive_end.TraceWriteFailed n)) steps v is = cc is
+never_checked (session_end.StartFailed w) steps v is = cc is
+never_checked session_end.Memory steps v is = cc is
+
 -- an instant that can be afforded may not be given up
 afforded : AffordableInstantsAreNotGivenUp → (m : State) (p : step.Phase) (y : List Value) → CanAffordIn m p y → (need : ℕ) → may_give_up_in m p y need ≡ false
 afforded law m (running c locals) y within need = law m.scene m.seed m.draw m.budget c y within need
 afforded law m finished y within need = refl
 
-module _ (keep : PlaysKeepToTheirRules State) (alike : AffordableRunsAreTheSame State) (law : AffordableInstantsAreNotGivenUp) (sessions : UndisturbedSessionsAreWhole State) (r : Request) (trace c o : List ℕ) (old new : Outside Sources) (sides : SidesTell r (record { scenario = []; replay = trace }) old.inputs.programs c o) (need at : ℕ) where
-  never_so : (scene : Scene) → RunIsAffordable r scene (closed c) (closed o) → (u : Option GivenUp) → (run_of r scene u (closed c) (closed o)).stop ≢ ends (end.Budget need)
-  never_so scene within u stops =
+module _ (keep : PlaysKeepToTheirRules State) (alike : AffordableRunsAreTheSame State) (law : AffordableInstantsAreNotGivenUp) (sessions : UndisturbedSessionsAreWhole State) (r : Request) (trace c o : List ℕ) (old new : Outside Sources) (sides : SidesTell r (record { scenario = []; replay = trace }) old.inputs.programs c o) where
+  never_so : (need : ℕ) (scene : Scene) → RunIsAffordable r scene (closed c) (closed o) → (u : Option GivenUp) → (run_of r scene u (closed c) (closed o)).stop ≢ ends (end.Budget need)
+  never_so need scene within u stops =
       let same : run_of r scene u (closed c) (closed o) ≡ run_of r scene None (closed c) (closed o) =
       alike scenario_rules (plan_of r scene) r.limit (first_machine r scene) (stream_of (closed c)) (stream_of (closed o)) (λ n q less stands. afforded law q.machine q.machine.phase q.inputs (within n q less stands)) u in
       never_ends keep r scene (closed c) (closed o) need (sym (ap (λ (p : Play). p.stop) same) ∙ stops)
 
-  never_played : (scene : Scene) → RunIsAffordable r scene (closed c) (closed o) → (k : Continuation) (core : CoreState State) (how : SessionEnd) (course : IsContinuationOf r scene k) →
+  never_played : (need : ℕ) (scene : Scene) → RunIsAffordable r scene (closed c) (closed o) → (k : Continuation) (core : CoreState State) (how : SessionEnd) (course : IsContinuationOf r scene k) →
       IsPlayed k (with_contents r.inputs trace) (oracle_of r.oracle) (without_files old) (without_files new) core how → how ≢ session_end.Driven (drive_end.Ended (end.Budget need))
-  never_played scene within k core how course is same =
+  never_played need scene within k core how course is same =
       let so = subst (λ (h : SessionEnd). IsPlayed k (with_contents r.inputs trace) (oracle_of r.oracle) (without_files old) (without_files new) core h) same is in
       let all = sessions k (with_contents r.inputs trace) (oracle_of r.oracle) (without_files old) (without_files new) core (end.Budget need) c o so (λ w e. cc e) sides.0 sides.1 in
-      never_so scene within course.gives_up (sym (ap (λ (p : Play). p.stop) (course.plays (closed c) (closed o))) ∙ all.0)
+      never_so need scene within course.gives_up (sym (ap (λ (p : Play). p.stop) (course.plays (closed c) (closed o))) ∙ all.0)
 
-  never_done : (work : Work) (names : List (List ℕ)) (s : Status) → IsDone r trace (without_files old) (without_files new) work names s → WorkIsAffordable r c o work → s ≢ status.Ran (record { end = end.Budget need; at = at })
-  never_done _ _ _ (given.refused reason puts) within = λ e. cc e
-  never_done _ _ _ (given.written text same all) within = λ e. cc e
-  never_done _ _ _ (given.cut text same part) within = λ e. cc e
-  never_done _ _ _ (given.ran scene k core how course ahead played) within = λ e. never_played scene within k core how course played (ended_so how core.written need at e)
-  never_done _ _ _ (given.told n scene ps run same all) within = λ e. cc e
-  never_done _ _ _ (given.told_in_part n scene ps run same part) within = λ e. cc e
+  never_ran : (scene : Scene) → RunIsAffordable r scene (closed c) (closed o) → (k : Continuation) (core : CoreState State) (how : SessionEnd) (course : IsContinuationOf r scene k) →
+      IsPlayed k (with_contents r.inputs trace) (oracle_of r.oracle) (without_files old) (without_files new) core how → (e : End) (at : ℕ) → status_of how core.written ≡ status.Ran (record { end = e; at = at }) → IsGivenUpAt e → ⊥
+  never_ran scene within k core how course played (end.Budget need) at e given_up_at = never_played need scene within k core how course played (ended_so how core.written need at e)
+  never_ran scene within k core how course played end.Normal at e given_up_at = given_up_at
+  never_ran scene within k core how course played end.Limit at e given_up_at = given_up_at
+  never_ran scene within k core how course played end.Oracle at e given_up_at = given_up_at
+  never_ran scene within k core how course played end.Deadlock at e given_up_at = given_up_at
+  never_ran scene within k core how course played (end.Raise x) at e given_up_at = given_up_at
+  never_ran scene within k core how course played (end.Fault f) at e given_up_at = given_up_at
+  never_ran scene within k core how course played end.TooLarge at e given_up_at = given_up_at
+  never_ran scene within k core how course played (end.Malformed w f place) at e given_up_at = given_up_at
+  never_ran scene within k core how course played (end.Ended w n) at e given_up_at = given_up_at
+  never_ran scene within k core how course played (end.Device w) at e given_up_at = given_up_at
 
-pub never_given_up : PlaysKeepToTheirRules State → AffordableRunsAreTheSame State → AffordableInstantsAreNotGivenUp → UndisturbedSessionsAreWhole State → (r : Request) (contents : Contents) (c o : List ℕ) (answer : Answer) (asked names : List (List ℕ)) (old new : Outside Sources) (s : Status) (need at : ℕ) →
-    SidesTell r contents old.inputs.programs c o → Gives r contents answer asked old new names s → WorkIsAffordable r c o answer.work → s ≢ status.Ran (record { end = end.Budget need; at = at })
-never_given_up keep alike law sessions r contents c o answer asked names old new s need at sides (given.done ns t files is) within = never_done keep alike law sessions r contents.replay c o old new sides need at answer.work ns t is within
-never_given_up keep alike law sessions r contents c o answer asked names old new _ need at sides (given.by_file k some inside files puts) within = λ e. cc e
-never_given_up keep alike law sessions r contents c o answer asked names old new _ need at sides (given.by_memory k files puts) within = λ e. cc e
+  -- what was played isn't given up
+  never_by : (scene : Scene) → RunIsAffordable r scene (closed c) (closed o) → (k : Continuation) (core : CoreState State) (how : SessionEnd) (course : IsContinuationOf r scene k) →
+      IsPlayed k (with_contents r.inputs trace) (oracle_of r.oracle) (without_files old) (without_files new) core how → (s : Status) → status_of how core.written ≡ s → IsGivenUp s → ⊥
+  never_by scene within k core how course played (status.Ran ending) e given_up_at = never_ran scene within k core how course played ending.end ending.at e given_up_at
+  never_by scene within k core how course played (status.Checked v) e given_up_at = never_checked how core.written v e
+  never_by scene within k core how course played status.Done e given_up_at = given_up_at
+  never_by scene within k core how course played (status.Usage kind) e given_up_at = given_up_at
+  never_by scene within k core how course played (status.Refused reason) e given_up_at = given_up_at
+  never_by scene within k core how course played (status.Device what at) e given_up_at = given_up_at
+  never_by scene within k core how course played status.Memory e given_up_at = given_up_at
+
+  never_done : (work : Work) (names : List (List ℕ)) (s : Status) → IsDone r trace (without_files old) (without_files new) work names s → WorkIsAffordable r c o work → IsGivenUp s → ⊥
+  never_done _ _ _ (given.refused reason puts) within = λ e. e
+  never_done _ _ _ (given.written text same all) within = λ e. e
+  never_done _ _ _ (given.cut text same part) within = λ e. e
+  never_done _ _ _ (given.ran scene k core how course ahead played) within = never_by scene within k core how course played (status_of how core.written) refl
+  never_done _ _ _ (given.checked scene told v is same all) within = undecided v is
+    where
+      undecided : (w : Verdict) → IsVerdict scene r.budget told w → IsGivenUp (status.Checked w) → ⊥
+      undecided verdict.Legal it e = e
+      undecided (verdict.Illegal step) it e = e
+      undecided (verdict.TooMany step) it e = e
+      undecided (verdict.Budget need step) it e = within need step it
+  never_done _ _ _ (given.checked_in_part scene told v is same part) within = λ e. e
+  never_done _ _ _ (given.told n scene ps run same all) within = λ e. e
+  never_done _ _ _ (given.told_in_part n scene ps run same part) within = λ e. e
+
+pub never_given_up : PlaysKeepToTheirRules State → AffordableRunsAreTheSame State → AffordableInstantsAreNotGivenUp → UndisturbedSessionsAreWhole State → (r : Request) (contents : Contents) (c o : List ℕ) (answer : Answer) (asked names : List (List ℕ)) (old new : Outside Sources) (s : Status) →
+    SidesTell r contents old.inputs.programs c o → Gives r contents answer asked old new names s → WorkIsAffordable r c o answer.work → IsGivenUp s → ⊥
+never_given_up keep alike law sessions r contents c o answer asked names old new s sides (given.done ns t files is) within = never_done keep alike law sessions r contents.replay c o old new sides answer.work ns t is within
+never_given_up keep alike law sessions r contents c o answer asked names old new _ sides (given.by_file k some inside files puts) within = λ e. e
+never_given_up keep alike law sessions r contents c o answer asked names old new _ sides (given.by_memory k files puts) within = λ e. e

@@ -28,7 +28,11 @@ use Rattle.lt_session.specs.declared.session_end.SessionEnd.{SessionEnd}
 use Rattle.lt_session.specs.declared.session_end.SessionEnd.TheVariants as session_end
 use Rattle.lt_step.specs.Machine.{State}
 use Rattle.lt_term.specs.Scene.{Scene}
+use Rattle.lt_trace.specs.Told.{Told}
 use Rattle.lt_args.specs.Words.{Request}
+use Rattle.lt_legal.specs.Verdict.{IsVerdict}
+use Rattle.lt_legal.specs.declared.verdict.Verdict.{Verdict}
+use Rattle.lt_legal.specs.declared.verdict.Verdict.TheVariants as verdict
 use Rattle.lt_stress.specs.Laws.{LargeRunsAreOne}
 use Rattle.lt_stress.specs.Report.{stress_line}
 use Rattle.lt_stress.specs.Run.{IsRunOf, sum_told}
@@ -36,11 +40,12 @@ use Rattle.lt_call.specs.Call.{AreContents, GivesDue, IsCounted, IsText, IsTrace
 use Rattle.lt_loop.specs.InputSource.{InputSource, from_nobody, from_program, from_trace, with_contents}
 use Rattle.lt_call.specs.Run.{IsContinuationOf, oracle_of, run_of}
 use Rattle.lt_call.specs.Due as cause
-use Rattle.lt_call.specs.Due.{Answer, Contents, IsDue, Work, has_file, refuses, writes, plays, stresses}
+use Rattle.lt_call.specs.Due.{Answer, Contents, IsDue, Work, checks, has_file, refuses, writes, plays, stresses}
 use Rattle.lt_call.specs.Given as given
-use Rattle.lt_call.specs.Given.{Gives, IsDone, PutsNothing, status_of}
-use Rattle.lt_call.specs.Laws.{AffordableCallsAreNotGivenUp, AffordableCallsAreWhole, ContentsHaveOneDueAnswer, IsCutEarly, IsUnbroken, IsUncut, IsWhole, RefusalsAreExact, SameCallSameBytes, SidesTell, Tell, TellsText, TellsTrace, UncutCallsAreWhole, UndisturbedCallsAreUncut, WantOfMemoryWritesNothing}
+use Rattle.lt_call.specs.Given.{Gives, IsDone, PutsNothing, status_of, verdict_text}
+use Rattle.lt_call.specs.Laws.{AffordableCallsAreNotGivenUp, AffordableCallsAreWhole, ContentsHaveOneDueAnswer, IsCutEarly, IsDecided, IsGivenUp, IsGivenUpAt, IsUnbroken, IsUncut, IsWhole, RefusalsAreExact, SameCallSameBytes, SidesTell, Tell, TellsText, TellsTrace, UncutCallsAreWhole, UndisturbedCallsAreUncut, WantOfMemoryWritesNothing}
 use Rattle.lt_call.specs.Lines.{status_lines}
+use Rattle.lt_call.proofs.Verdicts.{verdicts_are_one}
 use Rattle.lt_call.proofs.Budgets.{never_given_up, nothing_given_up}
 use Rattle.lt_call.specs.declared.status.Status.{Status}
 use Rattle.lt_call.specs.declared.status.Status.TheVariants as status
@@ -120,6 +125,8 @@ done_whole law r trace c o work names old new s (given.refused reason puts) u te
 done_whole law r trace c o work names old new s (given.written text same all) u tell = (refl, refl, all)
 done_whole law r trace c o work names old new s (given.cut text same part) u tell = absurd u
 done_whole law r trace c o work names old new s (given.ran scene k core how course ahead is) u tell = played_whole law r trace c o scene k core how old new course ahead is u tell
+done_whole law r trace c o work names old new s (given.checked scene told v is same all) u tell = (v, is, refl, refl, all, same)
+done_whole law r trace c o work names old new s (given.checked_in_part scene told v is same part) u tell = absurd u
 done_whole law r trace c o work names old new s (given.told n scene ps run same all) u tell = (ps, run, refl, refl, all, same)
 done_whole law r trace c o work names old new s (given.told_in_part n scene ps run same part) u tell = absurd u
 
@@ -135,12 +142,13 @@ uncut_calls_are_whole due law r contents told names asked old new s c o answer t
 
 -- Where the budget affords the searches, no instant is given up, and only want of memory is left.
 pub affordable_calls_are_not_given_up : ContentsHaveOneDueAnswer → PlaysKeepToTheirRules State → AffordableRunsAreTheSame State → AffordableInstantsAreNotGivenUp → UndisturbedSessionsAreWhole State → AffordableCallsAreNotGivenUp
-affordable_calls_are_not_given_up due keep alike law whole r contents told names asked old new s c o answer need at tell gives sides is within =
-    never_given_up keep alike law whole r contents c o answer asked names old new s need at sides (gives_this due r contents told asked names old new s answer tell gives is) within
+affordable_calls_are_not_given_up due keep alike law whole r contents told names asked old new s c o answer tell gives sides is within =
+    never_given_up keep alike law whole r contents c o answer asked names old new s sides (gives_this due r contents told asked names old new s answer tell gives is) within
 
 memory_or_not : (s : Status) → (s ≡ status.Memory) ⊎ (s ≢ status.Memory)
 memory_or_not status.Done = inr (λ e. cc e)
 memory_or_not (status.Ran ending) = inr (λ e. cc e)
+memory_or_not (status.Checked v) = inr (λ e. cc e)
 memory_or_not (status.Usage kind) = inr (λ e. cc e)
 memory_or_not (status.Refused reason) = inr (λ e. cc e)
 memory_or_not (status.Device what at) = inr (λ e. cc e)
@@ -152,7 +160,7 @@ affordable_calls_are_whole spared uncut whole want r contents told names asked o
     by_memory : (s ≡ status.Memory) ⊎ (s ≢ status.Memory) → IsWhole r contents.replay c o answer.work names old new s ⊎ ((s ≡ status.Memory) × Keeps old.trace.written new.trace.written)
     by_memory (inl e) = inr (e, want r told names asked old new (subst (λ (t : Status). GivesDue r told asked old new names t) e gives))
     by_memory (inr lasts) =
-        let never : (need at : ℕ) → s ≢ status.Ran (record { end = end.Budget need; at = at }) = λ need at. spared r contents told names asked old new s c o answer need at tell gives sides is within in
+        let never : IsGivenUp s → ⊥ = spared r contents told names asked old new s c o answer tell gives sides is within in
         inl (whole r contents told names asked old new s c o answer tell gives (uncut s old new counts calm lasts never) sides is)
 
 -- Two calls.
@@ -172,51 +180,68 @@ abbrev bytes_of : (r : Request) (trace c o : List ℕ) (work : Work) (names : Li
 bytes_of r trace c o (refuses reason) names old new s h = []
 bytes_of r trace c o (writes text) names old new s h = text
 bytes_of r trace c o (plays scene) names old new s h = text_to destination.Trace (run_of r scene None (told_streams.closed c) (told_streams.closed o)).pieces
+bytes_of r trace c o (checks scene told) names old new s h = verdict_text told h.0
 bytes_of r trace c o (stresses n scene) names old new s h = stress_line n (sum_told h.0)
 
 whole_bytes : (r : Request) (trace c o : List ℕ) (work : Work) (names : List (List ℕ)) (old new : Outside Sources) (s : Status) (before now : List ℕ) → old.trace.written ≡ Some before → new.trace.written ≡ Some now → (h : IsWhole r trace c o work names old new s) → now ≡ before ++ bytes_of r trace c o work names old new s h
 whole_bytes r trace c o (refuses reason) names old new s before now e f h = keeps_all old.trace.written new.trace.written before now e f h.2.trace
 whole_bytes r trace c o (writes text) names old new s before now e f h = appends_all old.trace.written new.trace.written before now text e f h.2
 whole_bytes r trace c o (plays scene) names old new s before now e f h = appends_all old.trace.written new.trace.written before now _ e f h.4
+whole_bytes r trace c o (checks scene told) names old new s before now e f h = appends_all old.trace.written new.trace.written before now _ e f h.4
 whole_bytes r trace c o (stresses n scene) names old new s before now e f h = appends_all old.trace.written new.trace.written before now _ e f h.4
 
--- The work leaves no choice: where it is a large run, there is one such run at most. All other work is such.
-abbrev IsDetermined : Work → Type 0
-IsDetermined (stresses n scene) = (ps qs : List Piece) → IsRunOf n scene ps end.Limit → IsRunOf n scene qs end.Limit → ps ≡ qs
-IsDetermined _ = Unit {0}
+-- The work leaves no choice: where it is a large run, there is one such run at most; where it is a check, one verdict but for
+-- those of a budget. All other work is such.
+abbrev IsDetermined : ℕ → Work → Type 0
+IsDetermined budget (stresses n scene) = (ps qs : List Piece) → IsRunOf n scene ps end.Limit → IsRunOf n scene qs end.Limit → ps ≡ qs
+IsDetermined budget (checks scene told) = (v w : Verdict) → IsVerdict scene budget told v → IsVerdict scene budget told w → IsDecided v → IsDecided w → v ≡ w
+IsDetermined budget _ = Unit {0}
 
 -- work that is due leaves none
-determined : LargeRunsAreOne → (r : Request) (contents : Contents) (answer : Answer) → IsDue r contents answer → IsDetermined answer.work
+determined : LargeRunsAreOne → (r : Request) (contents : Contents) (answer : Answer) → IsDue r contents answer → IsDetermined r.budget answer.work
 determined law r contents _ (cause.too_long has long) = tt
 determined law r contents _ (cause.no_scenario reason mode short is) = tt
 determined law r contents _ (cause.too_many_atoms scene mode short is many) = tt
 determined law r contents _ (cause.unserved scene mode short is few served) = tt
 determined law r contents _ (cause.long_trace scene name mode short is few served inputs long) = tt
 determined law r contents _ (cause.runs scene mode short is few served trace) = tt
+determined law r contents _ (cause.long_checked scene name mode short is few inputs long) = tt
+determined law r contents _ (cause.bad_trace scene n mode short is few trace bad) = tt
+determined law r contents _ (cause.checked scene told mode short is few trace read) = verdicts_are_one scene r.budget told
 determined law r contents _ (cause.unprinted reason mode short is) = tt
 determined law r contents _ (cause.prints text mode short is) = tt
 determined law r contents _ (cause.stressed n scene mode is) = λ ps qs h k. (law n scene ps qs end.Limit end.Limit is h k).0
 
+-- a verdict of a call that isn't cut is decided
+decided : (s : Status) (v : Verdict) → s ≡ status.Checked v → IsUncut s → IsDecided v
+decided s v e u = subst IsUncut e u
+
+one_verdict : (r : Request) (scene : Scene) (told : Told) (s s' : Status) (v w : Verdict) → IsDetermined r.budget (checks scene told) → IsVerdict scene r.budget told v → IsVerdict scene r.budget told w → s ≡ status.Checked v → s' ≡ status.Checked w → IsUncut s → IsUncut s' → w ≡ v
+one_verdict r scene told s s' v w one is also e f u u' = one w v also is (decided s' w f u') (decided s v e u)
+
 -- work that leaves no choice has the same bytes each time
-same_bytes : (r : Request) (trace c o : List ℕ) (work : Work) (names names' : List (List ℕ)) (old new old' new' : Outside Sources) (s s' : Status) → IsDetermined work → (h : IsWhole r trace c o work names old new s) (k : IsWhole r trace c o work names' old' new' s') →
+same_bytes : (r : Request) (trace c o : List ℕ) (work : Work) (names names' : List (List ℕ)) (old new old' new' : Outside Sources) (s s' : Status) → IsDetermined r.budget work → IsUncut s → IsUncut s' → (h : IsWhole r trace c o work names old new s) (k : IsWhole r trace c o work names' old' new' s') →
     bytes_of r trace c o work names' old' new' s' k ≡ bytes_of r trace c o work names old new s h
-same_bytes r trace c o (refuses reason) names names' old new old' new' s s' one h k = refl
-same_bytes r trace c o (writes text) names names' old new old' new' s s' one h k = refl
-same_bytes r trace c o (plays scene) names names' old new old' new' s s' one h k = refl
-same_bytes r trace c o (stresses n scene) names names' old new old' new' s s' one h k =
+same_bytes r trace c o (refuses reason) names names' old new old' new' s s' one u u' h k = refl
+same_bytes r trace c o (writes text) names names' old new old' new' s s' one u u' h k = refl
+same_bytes r trace c o (plays scene) names names' old new old' new' s s' one u u' h k = refl
+same_bytes r trace c o (checks scene told) names names' old new old' new' s s' one u u' h k = ap (verdict_text told) (one_verdict r scene told s s' h.0 k.0 one h.1 k.1 h.2 k.2 u u')
+same_bytes r trace c o (stresses n scene) names names' old new old' new' s s' one u u' h k =
     ap (λ (ps : List Piece). stress_line n (sum_told ps)) (one k.0 h.0 k.1 h.1)
 
 same_end : (s : Stop) (e f : End) → s ≡ ends e → s ≡ ends f → e ≡ f
 same_end s e f h k = let both : ends e ≡ ends f = sym h ∙ k in cc
 
-same_status : (r : Request) (trace c o : List ℕ) (work : Work) (names names' : List (List ℕ)) (old new old' new' : Outside Sources) (s s' : Status) → IsDetermined work → IsWhole r trace c o work names old new s → IsWhole r trace c o work names' old' new' s' → (s ≡ s') × (names ≡ names')
-same_status r trace c o (refuses reason) names names' old new old' new' s s' one h k = (h.0 ∙ sym k.0, h.1 ∙ sym k.1)
-same_status r trace c o (writes text) names names' old new old' new' s s' one h k = (h.0 ∙ sym k.0, h.1 ∙ sym k.1)
-same_status r trace c o (plays scene) names names' old new old' new' s s' one h k =
+same_status : (r : Request) (trace c o : List ℕ) (work : Work) (names names' : List (List ℕ)) (old new old' new' : Outside Sources) (s s' : Status) → IsDetermined r.budget work → IsUncut s → IsUncut s' → IsWhole r trace c o work names old new s → IsWhole r trace c o work names' old' new' s' → (s ≡ s') × (names ≡ names')
+same_status r trace c o (refuses reason) names names' old new old' new' s s' one u u' h k = (h.0 ∙ sym k.0, h.1 ∙ sym k.1)
+same_status r trace c o (writes text) names names' old new old' new' s s' one u u' h k = (h.0 ∙ sym k.0, h.1 ∙ sym k.1)
+same_status r trace c o (checks scene told) names names' old new old' new' s s' one u u' h k =
+    (h.2 ∙ ap (λ (v : Verdict). status.Checked v) (sym (one_verdict r scene told s s' h.0 k.0 one h.1 k.1 h.2 k.2 u u')) ∙ sym k.2, h.3 ∙ sym k.3)
+same_status r trace c o (plays scene) names names' old new old' new' s s' one u u' h k =
     let steps = step_count (run_of r scene None (told_streams.closed c) (told_streams.closed o)).pieces in
     let e : h.0 ≡ k.0 = same_end (run_of r scene None (told_streams.closed c) (told_streams.closed o)).stop h.0 k.0 h.1 k.1 in
     (h.2 ∙ ap (λ x. status.Ran (record { end = x; at = end_number x steps })) e ∙ sym k.2, h.3 ∙ sym k.3)
-same_status r trace c o (stresses n scene) names names' old new old' new' s s' one h k =
+same_status r trace c o (stresses n scene) names names' old new old' new' s s' one u u' h k =
     (h.2 ∙ sym k.2, h.3 ∙ sym k.3)
 
 pub same_call_same_bytes : ContentsHaveOneDueAnswer → UncutCallsAreWhole → LargeRunsAreOne → SameCallSameBytes
@@ -225,8 +250,8 @@ same_call_same_bytes due law large r contents told told' names names' asked aske
     let first = law r contents told names asked old new s c o answer.0 tell gives u sides answer.1 in
     let second = law r contents told' names' asked' old' new' s' c o answer.0 tell' gives' u' sides' answer.1 in
     let det = determined large r contents answer.0 answer.1 in
-    let same = same_status r contents.replay c o answer.0.work names names' old new old' new' s s' det first second in
-    let bytes = same_bytes r contents.replay c o answer.0.work names names' old new old' new' s s' det first second in (
+    let same = same_status r contents.replay c o answer.0.work names names' old new old' new' s s' det u u' first second in
+    let bytes = same_bytes r contents.replay c o answer.0.work names names' old new old' new' s s' det u u' first second in (
       same.0,
       ap (λ ns. status_lines ns s) same.1 ∙ ap (status_lines names') same.0,
       (
@@ -243,6 +268,8 @@ refusal_done r trace work reason names old new s e (given.refused other puts) = 
 refusal_done r trace work reason names old new s e (given.written text same all) = absurd (cc)
 refusal_done r trace work reason names old new s e (given.cut text same part) = absurd (cc)
 refusal_done r trace work reason names old new s e (given.ran scene k core how course ahead is) = absurd (cc)
+refusal_done r trace work reason names old new s e (given.checked scene told v is same all) = absurd (cc)
+refusal_done r trace work reason names old new s e (given.checked_in_part scene told v is same part) = absurd (cc)
 refusal_done r trace work reason names old new s e (given.told n scene ps run same all) = absurd (cc)
 refusal_done r trace work reason names old new s e (given.told_in_part n scene ps run same part) = absurd (cc)
 
@@ -267,7 +294,7 @@ no_side who.Controller at before now none counts = none counts
 no_side who.Oracle at before now none counts = none counts
 
 calm_end : (e : End) (at : ℕ) (old new : Outside Sources) → ((what : Device) → IsCounted what (blames (status.Ran (record { end = e; at = at })) what) (faults_of what old) (faults_of what new)) → ((what : Device) → Rose (faults_of what old) (faults_of what new) → ⊥) →
-    ((need n : ℕ) → status.Ran (record { end = e; at = at }) ≢ status.Ran (record { end = end.Budget need; at = n })) → IsUnbroken e
+    (IsGivenUpAt e → ⊥) → IsUnbroken e
 calm_end (end.Device w) at old new counts none spared = no_side w at old.inputs.programs.faults new.inputs.programs.faults (none (device.Program w)) (counts (device.Program w))
 calm_end end.Normal at old new counts none spared = tt
 calm_end end.Limit at old new counts none spared = tt
@@ -278,11 +305,15 @@ calm_end (end.Fault f) at old new counts none spared = tt
 calm_end end.TooLarge at old new counts none spared = tt
 calm_end (end.Malformed v f place) at old new counts none spared = tt
 calm_end (end.Ended v n) at old new counts none spared = tt
-calm_end (end.Budget n) at old new counts none spared = absurd (spared n at refl)
+calm_end (end.Budget n) at old new counts none spared = absurd (spared tt)
 
 pub undisturbed_calls_are_uncut : UndisturbedCallsAreUncut
 undisturbed_calls_are_uncut status.Done old new counts none lasts spared = tt
 undisturbed_calls_are_uncut (status.Ran ending) old new counts none lasts spared = calm_end ending.end ending.at old new counts none spared
+undisturbed_calls_are_uncut (status.Checked verdict.Legal) old new counts none lasts spared = tt
+undisturbed_calls_are_uncut (status.Checked (verdict.Illegal step)) old new counts none lasts spared = tt
+undisturbed_calls_are_uncut (status.Checked (verdict.TooMany step)) old new counts none lasts spared = tt
+undisturbed_calls_are_uncut (status.Checked (verdict.Budget need step)) old new counts none lasts spared = spared tt
 undisturbed_calls_are_uncut (status.Usage kind) old new counts none lasts spared = tt
 undisturbed_calls_are_uncut (status.Refused reason) old new counts none lasts spared = tt
 undisturbed_calls_are_uncut (status.Device device.File at) old new counts none lasts spared = none device.File (counts device.File)

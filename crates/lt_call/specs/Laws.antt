@@ -1,5 +1,8 @@
 -- What follows for whole calls.
 use Rattle.std.specs.Prelude.{◌≡◌, ◌≢◌, ℕ, ◌⊎◌, Bool, true, false, List, [], ◌++◌, None, Some}
+use Rattle.lt_legal.specs.Verdict.{IsVerdict}
+use Rattle.lt_legal.specs.declared.verdict.Verdict.{Verdict}
+use Rattle.lt_legal.specs.declared.verdict.Verdict.TheVariants as verdict
 use Rattle.lt_rif.specs.Trace.{end_number}
 use Rattle.std.specs.Io.KnownBytes.{Appends, Keeps}
 use Rattle.std.specs.declared.option.Option.{Option}
@@ -24,8 +27,8 @@ use Rattle.lt_args.specs.Words.{Request}
 use Rattle.lt_call.specs.Call.{GivesDue, IsCounted, blames}
 use Rattle.lt_loop.specs.InputSource.{InputSource, from_trace, with_contents}
 use Rattle.lt_call.specs.Run.{RunIsAffordable, oracle_of, plan_of, run_of}
-use Rattle.lt_call.specs.Due.{Answer, Contents, IsDue, Work, refuses, writes, plays, stresses, has_file}
-use Rattle.lt_call.specs.Given.{PutsNothing}
+use Rattle.lt_call.specs.Due.{Answer, Contents, IsDue, Work, checks, refuses, writes, plays, stresses, has_file}
+use Rattle.lt_call.specs.Given.{PutsNothing, verdict_text}
 use Rattle.lt_call.specs.Lines.{status_lines}
 use Rattle.lt_call.specs.declared.status.Status.{Status}
 use Rattle.lt_call.specs.declared.status.Status.TheVariants as status
@@ -66,11 +69,17 @@ IsUnbroken (end.Device w) = ⊥
 IsUnbroken (end.Budget need) = ⊥
 IsUnbroken _ = Unit {0}
 
--- no device failed, memory lasted, and no instant was given up
+-- no search of a check was given up
+abbrev pub IsDecided : Verdict → Type 0
+IsDecided (verdict.Budget need step) = ⊥
+IsDecided _ = Unit {0}
+
+-- no device failed, memory lasted, and no instant or search was given up
 abbrev pub IsUncut : Status → Type 0
 IsUncut (status.Device what at) = ⊥
 IsUncut status.Memory = ⊥
 IsUncut (status.Ran ending) = IsUnbroken ending.end
+IsUncut (status.Checked v) = IsDecided v
 IsUncut _ = Unit {0}
 
 -- Work is done whole, where this is the earlier trace, and these bytes come of the two sides: its status, the names of its
@@ -84,6 +93,9 @@ IsWhole request trace c o (plays scene) names old new s =
     × (names ≡ scene.exceptions)
     × Appends old.trace.written new.trace.written (text_to destination.Trace (run_of request scene None (closed c) (closed o)).pieces)
     × AreSent (with_contents request.inputs trace) (oracle_of request.oracle) (run_of request scene None (closed c) (closed o)).pieces 0 0 old.inputs.programs new.inputs.programs
+IsWhole request trace c o (checks scene told) names old new s =
+    (v : Verdict) × IsVerdict scene request.budget told v × (s ≡ status.Checked v) × (names ≡ [])
+    × Appends old.trace.written new.trace.written (verdict_text told v) × Same old.inputs.programs new.inputs.programs
 IsWhole request trace c o (stresses n scene) names old new s =
     (ps : List Piece) × IsRunOf n scene ps end.Limit × (s ≡ status.Done) × (names ≡ [])
     × Appends old.trace.written new.trace.written (stress_line n (sum_told ps)) × Same old.inputs.programs new.inputs.programs
@@ -121,29 +133,41 @@ RefusalsAreExact =
     Tell request told contents → GivesDue request told asked old new names s → IsDue request contents (record { work = refuses reason; files = files }) →
     PutsNothing (without_files old) (without_files new) × ((s ≡ status.Refused reason) ⊎ IsCutEarly s)
 
--- Where no device's count of faults rose, memory didn't run out, and no instant was given up, a call isn't cut.
+-- an instant of a run was given up
+abbrev pub IsGivenUpAt : End → Type 0
+IsGivenUpAt (end.Budget need) = Unit {0}
+IsGivenUpAt _ = ⊥
+
+-- an instant of a run was given up, or a search of a check
+abbrev pub IsGivenUp : Status → Type 0
+IsGivenUp (status.Ran ending) = IsGivenUpAt ending.end
+IsGivenUp (status.Checked (verdict.Budget need step)) = Unit {0}
+IsGivenUp _ = ⊥
+
+-- Where no device's count of faults rose, memory didn't run out, and nothing was given up, a call isn't cut.
 abbrev pub UndisturbedCallsAreUncut : Type 0
 UndisturbedCallsAreUncut =
     (s : Status) (old new : Outside Sources) → ((what : Device) → IsCounted what (blames s what) (faults_of what old) (faults_of what new)) →
     ((what : Device) → Rose (faults_of what old) (faults_of what new) → ⊥) → s ≢ status.Memory →
-    ((need at : ℕ) → s ≢ status.Ran (record { end = end.Budget need; at = at })) → IsUncut s
+    (IsGivenUp s → ⊥) → IsUncut s
 
--- the run of work, if it is one of a scenario, affords its searches on these streams
+-- the run of work, if it is one of a scenario, affords its searches on these streams; and no search of a check may be given up
 abbrev pub WorkIsAffordable : Request → List ℕ → List ℕ → Work → Type 0
 WorkIsAffordable request c o (plays scene) = RunIsAffordable request scene (closed c) (closed o)
+WorkIsAffordable request c o (checks scene told) =
+    (need step : ℕ) → IsVerdict scene request.budget told (verdict.Budget need step) → ⊥
 WorkIsAffordable request c o other = Unit {0}
 
--- Where files and sides tell what they have, and each leaf at which the draws of the run arrive has a
--- need within the budget, a call gives no instant up.
+-- Where files and sides tell what they have, and each leaf at which the draws of the run arrive, or that a check asks, has a
+-- need within the budget, a call gives nothing up.
 abbrev pub AffordableCallsAreNotGivenUp : Type 0
 AffordableCallsAreNotGivenUp =
     (request : Request) (contents : Contents) (told : List ℕ → Option (List ℕ))
     (names asked : List (List ℕ)) (old new : Outside Sources) (s : Status) (c o : List ℕ)
-    (answer : Answer) (need at : ℕ) →
+    (answer : Answer) →
     Tell request told contents → GivesDue request told asked old new names s →
     SidesTell request contents old.inputs.programs c o → IsDue request contents answer →
-    WorkIsAffordable request c o answer.work →
-    s ≢ status.Ran (record { end = end.Budget need; at = at })
+    WorkIsAffordable request c o answer.work → IsGivenUp s → ⊥
 
 -- Where, besides, no device's count of faults rose, a call does its work whole, or memory ran out and
 -- nothing was written.

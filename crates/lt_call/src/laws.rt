@@ -9,6 +9,7 @@ use lt_loop::{affordable_runs_are_the_same, budgets_have_a_cause, plays_keep_to_
 use lt_play::Player;
 use lt_session::{cut_sessions_are_fronts, plays_never_break, undisturbed_sessions_are_whole};
 use lt_stress::{large_runs_are_one, numbers_have_scenes};
+use lt_trace::texts_have_one_reading;
 
 /// One answer is due to a request and the contents of its files.
 pub fn contents_have_one_due_answer()
@@ -16,6 +17,7 @@ pub fn contents_have_one_due_answer()
 {
     texts_have_one_scenario_answer();
     texts_have_one_printed_answer();
+    texts_have_one_reading();
     numbers_have_scenes();
 }
 

@@ -1,17 +1,19 @@
 //! The call of lurette: from its words to its status.
 //!
 //! [`lurette`] is the whole call, over any files, programs and sinks: it reads the scenario that its words name, runs it
-//! beside a controller and an oracle, or prints it, or makes a large run from a number, writes the trace, and says what went
-//! wrong. `specs/Call.antt` says what it does. [`program`] is the same down to
+//! beside a controller and an oracle, or prints it, or checks a trace by it, or makes a large run from a number, writes the
+//! trace, and says what went wrong. `specs/Call.antt` says what it does. [`program`] is the same down to
 //! the number that a program ends with, and [`start`] hands it the system.
 #![tactic(auto)]
 
 mod call_result;
+mod check;
 mod laws;
 mod print;
 mod put;
 mod run;
 mod say;
+mod scenario;
 mod status;
 mod stress;
 mod system;
