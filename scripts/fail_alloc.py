@@ -6,7 +6,8 @@ Where memory runs out a call ends with the status 11 and its line, and nothing w
 before. So each call of `memory_calls.py` is made once for each of its allocations, which fails, and
 must end so, or as it does where none fails. For each call a line says how many allocations it has,
 how many of them end it, and which of them make no difference. A finding is any other end, a fault
-or a call that hangs: it is told with the number of its allocation.
+or a call that hangs: it is told with the number of its allocation. A call that is told how many
+steps it makes is also made for ten times as many: a finding is that it has more allocations then.
 
 Nothing is proved of the program: `rt try` builds it of the source as it stands, with checks that
 stop it at an overflow or a bad access. That takes some minutes, and once is enough: the number of
@@ -156,7 +157,7 @@ class Program:
 
     def prepare(self, call):
         """Writes the files of a call."""
-        for name in (*memory_calls.FILES, "f", "earlier"):
+        for name in (*memory_calls.FILES, "f", "g", "earlier"):
             remove(os.path.join(self.folder, name))
         for name, text in {**memory_calls.FILES, **call.files}.items():
             write(os.path.join(self.folder, name), text.encode())
@@ -209,6 +210,14 @@ def fault_of(found, usual):
     return None
 
 
+def longer(words):
+    """The words of a call for ten times as many steps; none where it isn't told how many."""
+    if "-l" not in words:
+        return None
+    at = words.index("-l") + 1
+    return [*words[:at], f"{words[at]}0", *words[at + 1 :]]
+
+
 def spans(numbers):
     """Numbers that rise, in short: 1, 2, 3 and 7 are `1-3 7`."""
     found = []
@@ -241,6 +250,17 @@ def report(call, outcomes, usual):
     return findings
 
 
+def try_steps(call, program, count):
+    """Makes a call with so many allocations for more steps, and returns how many findings come."""
+    words = longer(call.words)
+    if words is None or program.outcome(words).status != call.status:
+        return 0
+    found = last_that(lambda number: program.stops_at(words, number))
+    if found != count:
+        print(f"{call.name}: for ten times as many steps it has {found} allocations", flush=True)
+    return int(found != count)
+
+
 def try_call(call, programs, pool):
     """Makes a call for each of its allocations, and returns how many findings there are."""
     for it in programs:
@@ -250,6 +270,7 @@ def try_call(call, programs, pool):
         print(f"{call.name}: ends with {usual}", flush=True)
         return 1
     count = last_that(lambda number: programs[0].stops_at(call.words, number))
+    findings = try_steps(call, programs[0], count)
     part = lambda first: [
         programs[first].outcome(call.words, number)
         for number in range(first + 1, count + 1, len(programs))
@@ -257,7 +278,7 @@ def try_call(call, programs, pool):
     outcomes = [None] * count
     for first, found in enumerate(pool.map(part, range(len(programs)))):
         outcomes[first :: len(programs)] = found
-    return report(call, outcomes, usual)
+    return findings + report(call, outcomes, usual)
 
 
 def try_calls(kept, chosen, jobs, jump):

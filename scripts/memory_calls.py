@@ -70,6 +70,8 @@ FULL_SUT = ["--node", "beside", "--sut", "./side got.controller t 3 0.25"]
 NODE = "node n() returns (b: bool) = "
 INT = "node n() returns (i: int [0; 9] = 7) = "
 INPUT = "node n(a: bool) returns (b: bool) = loop b"
+# Leaves of which it has to be known which ones are live.
+CHOOSING = NODE + "exist i: int [0; 9] in loop { { b and i > 3 | i = 2 } |> not b }"
 # One side of a conjunct has 17 atoms.
 ATOMS = "node n() returns (i: int [0; 99]) = " + " or ".join(f"i = {it}" for it in range(17))
 # 17 choices of two, side by side, have over 2^17 leaves.
@@ -113,7 +115,7 @@ CALLS = (
     Call("ended", ["run", "f", "--replay", "earlier"], 8, {"f": INPUT, "earlier": "t t\nf"}),
     on("budget", pigeons(10, 9), 10),
     on("toolarge", LARGE, 14),
-    # Checks. Each of the first three checks a trace that a run wrote before.
+    # Checks. Each of the first four checks a trace that a run wrote before.
     Call("check", ["check", "full", "--replay", "earlier"], 0, earlier=[*ALONE, "--locals"]),
     Call(
         "check, all beside a controller",
@@ -126,6 +128,13 @@ CALLS = (
         ["check", "room", "--replay", "earlier"],
         0,
         earlier=[*BESIDE, "--locals", *SUT],
+    ),
+    Call(
+        "check where leaves are searched",
+        ["check", "f", "--replay", "earlier"],
+        0,
+        {"f": CHOOSING},
+        "run f -l 3 --locals".split(),
     ),
     on_trace("illegal", INT + "{ i < 5 |> i = 7 }", 12, "7 #outs #locs"),
     on_trace("a check of a deadlock", INT + "i = 7 fby i > 9", 0, "7 #outs #locs", "deadlock 2"),

@@ -74,7 +74,7 @@ class Calls(unittest.TestCase):
 
     def test_each_status_is_that_of_some_call(self):
         statuses = {it.status for it in memory_calls.CALLS}
-        self.assertEqual(statuses, {0, 1, 2, 3, 4, 5, 6, 7, 8, 9, 10, 12, 14})
+        self.assertEqual(statuses, {*range(11), 12, 14})
 
 
 if __name__ == "__main__":
