@@ -17,6 +17,8 @@ import itertools
 import sys
 from collections import namedtuple
 
+import traces
+
 # -- The words of a seed ---------------------------------------------------------------------------
 
 SLOTS = 1 << 24
@@ -438,20 +440,8 @@ def steps_of(scenario, controller, limit, draws=Draws(), instance=Instance):
     return steps, f"limit {limit}"
 
 
-def written(kind, value, decimals=2):
-    """A value as a trace has it."""
-    if value is None:
-        return "?"
-    if kind == "bool":
-        return "ft"[value]
-    if kind == "int" or decimals == 0:
-        return str(value)
-    whole, rest = divmod(abs(value), 10**decimals)
-    return f"{'-' if value < 0 else ''}{whole}.{rest:0{decimals}}"
-
-
 def row_of(variables, values, decimals=2):
-    return [written(it.kind, value, decimals) for it, value in zip(variables, values)]
+    return [traces.written(it.kind, value, decimals) for it, value in zip(variables, values)]
 
 
 def declared_words(variables):

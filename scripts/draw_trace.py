@@ -6,128 +6,17 @@
 What is no trace is refused with the number of its line, and the status 2.
 """
 
-import re
 import sys
-from collections import namedtuple
 from xml.sax.saxutils import escape
 
-Variable = namedtuple("Variable", "name kind role")
-# A trace: its seed, its variables, and each step's values in their order, where `?` is None.
-Trace = namedtuple("Trace", "seed variables steps end")
-
-DECLARED = re.compile(r'"([^"\s]+)":(bool|int|real)')
-VALUES = {
-    "bool": re.compile(r"[ft]"),
-    "int": re.compile(r"-?[0-9]+"),
-    "real": re.compile(r"-?[0-9]+(\.[0-9]+)?"),
-}
-ROLES = ("#inputs", "#outputs", "#locals")
-# What stands in a step's line before the values of each role.
-MARKS = {"#outputs": "#outs", "#locals": "#locs"}
-
-
-class NoTrace(Exception):
-    """Why a text is no trace, with the number of the line."""
-
-
-# -- Reading --------------------------------------------------------------------------------------
-
-
-class Lines:
-    """The lines of a text, taken one after another."""
-
-    def __init__(self, text):
-        self.lines, self.at = text.split("\n"), 0
-
-    def peek(self):
-        return self.lines[self.at] if self.at < len(self.lines) else ""
-
-    def take(self):
-        self.at += 1
-        return self.lines[self.at - 1] if self.at <= len(self.lines) else ""
-
-    def wrong(self, wanted):
-        return NoTrace(f"line {self.at}: {wanted}")
-
-
-def rest_of(lines, beginning):
-    """What stands in the next line behind what it has to begin with."""
-    line = lines.take()
-    if line != beginning and not line.startswith(beginning + " "):
-        raise lines.wrong(f"{beginning} is expected here")
-    return line[len(beginning) + 1 :]
-
-
-def declared(lines, role):
-    """The variables that a line of the header declares."""
-    words = rest_of(lines, role).split()
-    matches = [DECLARED.fullmatch(it) for it in words]
-    if None in matches:
-        raise lines.wrong(f'{words[matches.index(None)]} is not "NAME":KIND')
-    return [Variable(it[1], it[2], role) for it in matches]
-
-
-def value_of(lines, variable, word):
-    """The value that a word writes: a truth, a number, or None for a local out of scope."""
-    if word == "?" and variable.role == "#locals":
-        return None
-    if not VALUES[variable.kind].fullmatch(word):
-        raise lines.wrong(f"{word} is no value of {variable.name}")
-    return word == "t" if variable.kind == "bool" else float(word)
-
-
-def step_of(lines, variables, number):
-    """The values of a step, which takes two lines."""
-    if rest_of(lines, "#step") != str(number):
-        raise lines.wrong(f"#step {number} is expected here")
-    words, values, role = lines.take().split(), [], "#inputs"
-    roles = [it.role for it in variables]
-    for due in (*variables, None):
-        # Each part of the line begins with its mark, also where no value is in it.
-        while role != (due.role if due else last_role(roles)):
-            role = ROLES[ROLES.index(role) + 1]
-            if words[:1] != [MARKS[role]]:
-                raise lines.wrong(f"{MARKS[role]} is expected here")
-            words.pop(0)
-        if due:
-            if not words or words[0] in MARKS.values():
-                raise lines.wrong(f"a value of {due.name} is missing")
-            values.append(value_of(lines, due, words.pop(0)))
-    if words:
-        raise lines.wrong(f"{words[0]} is too much")
-    return values
-
-
-def last_role(roles):
-    return "#locals" if "#locals" in roles else "#outputs"
-
-
-def trace_of(text):
-    """The trace that a text is."""
-    lines = Lines(text)
-    seed = rest_of(lines, "#seed")
-    if not re.fullmatch("[0-9]+", seed):
-        raise lines.wrong("#seed S is expected here")
-    if lines.peek() in ("#draw 2", "#draw 3"):
-        lines.take()
-    variables = declared(lines, "#inputs") + declared(lines, "#outputs")
-    if lines.peek().startswith("#locals"):
-        variables += declared(lines, "#locals")
-    steps = []
-    while lines.peek().startswith("#step"):
-        steps.append(step_of(lines, variables, len(steps) + 1))
-    end = rest_of(lines, "#end")
-    if not re.fullmatch(r"\S.* [0-9]+", end):
-        raise lines.wrong("#end WHY K is expected here")
-    if lines.take():
-        raise lines.wrong("nothing comes after the end")
-    return Trace(seed, variables, steps, end)
+import traces
+from traces import ROLES
 
 
 def bad_step(trace):
     """The number of the last step where it was judged false, or None."""
-    words = trace.end.split()
-    return int(words[1]) if words[0] == "oracle" else None
+    why, number = traces.why_and_number(trace)
+    return number if why == "oracle" else None
 
 
 # -- A picture ------------------------------------------------------------------------------------
@@ -279,8 +168,8 @@ def main(words):
         return 2
     try:
         with open(files[0], encoding="utf-8") as file:
-            trace = trace_of(file.read())
-    except (OSError, UnicodeDecodeError, NoTrace) as why:
+            trace = traces.with_values(traces.trace_of(file.read()))
+    except (OSError, UnicodeDecodeError, traces.NoTrace) as why:
         print(f"draw_trace: {files[0]}: {why}", file=sys.stderr)
         return 2
     sys.stdout.write(waves_of(trace) if is_vcd else picture_of(trace))

@@ -14,6 +14,8 @@ TOP = os.path.dirname(os.path.dirname(os.path.abspath(__file__)))
 Word = namedtuple("Word", "name operand meaning")
 
 MODES = ("run", "print", "check", "stress")
+# What the script takes in place of a mode: each is a script of its own.
+SCRIPTS = ("shorten", "reached")
 
 BASH = """_lurette() {
     local word=${COMP_WORDS[COMP_CWORD]} before=${COMP_WORDS[COMP_CWORD - 1]}
@@ -87,6 +89,21 @@ def of_the_script():
     return [tuple(it.split(None, 1)) for it in part("Before the mode") if it.startswith("  --")]
 
 
+def of_the_scripts():
+    """The calls of the scripts over traces, and the words that they alone take, by COMMAND."""
+    known, found = {it.name for it in options()}, []
+    for script in SCRIPTS:
+        for head, meaning in table(f"| Word of `{script}` | Meaning |"):
+            name, _, operand = head.strip("`").partition(" ")
+            found += [Word(name, operand, meaning)] if name not in known else []
+    return found
+
+
+def all_options():
+    """The options of the program and of the scripts over traces."""
+    return options() + [it for it in of_the_scripts() if it.name.startswith("-")]
+
+
 def plain(text):
     """The text of a cell without its links."""
     return re.sub(r"\[([^]]*)\]\([^)]*\)", r"\1", text)
@@ -105,12 +122,14 @@ def listed(pairs):
 
 def man():
     heads = [(f"{it.name} {it.operand}".strip(), it.meaning) for it in words()]
+    scripts = [(f"{it.name} {it.operand}".strip(), it.meaning) for it in of_the_scripts()]
     examples = "\n".join(part("Examples"))
     return (
         '.TH LURETTE 1\n.SH NAME\nlurette \\- test a reactive controller by a scenario\n'
         ".SH SYNOPSIS\n.B lurette\nMODE FILE [OPTIONS]\n"
         f".SH DESCRIPTION\n{set_in(help_text().splitlines()[0])}\n"
         f".SH WORDS\n{listed(heads)}"
+        f".SH SCRIPTS\n{listed(scripts)}"
         f".SH WORDS BEFORE THE MODE\n{listed(of_the_script())}"
         f".SH EXIT STATUS\n{listed([*statuses(), ('125', 'there is no program to run')])}"
         f".SH EXAMPLES\n.nf\n{set_in(examples)}\n.fi\n"
@@ -119,11 +138,11 @@ def man():
 
 
 def bash():
-    known = options()
+    known = all_options()
     names = [it.name for it in known] + [name for name, _ in of_the_script()]
     takes = lambda *operands: "|".join(it.name for it in known if it.operand in operands)
     text = BASH.replace("PLAIN", takes("N", "NAME")).replace("COMMANDS", takes("CMD"))
-    return text.replace("OPTIONS", " ".join(names)).replace("MODES", " ".join(MODES))
+    return text.replace("OPTIONS", " ".join(names)).replace("MODES", " ".join(MODES + SCRIPTS))
 
 
 def zsh_line(name, operand, meaning):
@@ -132,9 +151,9 @@ def zsh_line(name, operand, meaning):
 
 
 def zsh():
-    lines = [zsh_line(it.name, it.operand, it.meaning) for it in options()]
+    lines = [zsh_line(it.name, it.operand, it.meaning) for it in all_options()]
     lines += [zsh_line(name, "", meaning) for name, meaning in of_the_script()]
-    return ZSH.replace("LINES", "\n".join(lines)).replace("MODES", " ".join(MODES))
+    return ZSH.replace("LINES", "\n".join(lines)).replace("MODES", " ".join(MODES + SCRIPTS))
 
 
 if __name__ == "__main__":

@@ -47,6 +47,15 @@ def trace_file():
     return path if is_file and os.path.exists(path) else None
 
 
+def picture_lines(trace):
+    """What to type to have a picture of a trace; none where it is in no file."""
+    if not trace:
+        return []
+    drawing = shown(os.path.join(TOP, "scripts", "draw_trace.py"))
+    call = shlex.join(["python3", drawing, shown(trace)])
+    return ["A picture of the trace:", f"    {call} >picture.svg"]
+
+
 def lines(line, words, trace):
     """What to type behind a line of the program; none where it names no step."""
     found = FOUND.fullmatch(line)
@@ -54,8 +63,4 @@ def lines(line, words, trace):
         return []
     seed, step = call_words.text_of(words, "--seed") or "0", found[1]
     told = [f"Seed {seed}, step {step}. The same again:", f"    {called(again(words, step))}"]
-    if trace:
-        drawing = shown(os.path.join(TOP, "scripts", "draw_trace.py"))
-        call = shlex.join(["python3", drawing, shown(trace)])
-        told += ["A picture of the trace:", f"    {call} >picture.svg"]
-    return told
+    return told + picture_lines(trace)

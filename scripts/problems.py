@@ -10,6 +10,7 @@ from collections import namedtuple
 
 import apart
 import constraints
+import traces
 
 # A scenario and what its call says. The budget is None where the call says none.
 Problem = namedtuple("Problem", "scenario decimals limit draws budget has_locals")
@@ -27,7 +28,7 @@ WITHOUT_RANGE = [-10_000, 10_000]
 def number_text(kind, raw, decimals):
     """A number as a literal, with its minus."""
     point = "." if kind == "real" and decimals == 0 else ""
-    return apart.written(kind, raw, decimals) + point
+    return traces.written(kind, raw, decimals) + point
 
 
 def declaration_of(variable, decimals):

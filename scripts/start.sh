@@ -159,6 +159,25 @@ answer_at_once() {
     exit
 }
 
+# Runs a script over traces, where the first word names one. Only `shorten` takes the program, and
+# not where it is to say which words it has.
+start_script() {
+    script=${1-}
+    case $name:$script in
+        lurette:reached | lurette:shorten) shift ;;
+        *) return 0 ;;
+    esac
+    need python3
+    case $script:${1-} in
+        shorten: | shorten:-h | shorten:--help) set -- --program none "$@" ;;
+        shorten:*)
+            find_program "$is_unproved"
+            set -- --program "$program" "$@"
+            ;;
+    esac
+    exec python3 "$top/scripts/$script.py" "$@"
+}
+
 # Runs the program on the words given, behind those of the script's own.
 start() {
     explains='' is_unproved='' was_proved=''
@@ -179,6 +198,7 @@ start() {
     [ "$name" = lurette ] || explains=''
     [ -z "$was_proved" ] || [ $# -gt 0 ] || exit 0
     answer_at_once "$@"
+    start_script "$@"
     find_program "$is_unproved"
     if [ "$1" = --which ]; then
         echo "$program"

@@ -5,6 +5,7 @@ import re
 import unittest
 
 import apart
+import traces
 from apart import Draws
 
 TOP = os.path.dirname(os.path.dirname(os.path.abspath(__file__)))
@@ -18,7 +19,7 @@ def read(path):
 def first_values(scenario, limit, seed, rule=1, controller=apart.NOBODY):
     """What the first output of a scenario is in each step, as its trace has it."""
     steps, _ = apart.steps_of(scenario, controller, limit, Draws(seed, rule))
-    return [apart.written(scenario.outputs[0].kind, it.told[0]) for it in steps]
+    return [traces.written(scenario.outputs[0].kind, it.told[0]) for it in steps]
 
 
 def traces_of_rows(text):

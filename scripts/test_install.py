@@ -42,6 +42,9 @@ class Packed(Repository):
         self.assertEqual(self.call("--unproved", name=f"{place}/bin/lurette")[0], 2)
         found = self.call("--unproved", "run", "f", name=f"{place}/bin/lurette")
         self.assertEqual(found[0], 125)
+        for name in ("shorten", "reached"):
+            found = self.call(name, "--help", name=f"{place}/bin/lurette", PATH=self.BARE)
+            self.assertEqual((found[0], found[2]), (0, []))
         for path in ("man/man1/lurette.1", "zsh/site-functions/_lurette"):
             self.assertTrue(os.path.getsize(f"{place}/share/{path}"))
 
@@ -69,6 +72,9 @@ class Packed(Repository):
         line = 'COMP_WORDS=(lurette --pre); COMP_CWORD=1; _lurette; echo "${COMPREPLY[@]}"'
         run = subprocess.run([bash, "-c", manual.bash() + line], capture_output=True, text=True)
         self.assertEqual((run.stdout, run.stderr), ("--precision\n", ""))
+        line = line.replace("--pre", "sh")
+        run = subprocess.run([bash, "-c", manual.bash() + line], capture_output=True, text=True)
+        self.assertEqual((run.stdout, run.stderr), ("shorten\n", ""))
 
 
 if __name__ == "__main__":

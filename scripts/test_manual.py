@@ -5,6 +5,7 @@
 The options are those of check_docs.py. Where no program is there, it isn't called.
 """
 
+import argparse
 import os
 import re
 import sys
@@ -14,6 +15,8 @@ import call_words
 import calls
 import check_docs
 import manual
+import reached
+import shorten
 
 GIVEN = check_docs.given([])
 
@@ -43,6 +46,27 @@ class Help(unittest.TestCase):
         wanted = {(it.name, it.operand, *said_of(it)) for it in manual.options()}
         self.assertEqual(set(lines_of_help()), wanted)
         self.assertEqual(len(wanted), 10)
+
+    def test_scripts_and_their_words_are_those_of_the_tables(self):
+        known = manual.of_the_scripts()
+        calls_of = [it.name for it in known if not it.name.startswith("-")]
+        self.assertEqual(calls_of, list(manual.SCRIPTS))
+        for name in calls_of:
+            self.assertIn(f"./lurette {name} ", manual.help_text())
+        rows = [it.split() for it in manual.part("Further options")]
+        told = [(row[0], row[1] if row[1].isupper() and row[1] != "JSON" else "") for row in rows]
+        wanted = [(it.name, it.operand) for it in known if it.name.startswith("-")]
+        self.assertEqual(told, wanted)
+
+    def test_scripts_take_the_words_of_their_tables(self):
+        for name, script in (("shorten", shorten), ("reached", reached)):
+            rows = manual.table(f"| Word of `{name}` | Meaning |")
+            wanted = {it for head, _ in rows for it in re.findall(r"--[a-z]+", head)}
+            actions = [it for it in script.parser()._actions if it.help != argparse.SUPPRESS]
+            taken = {word for it in actions for word in it.option_strings}
+            self.assertEqual(taken - {"-h", "--help"}, wanted, name)
+        seconds = shorten.parser().get_default("seconds")
+        self.assertRegex("\n".join(manual.part("Further options")), rf"--seconds N .* {seconds} ")
 
     def test_modes_are_those_of_the_table(self):
         modes = [it.name for it in manual.words() if not it.name.startswith("-")]
@@ -102,7 +126,9 @@ class Program(unittest.TestCase):
 class Page(unittest.TestCase):
     def test_each_row_stands_in_the_manual_page(self):
         page = manual.man()
-        self.assertEqual(page.count("\n.TP\n"), len(manual.words()) + 3 + 16)
+        rows = len(manual.words()) + len(manual.of_the_scripts()) + 3 + 16
+        self.assertEqual(page.count("\n.TP\n"), rows)
+        self.assertIn(".B shorten TRACE FILE\nlooks for a shorter run", page)
         self.assertIn(".B \\-\\-seed N\nthe seed of a run, from 0 to 18446744073709551615", page)
         self.assertNotIn("](", page)
 

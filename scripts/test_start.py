@@ -177,6 +177,20 @@ class Starting(Repository):
         self.assertEqual(self.call("--help", name="lt_plant")[0], 0)
         self.assertEqual(self.calls_of_rt(), ["version"])
 
+    def test_scripts_over_traces_are_called(self):
+        trace = "#seed 0\n#inputs\n#outputs\n#end limit 0\n"
+        write(f"{self.room}/trace", trace)
+        for words in (["shorten", "--help"], ["reached", "--help"], ["shorten"]):
+            status, _, said = self.call(*words, PATH="/usr/bin:/bin")
+            self.assertEqual(status, 0 if "--help" in words else 2, said)
+        status, output, said = self.call("reached", f"{self.room}/trace", PATH="/usr/bin:/bin")
+        self.assertEqual((status, output[:16], said), (0, "1 run with 0 ste", []))
+        self.assertEqual(self.calls_of_rt(), [])
+        words = ["shorten", f"{self.room}/trace", "f", "--sut", "c"]
+        status, _, said = self.call(*words)
+        self.assertEqual((status, self.calls_of_rt()), (2, ["try"]))
+        self.assertIn("the run didn't fail: its end is limit 0", said[-1])
+
 
 class Proving(unittest.TestCase):
     CRATES = "# low\na:\nb: a std # a comment\n\nc: b a\nd: a\n"
