@@ -1,11 +1,16 @@
 pub mod Advances
 pub mod Bodies
+pub mod Counting
+pub mod InstantParts
 pub mod Natural
+pub mod Numbered
 pub mod Passing
 pub mod Sizes
 pub mod Tallies
 pub mod Tests
 pub mod Trees
 pub mod TurnLemmas
+pub mod UnfoldingLaws
+pub mod Unfoldings
 pub mod Views
 pub mod Public

@@ -56,7 +56,8 @@ mutual
   flattened_each-with_local f l (branch w t bs) =
       (λ i. flattened-with_local f l t i ++ flattened_each-with_local f l bs i) ∙ sym (flat_map-append (λ n. replaced f (node_with_local l n)) (flattened t) (flattened_each bs))
 
-weights_of-choices : (kinds : List Kind) (parts : List (ℕ × Term)) → weights_of (offers_of_each kinds (choices parts)) ≡ map (λ p. expression p.0) parts
+-- the weights of terms to choose from
+pub weights_of-choices : (kinds : List Kind) (parts : List (ℕ × Term)) → weights_of (offers_of_each kinds (choices parts)) ≡ map (λ p. expression p.0) parts
 weights_of-choices kinds [] = refl
 weights_of-choices kinds (p ∷ parts) = ap (λ ws. expression p.0 ∷ ws) (weights_of-choices kinds parts)
 

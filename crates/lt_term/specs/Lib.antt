@@ -54,5 +54,11 @@ pub mod TreeView
 pub mod SceneView
 -- How many nodes the tree of a term has, without the tree.
 pub mod Size
+-- The tree of a part of a term under the rules of the terms round it.
+pub mod Unfolded
+-- What rules and instants by number stand for.
+pub mod UnfoldedView
+-- What is unfolded.
+pub mod UnfoldingView
 -- Words of private contracts.
 pub mod inner

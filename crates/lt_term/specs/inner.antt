@@ -8,3 +8,7 @@ pub mod TallyView
 pub mod Entered
 -- What stands for a term after an instant.
 pub mod Renewed
+-- Numbers of rules and instants that lead to earlier ones.
+pub mod Linked
+-- How far a root is, and how much is left to be done for it.
+pub mod Stages

@@ -245,16 +245,16 @@ fn put_count(
     put(out, TreeNode::Any { weights, lasts })
 }
 
-// A loop that begins again.
-fn once_more(alloc: Global, body: &Rc<Term>) -> Result<Rc<Term>, AllocError>
+/// A loop that begins again.
+pub(crate) fn once_more(alloc: Global, body: &Rc<Term>) -> Result<Rc<Term>, AllocError>
     ensures { IfOk result (λ t. process t.value ≡ loop (process body.now.value)) }
 {
     let again = Term::Loop(body.clone()?);
     shared(alloc, again)
 }
 
-// A counted loop of which one more turn is done.
-fn one_more_done(
+/// A counted loop of which one more turn is done.
+pub(crate) fn one_more_done(
     alloc: Global,
     counter: u32,
     done: u64,
