@@ -26,7 +26,7 @@ use Rattle.clap.specs.declared.builder.value_parser.ValueParser.TheVariants.{Uns
 use Rattle.clap.specs.declared.parser.matches.ArgMatches.{ArgMatches}
 use Rattle.clap.specs.declared.parser.matches.MatchedArg.{MatchedArg}
 use Rattle.lt_args.specs.Command.{arguments, command}
-use Rattle.lt_args.specs.Settings.{most_steps, most_seed, most_decimals, most_budget, most_draw}
+use Rattle.lt_args.specs.Settings.{most_steps, most_seed, most_decimals, most_budget, most_count, most_draw}
 use Rattle.lt_args.specs.inner.Fitting.{Fits, NumbersFit}
 
 -- whether no rule but the k-th has this name
@@ -55,7 +55,7 @@ module _ (made : Command) (m : ArgMatches) (same : app_of made ≡ command) (p :
   rules_are : map rule_of (args_of made) ≡ arguments
   rules_are = ap (λ (a : App). a.top.rules) same
 
-  many : length (args_of made) ≡ 12
+  many : length (args_of made) ≡ 13
   many = sym (length-map (args_of made) rule_of) ∙ ap length rules_are
 
   rule_at : (k : ℕ) (d : Arg) (e : Rule) → k < length (args_of made) → rule_of (slice_index_or (args_of made) k d) ≡ slice_index_or arguments k e
@@ -66,7 +66,7 @@ module _ (made : Command) (m : ArgMatches) (same : app_of made ≡ command) (p :
       (p.from.same_groups (simple_groups made (ap (λ (a : App). list_all (λ (r : Rule). r.is_simple) a.top.rules) same))).1
       ∙ (plain_fields made (ap (λ (a : App). a.top.is_plain) same)).groups
 
-  any_arg : (xs : List Arg) → length xs ≡ 12 → Arg
+  any_arg : (xs : List Arg) → length xs ≡ 13 → Arg
   any_arg [] n = absurd (omega arith)
   any_arg (x ∷ xs) n = x
 
@@ -152,4 +152,5 @@ module _ (made : Command) (m : ArgMatches) (same : app_of made ≡ command) (p :
         decimals = fits 4 d (codes "precision") 0 most_decimals (omega (arith, many)) (λ e. refl) (λ e. refl) refl (differ _ _ refl) (differ _ _ refl) (differ _ _ refl);
         budget = fits 5 d (codes "budget") 1 most_budget (omega (arith, many)) (λ e. refl) (λ e. refl) refl (differ _ _ refl) (differ _ _ refl) (differ _ _ refl);
         draw = fits 11 d (codes "draw") 1 most_draw (omega (arith, many)) (λ e. refl) (λ e. refl) refl (differ _ _ refl) (differ _ _ refl) (differ _ _ refl);
+        count = fits 12 d (codes "count") 1 most_count (omega (arith, many)) (λ e. refl) (λ e. refl) refl (differ _ _ refl) (differ _ _ refl) (differ _ _ refl);
       }

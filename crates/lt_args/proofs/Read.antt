@@ -47,3 +47,11 @@ at_most name least most other found few fits = go (one_of name found) fits
     go : (o : Option (List ℕ)) → IfSome o (IsUnsignedIn least most) → unwrap_or (option_map number_of o) other ≤ most
     go None h = few
     go (Some word) h = h.3
+
+-- nor is it less than the option's least
+pub at_least : (name : List ℕ) (least most other : ℕ) (found : List Row) → least ≤ other → Fits name least most found → least ≤ unwrap_or (number_at name found) other
+at_least name least most other found some fits = go (one_of name found) fits
+  where
+    go : (o : Option (List ℕ)) → IfSome o (IsUnsignedIn least most) → least ≤ unwrap_or (option_map number_of o) other
+    go None h = some
+    go (Some word) h = h.2

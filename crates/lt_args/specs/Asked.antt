@@ -25,4 +25,5 @@ request asked = record {
   inputs = source_of asked.inputs;
   oracle = given_word asked.oracle;
   locals = asked.locals;
+  count = asked.count;
 }

@@ -4,7 +4,7 @@ use Rattle.clap.specs.Simple.{App, new_app, new_rule, on_top, with_rule}
 use Rattle.clap.specs.Walk.{Rule, Text}
 use Rattle.clap.specs.declared.builder.action.ArgAction.TheVariants.{SetTrue}
 use Rattle.clap.specs.declared.builder.value_parser.ValueParser.TheVariants.{Unsigned}
-use Rattle.lt_args.specs.Settings.{most_steps, most_seed, most_decimals, most_budget, most_draw}
+use Rattle.lt_args.specs.Settings.{most_steps, most_seed, most_decimals, most_budget, most_count, most_draw}
 
 -- a word that has to be there, and is known by its place
 abbrev pub placed : Text → Rule
@@ -41,6 +41,7 @@ arguments =
     ∷ with_word (codes "replay")
     ∷ locals
     ∷ with_number (codes "draw") 1 most_draw
+    ∷ with_number (codes "count") 1 most_count
     ∷ []
 
 -- no argument yet; the words have no program's name before them

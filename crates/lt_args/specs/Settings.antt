@@ -47,6 +47,14 @@ most_draw = 3
 abbrev pub default_draw : ℕ
 default_draw = 1
 
+-- the most sessions of a campaign that words may ask for; the least is 1
+abbrev pub most_count : ℕ
+most_count = 64
+
+-- how many sessions a campaign has where words don't say
+abbrev pub default_count : ℕ
+default_count = 1
+
 -- the greatest budget that words may ask for
 abbrev pub most_budget : ℕ
 most_budget = 1_000_000_000_000

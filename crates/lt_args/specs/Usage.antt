@@ -14,4 +14,4 @@ usage_word usage.Trace = codes "trace"
 -- how the program is called
 abbrev pub usage_text : List ℕ
 usage_text =
-    codes "lurette MODE FILE [-l N] [--seed N] [--precision N] [--budget N] [--node NAME] [--sut CMD] [--oracle CMD] [--replay FILE] [--locals] [--draw N]"
+    codes "lurette MODE FILE [-l N] [--seed N] [--precision N] [--budget N] [--node NAME] [--sut CMD] [--oracle CMD] [--replay FILE] [--locals] [--draw N] [--count N]"

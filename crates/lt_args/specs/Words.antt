@@ -13,13 +13,13 @@ use Rattle.lt_draw.specs.declared.directions.Draw.{Draw}
 use Rattle.lt_draw.specs.declared.directions.Draw.TheVariants.{Directed, Inside, Up}
 use Rattle.lt_loop.specs.InputSource.{InputSource, from_nobody, from_program, from_trace}
 use Rattle.lt_args.specs.Command.{command}
-use Rattle.lt_args.specs.Settings.{most_steps, default_steps, most_number, default_seed, default_draw, most_decimals, default_decimals, default_budget}
+use Rattle.lt_args.specs.Settings.{most_steps, default_steps, most_number, default_seed, default_draw, most_decimals, default_decimals, default_budget, most_count, default_count}
 use Rattle.lt_args.specs.declared.usage.UsageKind.{UsageKind}
 use Rattle.lt_args.specs.declared.usage.UsageKind.TheVariants as usage
 use Rattle.lt_args.specs.declared.usage.WordsRefusal.{WordsRefusal}
 use Rattle.lt_args.specs.declared.usage.WordsRefusal.TheVariants as refusal
 use Rattle.lt_args.specs.declared.words.Mode.{Mode}
-use Rattle.lt_args.specs.declared.words.Mode.TheVariants.{Check, Print, Run, Stress}
+use Rattle.lt_args.specs.declared.words.Mode.TheVariants.{Campaign, Check, Print, Run, Stress}
 
 -- what the words ask for
 pub record Request : Type 0 where
@@ -44,17 +44,21 @@ pub record Request : Type 0 where
   pub oracle : Option (List ℕ)
   -- whether locals are written to the trace
   pub locals : Bool
+  -- how many sessions a campaign has
+  pub count : ℕ
 
 -- the number of a large run is no greater than words may ask for
 abbrev pub HasSmallNumber : Mode → Type 0
 HasSmallNumber (Stress n) = n ≤ most_number
 HasSmallNumber _ = Unit {0}
 
--- its numbers of steps and of decimals, and that of a large run, are no greater than words may ask for
+-- its numbers of steps and of decimals, that of a large run, and that of sessions are no greater than words may ask for; a campaign has one session at least
 pub record IsWithin (request : Request) : Type 0 where
   pub limit : request.limit ≤ most_steps
   pub decimals : request.decimals ≤ most_decimals
   pub number : HasSmallNumber request.mode
+  pub some : 1 ≤ request.count
+  pub count : request.count ≤ most_count
 
 -- the number that decimal digits write, which a plus may stand before
 abbrev pub number_of : Text → ℕ
@@ -90,6 +94,7 @@ mode_of word file =
     if bytes_eq word (codes "run") then Ok Run
     else if bytes_eq word (codes "print") then Ok Print
     else if bytes_eq word (codes "check") then Ok Check
+    else if bytes_eq word (codes "campaign") then Ok Campaign
     else if bytes_eq word (codes "stress") then large_run file
     else Err usage.Mode
 
@@ -126,17 +131,19 @@ request_of mode found = record {
   inputs = source_in mode found;
   oracle = first_of (codes "oracle") found;
   locals = flag_at (codes "locals") found;
+  count = unwrap_or (number_at (codes "count") found) default_count;
 }
 
--- whether a scenario is run
-abbrev pub is_run : Mode → Bool
-is_run Run = true
-is_run _ = false
+-- whether a mode makes runs of a scenario
+abbrev pub makes_runs : Mode → Bool
+makes_runs Run = true
+makes_runs Campaign = true
+makes_runs _ = false
 
--- whether a run is asked for with both a controller and an earlier trace, whose replies would stand for the controller's
+-- whether runs are asked for with both a controller and an earlier trace, whose replies would stand for the controller's
 abbrev pub has_both : Mode → List Row → Bool
 has_both mode found =
-    is_run mode && (is_some (first_of (codes "sut") found) && is_some (first_of (codes "replay") found))
+    makes_runs mode && (is_some (first_of (codes "sut") found) && is_some (first_of (codes "replay") found))
 
 -- whether a trace is checked
 abbrev pub is_check : Mode → Bool

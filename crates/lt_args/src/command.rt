@@ -4,7 +4,7 @@ ghost use Rattle.std.specs.Prelude.{◌≡◌, false, IfOk};
 ghost use Rattle.clap.specs.Words.{app_of, rule_of, with_rule};
 ghost use Rattle.lt_args.specs.Command.{command, limit, locals, no_arguments, placed, with_number, with_word};
 
-use crate::settings::{MOST_BUDGET, MOST_DECIMALS, MOST_DRAW, MOST_SEED, MOST_STEPS};
+use crate::settings::{MOST_BUDGET, MOST_COUNT, MOST_DECIMALS, MOST_DRAW, MOST_SEED, MOST_STEPS};
 use clap::builder::ValueParser;
 use clap::{Arg, ArgAction, Command};
 use std::alloc::{AllocError, Global};
@@ -27,7 +27,8 @@ pub(crate) fn command<'a>(alloc: Global) -> Result<Command<'a>, AllocError>
     let made = with(made, with_word(alloc, "oracle"))?;
     let made = with(made, with_word(alloc, "replay"))?;
     let made = with(made, locals(alloc))?;
-    with(made, with_number(alloc, "draw", 1, MOST_DRAW))
+    let made = with(made, with_number(alloc, "draw", 1, MOST_DRAW))?;
+    with(made, with_number(alloc, "count", 1, MOST_COUNT))
 }
 
 // The command without any argument. The words have no program's name before them.

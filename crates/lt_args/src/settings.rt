@@ -1,7 +1,7 @@
 //! Numbers that a call goes by: `docs/COMMAND.md` has them.
 
 ghost use Rattle.std.specs.Prelude.{◌≡◌};
-ghost use Rattle.lt_args.specs.Settings.{longest_text, longest_replay, most_steps, default_steps, most_number, most_decimals, default_decimals, most_seed, default_seed, most_draw, default_draw, most_budget, default_budget};
+ghost use Rattle.lt_args.specs.Settings.{longest_text, longest_replay, most_steps, default_steps, most_number, most_decimals, default_decimals, most_seed, default_seed, most_draw, default_draw, most_budget, default_budget, most_count, default_count};
 
 /// The longest text of a scenario, in bytes.
 pub const LONGEST_TEXT: usize = 1_048_576;
@@ -42,6 +42,12 @@ pub const MOST_BUDGET: u64 = 1_000_000_000_000;
 /// The budget where words don't say: the greatest need that a search may have.
 pub const DEFAULT_BUDGET: u64 = 10_000_000;
 
+/// The most sessions of a campaign that words may ask for. The least is 1.
+pub const MOST_COUNT: u64 = 64;
+
+/// How many sessions a campaign has where words don't say.
+pub const DEFAULT_COUNT: u64 = 1;
+
 /// These are the numbers that the definitions name.
 pub fn settings_are_as_defined()
     ensures longest_text { LONGEST_TEXT ≡ longest_text }
@@ -57,4 +63,6 @@ pub fn settings_are_as_defined()
     ensures default_draw { DEFAULT_DRAW ≡ default_draw }
     ensures most_budget { MOST_BUDGET ≡ most_budget }
     ensures default_budget { DEFAULT_BUDGET ≡ default_budget }
+    ensures most_count { MOST_COUNT ≡ most_count }
+    ensures default_count { DEFAULT_COUNT ≡ default_count }
 {}

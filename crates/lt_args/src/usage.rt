@@ -20,7 +20,7 @@ pub enum UsageKind {
     /// The word in the place of FILE isn't the number of a large run: decimal digits alone, at most 999,999.
     Number,
 
-    /// A run is given both a controller and an earlier trace that stands for one.
+    /// A run or a campaign is given both a controller and an earlier trace that stands for one.
     Both,
 
     /// A check is given no trace.
@@ -85,5 +85,5 @@ pub fn usage_word(kind: UsageKind) -> &'static [u8]
 pub fn usage_text() -> &'static [u8]
     ensures { result.now ≡ usage_text }
 {
-    b"lurette MODE FILE [-l N] [--seed N] [--precision N] [--budget N] [--node NAME] [--sut CMD] [--oracle CMD] [--replay FILE] [--locals] [--draw N]"
+    b"lurette MODE FILE [-l N] [--seed N] [--precision N] [--budget N] [--node NAME] [--sut CMD] [--oracle CMD] [--replay FILE] [--locals] [--draw N] [--count N]"
 }

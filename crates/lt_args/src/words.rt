@@ -4,13 +4,14 @@ ghost use Rattle.std.specs.Prelude.{◌≡◌, map, option_map, string_bytes, Ok
 ghost use Rattle.clap.specs.Words.{found_of, rows_of};
 ghost use Rattle.lt_loop.specs.InputSource.{source_of};
 ghost use Rattle.lt_args.specs.Asked.{request};
-ghost use Rattle.lt_args.specs.Words.{HasSmallNumber, HaveForm, IsOfMeaning, IsPromised, IsRefusedBy, IsWithin, asked_by, controller_in, draw_of, has_both, lacks_trace, large_run, mode_of, request_of, requested, source_in, stress_of};
+ghost use Rattle.lt_args.specs.Words.{HasSmallNumber, HaveForm, IsOfMeaning, IsPromised, IsRefusedBy, IsWithin, asked_by, controller_in, draw_of, has_both, lacks_trace, large_run, makes_runs, mode_of, request_of, requested, source_in, stress_of};
 ghost use Rattle.lt_args.specs.inner.Fitting.{NumbersFit};
 
 use crate::command::command;
 use crate::found::{decimals_in, is_given, number_in, option_in, word_in};
 use crate::settings::{
-    DEFAULT_BUDGET, DEFAULT_DECIMALS, DEFAULT_DRAW, DEFAULT_SEED, DEFAULT_STEPS, MOST_NUMBER,
+    DEFAULT_BUDGET, DEFAULT_COUNT, DEFAULT_DECIMALS, DEFAULT_DRAW, DEFAULT_SEED, DEFAULT_STEPS,
+    MOST_NUMBER,
 };
 use crate::usage::{UsageKind, WordsRefusal};
 use clap::ArgMatches;
@@ -29,6 +30,9 @@ pub enum Mode {
 
     /// An earlier trace is checked by it.
     Check,
+
+    /// It is run many times at once, side by side.
+    Campaign,
 
     /// A large run is made from this number, which is at most 999,999. It has no scenario's file.
     Stress(u64),
@@ -61,7 +65,8 @@ pub struct Request<'a> {
     /// The name of the node, where one is given.
     pub node: Option<&'a str>,
 
-    /// Where the inputs of the scenario come from. A run has one source alone, and a check has the trace.
+    /// Where the inputs of the scenario come from. A run has one source alone, as each of a campaign has, and a check has the
+    /// trace.
     pub inputs: InputSource<'a>,
 
     /// The command of the oracle, where one is given.
@@ -69,11 +74,15 @@ pub struct Request<'a> {
 
     /// Whether locals are written to the trace.
     pub locals: bool,
+
+    /// How many sessions a campaign has: 1 to 64.
+    pub count: u64,
 }
 
-/// What the words ask for, as clap reads them: MODE and FILE, which is `run FILE`, `print FILE`, `check FILE` or `stress N`, and `-l N`, `--seed N`,
-/// `--precision N`, `--budget N`, `--node NAME`, `--sut CMD`, `--oracle CMD`, `--replay FILE`, `--locals` and
-/// `--draw N`, in any order and each at most once. A run has no `--sut` beside `--replay`, and a check has a `--replay`.
+/// What the words ask for, as clap reads them: MODE and FILE, which is `run FILE`, `print FILE`, `check FILE`, `campaign FILE`
+/// or `stress N`, and `-l N`, `--seed N`, `--precision N`, `--budget N`, `--node NAME`, `--sut CMD`, `--oracle CMD`,
+/// `--replay FILE`, `--locals`, `--draw N` and `--count N`, in any order and each at most once. A run or a campaign has no
+/// `--sut` beside `--replay`, and a check has a `--replay`.
 pub fn requested<'a>(alloc: Global, words: &'a [String]) -> Result<Request<'a>, WordsRefusal>
     ensures reads { MatchResult result
         (λ asked. requested (map string_bytes words.entry.now) ≡ Ok (request asked))
@@ -115,6 +124,7 @@ fn mode_named(word: &str, file: &str) -> Result<Mode, UsageKind>
         "run" => Ok(Mode::Run),
         "print" => Ok(Mode::Print),
         "check" => Ok(Mode::Check),
+        "campaign" => Ok(Mode::Campaign),
         "stress" => large_run(file),
         _ => Err(UsageKind::Mode),
     }
@@ -147,11 +157,18 @@ fn stress_of(number: u64) -> Result<Mode, UsageKind>
     Ok(Mode::Stress(number))
 }
 
-// Whether a run would have both a controller and an earlier trace that stands for one.
+// Whether a run would have both a controller and an earlier trace that stands for one, or each of a campaign would.
 fn has_both(mode: Mode, found: &ArgMatches<'_>) -> bool
     ensures { result ≡ has_both mode (rows_of (found_of found.now)) }
 {
-    mode == Mode::Run && option_in(found, "sut").is_some() && option_in(found, "replay").is_some()
+    makes_runs(mode) && option_in(found, "sut").is_some() && option_in(found, "replay").is_some()
+}
+
+// Whether a mode makes runs of a scenario.
+fn makes_runs(mode: Mode) -> bool
+    ensures { result ≡ makes_runs mode }
+{
+    matches!(mode, Mode::Run | Mode::Campaign)
 }
 
 // Whether a check would have no trace.
@@ -167,7 +184,7 @@ fn controller_in<'a>(mode: Mode, found: &ArgMatches<'a>) -> Option<&'a str>
 {
     match mode {
         Mode::Check => None,
-        Mode::Run | Mode::Print | Mode::Stress(_) => option_in(found, "sut"),
+        Mode::Run | Mode::Print | Mode::Campaign | Mode::Stress(_) => option_in(found, "sut"),
     }
 }
 
@@ -212,5 +229,6 @@ fn request_in<'a>(mode: Mode, found: &ArgMatches<'a>) -> Request<'a>
         inputs: source_in(mode, found),
         oracle: option_in(found, "oracle"),
         locals: is_given(found, "locals"),
+        count: number_in(found, "count").unwrap_or(DEFAULT_COUNT),
     }
 }

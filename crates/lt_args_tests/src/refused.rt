@@ -52,6 +52,8 @@ run f --sut c --sut c ==> Usage(Words)
 run f --oracle o --replay t --oracle o ==> Usage(Words)
 run f --locals --locals ==> Usage(Words)
 run f --draw 1 --draw 2 ==> Usage(Words)
+campaign f --count 2 --count 2 ==> Usage(Words)
+--count=2 campaign f --count=3 ==> Usage(Words)
 
 ## an option has its word and a flag has none
 run f -l ==> Usage(Words)
@@ -63,6 +65,8 @@ run f --oracle --locals ==> Usage(Words)
 run f --node -x ==> Usage(Words)
 run f --sut -- c ==> Usage(Words)
 run f --draw ==> Usage(Words)
+campaign f --count ==> Usage(Words)
+campaign f --count --locals ==> Usage(Words)
 run f --locals=yes ==> Usage(Words)
 run f --locals= ==> Usage(Words)
 
@@ -89,6 +93,18 @@ run f --draw 0 ==> Usage(Words)
 run f --draw 4 ==> Usage(Words)
 run f --draw=up ==> Usage(Words)
 stress 6 --draw 4 ==> Usage(Words)
+campaign f --count 0 ==> Usage(Words)
+campaign f --count=00 ==> Usage(Words)
+campaign f --count 65 ==> Usage(Words)
+campaign f --count=+65 ==> Usage(Words)
+campaign f --count=-1 ==> Usage(Words)
+campaign f --count two ==> Usage(Words)
+campaign f --count 2.0 ==> Usage(Words)
+campaign f --count= ==> Usage(Words)
+campaign f --count 18446744073709551617 ==> Usage(Words)
+run f --count 0 ==> Usage(Words)
+print f --count 65 ==> Usage(Words)
+stress 6 --count 0 ==> Usage(Words)
 
 ## an empty word is no number
 run f -l '' ==> Usage(Words)
@@ -97,6 +113,8 @@ run f -l '' ==> Usage(Words)
 walk f ==> Usage(Mode)
 Run f ==> Usage(Mode)
 prints f ==> Usage(Mode)
+Campaign f ==> Usage(Mode)
+campaigns f --count 2 ==> Usage(Mode)
 f run ==> Usage(Mode)
 -l 5 walk --node n f ==> Usage(Mode)
 walk f --sut c --replay t ==> Usage(Mode)
@@ -118,6 +136,12 @@ run f --sut c --replay t ==> Usage(Both)
 --replay=t --sut=c run f ==> Usage(Both)
 run --replay t f --locals --sut c ==> Usage(Both)
 
+## so has each of a campaign
+campaign f --sut c --replay t ==> Usage(Both)
+--replay=t --count 2 --sut=c campaign f ==> Usage(Both)
+campaign f --sut c --replay t --count 0 ==> Usage(Words)
+campaign --sut c --replay t ==> Usage(Words)
+
 ## a check has a trace
 check f ==> Usage(Trace)
 check f --sut c --oracle o ==> Usage(Trace)
@@ -130,5 +154,5 @@ Check f --replay t ==> Usage(Mode)
 
 #[test]
 fn wrong_words_are_refused_by_their_kind(rt: HostRuntime) -> Result<(), Fail> {
-    check(&rt, REFUSED, 101)
+    check(&rt, REFUSED, 123)
 }

@@ -11,7 +11,7 @@ use std::process::Abort;
 use std::test::Fail;
 
 // What comes of words, in a line: the mode and the file, the numbers, the words of options, whether locals are
-// asked for, and the rule of drawing.
+// asked for, the rule of drawing, and how many sessions a campaign has.
 fn answered(alloc: Global, words: &[String]) -> Result<String, AllocError> {
     match requested(alloc, words) {
         Ok(of) => {
@@ -19,8 +19,8 @@ fn answered(alloc: Global, words: &[String]) -> Result<String, AllocError> {
             let (sut, replay) = sources_of(of.inputs);
             let words = (of.node, sut, of.oracle, replay);
             format!(in alloc;
-                "{:?} {}; {numbers:?}; {words:?}; {}; {:?}",
-                of.mode, of.file, of.locals, of.draw
+                "{:?} {}; {numbers:?}; {words:?}; {}; {:?}; {}",
+                of.mode, of.file, of.locals, of.draw, of.count
             )
         }
         Err(refusal) => format!(in alloc; "{refusal:?}"),

@@ -42,12 +42,13 @@ use Rattle.lt_legal.specs.Verdict.{IsVerdict}
 use Rattle.lt_legal.specs.declared.verdict.Verdict.{Verdict}
 use Rattle.lt_legal.specs.declared.verdict.Verdict.TheVariants as verdict
 use Rattle.lt_term.specs.Scene.{Scene}
-use Rattle.lt_call.specs.Due.{Answer, Contents, Work}
+use Rattle.lt_call.specs.Due.{Answer, Contents, IsNoCampaign, Work}
 use Rattle.lt_call.specs.Given as given
 use Rattle.lt_call.specs.Given.{Gives, IsDone, status_of}
 use Rattle.lt_call.specs.Laws.{IsGivenUp, IsGivenUpAt, IsUnbroken, SidesTell, WorkIsAffordable}
 use Rattle.lt_call.specs.Run.{IsContinuationOf, RunIsAffordable, first_machine, oracle_of, plan_of, run_of}
 use Rattle.lt_call.specs.declared.status.Ending.{Ending}
+use Rattle.lt_call.specs.declared.status.Fate.{Fate}
 use Rattle.lt_call.specs.declared.status.Status.{Status}
 use Rattle.lt_call.specs.declared.status.Status.TheVariants as status
 
@@ -83,7 +84,7 @@ steps_of_cut plan e n ps = omega (arith, step_count-append ps (piece piece_kind.
 
 -- ---- what the end of a run tells of it
 
-over_driven : (k : Continuation) (old new : Outside Links) (core : CoreState State) (how : DriveEnd) (e : End) → IsDriven k old new core how → how ≡ drive_end.Ended e → core.phase ≡ phase.Over e
+pub over_driven : (k : Continuation) (old new : Outside Links) (core : CoreState State) (how : DriveEnd) (e : End) → IsDriven k old new core how → how ≡ drive_end.Ended e → core.phase ≡ phase.Over e
 over_driven k old new core _ e (whole received ps f is interaction history counts stands) same = stands ∙ ap phase.Over (cc same)
 over_driven k old new core _ e (failed received pieces w gives interaction history counts stands) same = stands ∙ ap phase.Over (cc same)
 over_driven k old new core _ e (untraced received fault pieces kind prefix rest gives goes some interaction history counts) same = absurd (cc same)
@@ -95,7 +96,7 @@ over_played k controller oracle old new core _ e (session.no_oracle command c p 
 over_played k controller oracle old new core _ e (session.memory_at_first inputs kept) same = absurd (cc same)
 over_played k controller oracle old new core _ e (session.memory_later c p q opens inputs closes kept) same = absurd (cc same)
 
-none_told : (e : End) (k : ℕ) → IsUnbroken e → given_up e k ≡ None
+pub none_told : (e : End) (k : ℕ) → IsUnbroken e → given_up e k ≡ None
 none_told end.Normal k calm = refl
 none_told end.Limit k calm = refl
 none_told end.Oracle k calm = refl
@@ -138,6 +139,13 @@ never_checked (session_end.Driven (drive_end.TraceWriteFailed n)) steps v is = c
 never_checked (session_end.StartFailed w) steps v is = cc is
 never_checked session_end.Memory steps v is = cc is
 
+-- nor is it a session
+never_session : (how : SessionEnd) (steps number : ℕ) (its : Fate) → status_of how steps ≡ status.Session number its → ⊥
+never_session (session_end.Driven (drive_end.Ended e)) steps number its is = cc is
+never_session (session_end.Driven (drive_end.TraceWriteFailed n)) steps number its is = cc is
+never_session (session_end.StartFailed w) steps number its is = cc is
+never_session session_end.Memory steps number its is = cc is
+
 -- an instant that can be afforded may not be given up
 afforded : AffordableInstantsAreNotGivenUp → (m : State) (p : step.Phase) (y : List Value) → CanAffordIn m p y → (need : ℕ) → may_give_up_in m p y need ≡ false
 afforded law m (running c locals) y within need = law m.scene m.seed m.draw m.budget c y within need
@@ -176,30 +184,32 @@ module _ (keep : PlaysKeepToTheirRules State) (alike : AffordableRunsAreTheSame 
       IsPlayed k (with_contents r.inputs trace) (oracle_of r.oracle) (without_files old) (without_files new) core how → (s : Status) → status_of how core.written ≡ s → IsGivenUp s → ⊥
   never_by scene within k core how course played (status.Ran ending) e given_up_at = never_ran scene within k core how course played ending.end ending.at e given_up_at
   never_by scene within k core how course played (status.Checked v) e given_up_at = never_checked how core.written v e
+  never_by scene within k core how course played (status.Session number its) e given_up_at = never_session how core.written number its e
   never_by scene within k core how course played status.Done e given_up_at = given_up_at
   never_by scene within k core how course played (status.Usage kind) e given_up_at = given_up_at
   never_by scene within k core how course played (status.Refused reason) e given_up_at = given_up_at
   never_by scene within k core how course played (status.Device what at) e given_up_at = given_up_at
   never_by scene within k core how course played status.Memory e given_up_at = given_up_at
 
-  never_done : (work : Work) (names : List (List ℕ)) (s : Status) → IsDone r trace (without_files old) (without_files new) work names s → WorkIsAffordable r c o work → IsGivenUp s → ⊥
-  never_done _ _ _ (given.refused reason puts) within = λ e. e
-  never_done _ _ _ (given.written text same all) within = λ e. e
-  never_done _ _ _ (given.cut text same part) within = λ e. e
-  never_done _ _ _ (given.ran scene k core how course ahead played) within = never_by scene within k core how course played (status_of how core.written) refl
-  never_done _ _ _ (given.checked scene told v is same all) within = undecided v is
+  never_done : (work : Work) (names : List (List ℕ)) (s : Status) → IsDone r trace (without_files old) (without_files new) work names s → IsNoCampaign work → WorkIsAffordable r c o work → IsGivenUp s → ⊥
+  never_done _ _ _ (given.refused reason puts) alone within = λ e. e
+  never_done _ _ _ (given.written text same all) alone within = λ e. e
+  never_done _ _ _ (given.cut text same part) alone within = λ e. e
+  never_done _ _ _ (given.ran scene k core how course ahead played) alone within = never_by scene within k core how course played (status_of how core.written) refl
+  never_done _ _ _ (given.ran_many scene cores how blamed count first played) alone within = absurd alone
+  never_done _ _ _ (given.checked scene told v is same all) alone within = undecided v is
     where
       undecided : (w : Verdict) → IsVerdict scene r.budget told w → IsGivenUp (status.Checked w) → ⊥
       undecided verdict.Legal it e = e
       undecided (verdict.Illegal step) it e = e
       undecided (verdict.TooMany step) it e = e
       undecided (verdict.Budget need step) it e = within need step it
-  never_done _ _ _ (given.checked_in_part scene told v is same part) within = λ e. e
-  never_done _ _ _ (given.told n scene ps run same all) within = λ e. e
-  never_done _ _ _ (given.told_in_part n scene ps run same part) within = λ e. e
+  never_done _ _ _ (given.checked_in_part scene told v is same part) alone within = λ e. e
+  never_done _ _ _ (given.told n scene ps run same all) alone within = λ e. e
+  never_done _ _ _ (given.told_in_part n scene ps run same part) alone within = λ e. e
 
 pub never_given_up : PlaysKeepToTheirRules State → AffordableRunsAreTheSame State → AffordableInstantsAreNotGivenUp → UndisturbedSessionsAreWhole State → (r : Request) (contents : Contents) (c o : List ℕ) (answer : Answer) (asked names : List (List ℕ)) (old new : Outside Sources) (s : Status) →
-    SidesTell r contents old.inputs.programs c o → Gives r contents answer asked old new names s → WorkIsAffordable r c o answer.work → IsGivenUp s → ⊥
-never_given_up keep alike law sessions r contents c o answer asked names old new s sides (given.done ns t files is) within = never_done keep alike law sessions r contents.replay c o old new sides answer.work ns t is within
-never_given_up keep alike law sessions r contents c o answer asked names old new _ sides (given.by_file k some inside files puts) within = λ e. e
-never_given_up keep alike law sessions r contents c o answer asked names old new _ sides (given.by_memory k files puts) within = λ e. e
+    SidesTell r contents old.inputs.programs c o → Gives r contents answer asked old new names s → IsNoCampaign answer.work → WorkIsAffordable r c o answer.work → IsGivenUp s → ⊥
+never_given_up keep alike law sessions r contents c o answer asked names old new s sides (given.done ns t files is) alone within = never_done keep alike law sessions r contents.replay c o old new sides answer.work ns t is alone within
+never_given_up keep alike law sessions r contents c o answer asked names old new _ sides (given.by_file k some inside files puts) alone within = λ e. e
+never_given_up keep alike law sessions r contents c o answer asked names old new _ sides (given.by_memory k files puts) alone within = λ e. e

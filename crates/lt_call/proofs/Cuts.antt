@@ -113,6 +113,7 @@ module _ (law : CutSessionsAreFronts State) (calm : PlaysNeverBreak State) (whol
   done _ _ _ (given.written text same all) is u = absurd u
   done _ _ _ (given.cut text same part) is u = absurd (cc is)
   done _ _ _ (given.ran other k core how course ahead plays_so) is u = played k core (subst (λ (x : Scene). IsContinuationOf r x k) (same_scene other scene is) course) how plays_so u
+  done _ _ _ (given.ran_many other cores how blamed count first plays_so) is u = absurd (cc is)
   done _ _ _ (given.checked other told v verdict_is same all) is u = absurd u
   done _ _ _ (given.checked_in_part other told v verdict_is same part) is u = absurd (cc is)
   done _ _ _ (given.told n other ps run same all) is u = absurd u

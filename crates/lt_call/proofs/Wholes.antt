@@ -8,7 +8,6 @@ use Rattle.lt_drive.specs.Interaction.{text_to}
 use Rattle.lt_session.specs.Session.{IsPlayed}
 use Rattle.lt_io.specs.Programs.{Programs}
 use Rattle.lt_io.specs.Outside.{Outside, Sources, without_files}
-use Rattle.lt_call.specs.Call.{faults_of}
 use Rattle.lt_drive.specs.Told as told_streams
 use Rattle.lt_drive.specs.declared.drive_end.DriveEnd.TheVariants as drive_end
 use Rattle.lt_io.specs.Causes.{Rose, WhereTold}
@@ -30,27 +29,28 @@ use Rattle.lt_step.specs.Machine.{State}
 use Rattle.lt_term.specs.Scene.{Scene}
 use Rattle.lt_trace.specs.Told.{Told}
 use Rattle.lt_args.specs.Words.{Request}
+use Rattle.lt_args.specs.declared.words.Mode.TheVariants as mode
 use Rattle.lt_legal.specs.Verdict.{IsVerdict}
 use Rattle.lt_legal.specs.declared.verdict.Verdict.{Verdict}
 use Rattle.lt_legal.specs.declared.verdict.Verdict.TheVariants as verdict
 use Rattle.lt_stress.specs.Laws.{LargeRunsAreOne}
 use Rattle.lt_stress.specs.Report.{stress_line}
 use Rattle.lt_stress.specs.Run.{IsRunOf, sum_told}
-use Rattle.lt_call.specs.Call.{AreContents, GivesDue, IsCounted, IsText, IsTrace, blames}
+use Rattle.lt_call.specs.Call.{AreContents, GivesDue, IsCounted, IsText, IsTrace, broke, is_side}
 use Rattle.lt_loop.specs.InputSource.{InputSource, from_nobody, from_program, from_trace, with_contents}
 use Rattle.lt_call.specs.Run.{IsContinuationOf, oracle_of, run_of}
 use Rattle.lt_call.specs.Due as cause
-use Rattle.lt_call.specs.Due.{Answer, Contents, IsDue, Work, checks, has_file, refuses, writes, plays, stresses}
+use Rattle.lt_call.specs.Due.{Answer, Contents, IsDue, Work, checks, has_file, refuses, writes, plays, plays_many, stresses}
 use Rattle.lt_call.specs.Given as given
 use Rattle.lt_call.specs.Given.{Gives, IsDone, PutsNothing, status_of, verdict_text}
 use Rattle.lt_call.specs.Laws.{AffordableCallsAreNotGivenUp, AffordableCallsAreWhole, ContentsHaveOneDueAnswer, IsCutEarly, IsDecided, IsGivenUp, IsGivenUpAt, IsUnbroken, IsUncut, IsWhole, RefusalsAreExact, SameCallSameBytes, SidesTell, Tell, TellsText, TellsTrace, UncutCallsAreWhole, UndisturbedCallsAreUncut, WantOfMemoryWritesNothing}
 use Rattle.lt_call.specs.Lines.{status_lines}
 use Rattle.lt_call.proofs.Verdicts.{verdicts_are_one}
 use Rattle.lt_call.proofs.Budgets.{never_given_up, nothing_given_up}
+use Rattle.lt_call.specs.declared.status.Fate.TheVariants as fate
 use Rattle.lt_call.specs.declared.status.Status.{Status}
 use Rattle.lt_call.specs.declared.status.Status.TheVariants as status
 use Rattle.lt_call.specs.declared.status.Refusal.{Refusal}
-use Rattle.lt_call.specs.declared.status.Device.{Device}
 use Rattle.lt_call.specs.declared.status.Device.TheVariants as device
 
 -- Contents that are told.
@@ -125,6 +125,7 @@ done_whole law r trace c o work names old new s (given.refused reason puts) u te
 done_whole law r trace c o work names old new s (given.written text same all) u tell = (refl, refl, all)
 done_whole law r trace c o work names old new s (given.cut text same part) u tell = absurd u
 done_whole law r trace c o work names old new s (given.ran scene k core how course ahead is) u tell = played_whole law r trace c o scene k core how old new course ahead is u tell
+done_whole law r trace c o work names old new s (given.ran_many scene cores how blamed count first is) u tell = given.ran_many scene cores how blamed count first is
 done_whole law r trace c o work names old new s (given.checked scene told v is same all) u tell = (v, is, refl, refl, all, same)
 done_whole law r trace c o work names old new s (given.checked_in_part scene told v is same part) u tell = absurd u
 done_whole law r trace c o work names old new s (given.told n scene ps run same all) u tell = (ps, run, refl, refl, all, same)
@@ -142,25 +143,26 @@ uncut_calls_are_whole due law r contents told names asked old new s c o answer t
 
 -- Where the budget affords the searches, no instant is given up, and only want of memory is left.
 pub affordable_calls_are_not_given_up : ContentsHaveOneDueAnswer → PlaysKeepToTheirRules State → AffordableRunsAreTheSame State → AffordableInstantsAreNotGivenUp → UndisturbedSessionsAreWhole State → AffordableCallsAreNotGivenUp
-affordable_calls_are_not_given_up due keep alike law whole r contents told names asked old new s c o answer tell gives sides is within =
-    never_given_up keep alike law whole r contents c o answer asked names old new s sides (gives_this due r contents told asked names old new s answer tell gives is) within
+affordable_calls_are_not_given_up due keep alike law whole r contents told names asked old new s c o answer tell gives sides is alone within =
+    never_given_up keep alike law whole r contents c o answer asked names old new s sides (gives_this due r contents told asked names old new s answer tell gives is) alone within
 
 memory_or_not : (s : Status) → (s ≡ status.Memory) ⊎ (s ≢ status.Memory)
 memory_or_not status.Done = inr (λ e. cc e)
 memory_or_not (status.Ran ending) = inr (λ e. cc e)
 memory_or_not (status.Checked v) = inr (λ e. cc e)
+memory_or_not (status.Session number how) = inr (λ e. cc e)
 memory_or_not (status.Usage kind) = inr (λ e. cc e)
 memory_or_not (status.Refused reason) = inr (λ e. cc e)
 memory_or_not (status.Device what at) = inr (λ e. cc e)
 memory_or_not status.Memory = inl refl
 
 pub affordable_calls_are_whole : AffordableCallsAreNotGivenUp → UndisturbedCallsAreUncut → UncutCallsAreWhole → WantOfMemoryWritesNothing → AffordableCallsAreWhole
-affordable_calls_are_whole spared uncut whole want r contents told names asked old new s c o answer tell gives sides is within counts calm = by_memory (memory_or_not s)
+affordable_calls_are_whole spared uncut whole want r contents told names asked old new s c o answer tell gives sides is alone within counts calm = by_memory (memory_or_not s)
   where
     by_memory : (s ≡ status.Memory) ⊎ (s ≢ status.Memory) → IsWhole r contents.replay c o answer.work names old new s ⊎ ((s ≡ status.Memory) × Keeps old.trace.written new.trace.written)
     by_memory (inl e) = inr (e, want r told names asked old new (subst (λ (t : Status). GivesDue r told asked old new names t) e gives))
     by_memory (inr lasts) =
-        let never : IsGivenUp s → ⊥ = spared r contents told names asked old new s c o answer tell gives sides is within in
+        let never : IsGivenUp s → ⊥ = spared r contents told names asked old new s c o answer tell gives sides is alone within in
         inl (whole r contents told names asked old new s c o answer tell gives (uncut s old new counts calm lasts never) sides is)
 
 -- Two calls.
@@ -180,37 +182,42 @@ abbrev bytes_of : (r : Request) (trace c o : List ℕ) (work : Work) (names : Li
 bytes_of r trace c o (refuses reason) names old new s h = []
 bytes_of r trace c o (writes text) names old new s h = text
 bytes_of r trace c o (plays scene) names old new s h = text_to destination.Trace (run_of r scene None (told_streams.closed c) (told_streams.closed o)).pieces
+bytes_of r trace c o (plays_many scene) names old new s h = []
 bytes_of r trace c o (checks scene told) names old new s h = verdict_text told h.0
 bytes_of r trace c o (stresses n scene) names old new s h = stress_line n (sum_told h.0)
 
-whole_bytes : (r : Request) (trace c o : List ℕ) (work : Work) (names : List (List ℕ)) (old new : Outside Sources) (s : Status) (before now : List ℕ) → old.trace.written ≡ Some before → new.trace.written ≡ Some now → (h : IsWhole r trace c o work names old new s) → now ≡ before ++ bytes_of r trace c o work names old new s h
-whole_bytes r trace c o (refuses reason) names old new s before now e f h = keeps_all old.trace.written new.trace.written before now e f h.2.trace
-whole_bytes r trace c o (writes text) names old new s before now e f h = appends_all old.trace.written new.trace.written before now text e f h.2
-whole_bytes r trace c o (plays scene) names old new s before now e f h = appends_all old.trace.written new.trace.written before now _ e f h.4
-whole_bytes r trace c o (checks scene told) names old new s before now e f h = appends_all old.trace.written new.trace.written before now _ e f h.4
-whole_bytes r trace c o (stresses n scene) names old new s before now e f h = appends_all old.trace.written new.trace.written before now _ e f h.4
-
 -- The work leaves no choice: where it is a large run, there is one such run at most; where it is a check, one verdict but for
--- those of a budget. All other work is such.
+-- those of a budget. A campaign may go on in more than one way. All other work leaves none.
 abbrev IsDetermined : ℕ → Work → Type 0
 IsDetermined budget (stresses n scene) = (ps qs : List Piece) → IsRunOf n scene ps end.Limit → IsRunOf n scene qs end.Limit → ps ≡ qs
 IsDetermined budget (checks scene told) = (v w : Verdict) → IsVerdict scene budget told v → IsVerdict scene budget told w → IsDecided v → IsDecided w → v ≡ w
+IsDetermined budget (plays_many scene) = ⊥
 IsDetermined budget _ = Unit {0}
 
--- work that is due leaves none
-determined : LargeRunsAreOne → (r : Request) (contents : Contents) (answer : Answer) → IsDue r contents answer → IsDetermined r.budget answer.work
-determined law r contents _ (cause.too_long has long) = tt
-determined law r contents _ (cause.no_scenario reason mode short is) = tt
-determined law r contents _ (cause.too_many_atoms scene mode short is many) = tt
-determined law r contents _ (cause.unserved scene mode short is few served) = tt
-determined law r contents _ (cause.long_trace scene name mode short is few served inputs long) = tt
-determined law r contents _ (cause.runs scene mode short is few served trace) = tt
-determined law r contents _ (cause.long_checked scene name mode short is few inputs long) = tt
-determined law r contents _ (cause.bad_trace scene n mode short is few trace bad) = tt
-determined law r contents _ (cause.checked scene told mode short is few trace read) = verdicts_are_one scene r.budget told
-determined law r contents _ (cause.unprinted reason mode short is) = tt
-determined law r contents _ (cause.prints text mode short is) = tt
-determined law r contents _ (cause.stressed n scene mode is) = λ ps qs h k. (law n scene ps qs end.Limit end.Limit is h k).0
+-- work that is due leaves none, where no campaign is asked for
+determined : LargeRunsAreOne → (r : Request) (contents : Contents) (answer : Answer) → r.mode ≢ mode.Campaign → IsDue r contents answer → IsDetermined r.budget answer.work
+determined law r contents _ single (cause.too_long has long) = tt
+determined law r contents _ single (cause.no_scenario reason way short is) = tt
+determined law r contents _ single (cause.too_many_atoms scene way short is many) = tt
+determined law r contents _ single (cause.unserved scene way short is few served) = tt
+determined law r contents _ single (cause.long_trace scene name way short is few served inputs long) = tt
+determined law r contents _ single (cause.runs scene way short is few served trace) = tt
+determined law r contents _ single (cause.runs_many scene way short is few served trace) = absurd (single way)
+determined law r contents _ single (cause.long_checked scene name way short is few inputs long) = tt
+determined law r contents _ single (cause.bad_trace scene n way short is few trace bad) = tt
+determined law r contents _ single (cause.checked scene told way short is few trace read) = verdicts_are_one scene r.budget told
+determined law r contents _ single (cause.unprinted reason way short is) = tt
+determined law r contents _ single (cause.prints text way short is) = tt
+determined law r contents _ single (cause.stressed n scene way is) = λ ps qs h k. (law n scene ps qs end.Limit end.Limit is h k).0
+
+-- work that leaves no choice appends its bytes
+whole_bytes : (r : Request) (trace c o : List ℕ) (work : Work) (names : List (List ℕ)) (old new : Outside Sources) (s : Status) (before now : List ℕ) → IsDetermined r.budget work → old.trace.written ≡ Some before → new.trace.written ≡ Some now → (h : IsWhole r trace c o work names old new s) → now ≡ before ++ bytes_of r trace c o work names old new s h
+whole_bytes r trace c o (refuses reason) names old new s before now one e f h = keeps_all old.trace.written new.trace.written before now e f h.2.trace
+whole_bytes r trace c o (writes text) names old new s before now one e f h = appends_all old.trace.written new.trace.written before now text e f h.2
+whole_bytes r trace c o (plays scene) names old new s before now one e f h = appends_all old.trace.written new.trace.written before now _ e f h.4
+whole_bytes r trace c o (plays_many scene) names old new s before now one e f h = absurd one
+whole_bytes r trace c o (checks scene told) names old new s before now one e f h = appends_all old.trace.written new.trace.written before now _ e f h.4
+whole_bytes r trace c o (stresses n scene) names old new s before now one e f h = appends_all old.trace.written new.trace.written before now _ e f h.4
 
 -- a verdict of a call that isn't cut is decided
 decided : (s : Status) (v : Verdict) → s ≡ status.Checked v → IsUncut s → IsDecided v
@@ -225,6 +232,7 @@ same_bytes : (r : Request) (trace c o : List ℕ) (work : Work) (names names' : 
 same_bytes r trace c o (refuses reason) names names' old new old' new' s s' one u u' h k = refl
 same_bytes r trace c o (writes text) names names' old new old' new' s s' one u u' h k = refl
 same_bytes r trace c o (plays scene) names names' old new old' new' s s' one u u' h k = refl
+same_bytes r trace c o (plays_many scene) names names' old new old' new' s s' one u u' h k = refl
 same_bytes r trace c o (checks scene told) names names' old new old' new' s s' one u u' h k = ap (verdict_text told) (one_verdict r scene told s s' h.0 k.0 one h.1 k.1 h.2 k.2 u u')
 same_bytes r trace c o (stresses n scene) names names' old new old' new' s s' one u u' h k =
     ap (λ (ps : List Piece). stress_line n (sum_told ps)) (one k.0 h.0 k.1 h.1)
@@ -241,23 +249,24 @@ same_status r trace c o (plays scene) names names' old new old' new' s s' one u 
     let steps = step_count (run_of r scene None (told_streams.closed c) (told_streams.closed o)).pieces in
     let e : h.0 ≡ k.0 = same_end (run_of r scene None (told_streams.closed c) (told_streams.closed o)).stop h.0 k.0 h.1 k.1 in
     (h.2 ∙ ap (λ x. status.Ran (record { end = x; at = end_number x steps })) e ∙ sym k.2, h.3 ∙ sym k.3)
+same_status r trace c o (plays_many scene) names names' old new old' new' s s' one u u' h k = absurd one
 same_status r trace c o (stresses n scene) names names' old new old' new' s s' one u u' h k =
     (h.2 ∙ sym k.2, h.3 ∙ sym k.3)
 
 pub same_call_same_bytes : ContentsHaveOneDueAnswer → UncutCallsAreWhole → LargeRunsAreOne → SameCallSameBytes
-same_call_same_bytes due law large r contents told told' names names' asked asked' old new old' new' before now before' now' s s' c o tell gives u sides tell' gives' u' sides' e f e' f' =
+same_call_same_bytes due law large r contents told told' names names' asked asked' old new old' new' before now before' now' s s' c o single tell gives u sides tell' gives' u' sides' e f e' f' =
     let answer = (due r contents).0 in
     let first = law r contents told names asked old new s c o answer.0 tell gives u sides answer.1 in
     let second = law r contents told' names' asked' old' new' s' c o answer.0 tell' gives' u' sides' answer.1 in
-    let det = determined large r contents answer.0 answer.1 in
+    let det = determined large r contents answer.0 single answer.1 in
     let same = same_status r contents.replay c o answer.0.work names names' old new old' new' s s' det u u' first second in
     let bytes = same_bytes r contents.replay c o answer.0.work names names' old new old' new' s s' det u u' first second in (
       same.0,
       ap (λ ns. status_lines ns s) same.1 ∙ ap (status_lines names') same.0,
       (
         bytes_of r contents.replay c o answer.0.work names old new s first,
-        whole_bytes r contents.replay c o answer.0.work names old new s before now e f first,
-        whole_bytes r contents.replay c o answer.0.work names' old' new' s' before' now' e' f' second ∙ ap (λ b. before' ++ b) bytes,
+        whole_bytes r contents.replay c o answer.0.work names old new s before now det e f first,
+        whole_bytes r contents.replay c o answer.0.work names' old' new' s' before' now' det e' f' second ∙ ap (λ b. before' ++ b) bytes,
       ),
     )
 
@@ -268,6 +277,7 @@ refusal_done r trace work reason names old new s e (given.refused other puts) = 
 refusal_done r trace work reason names old new s e (given.written text same all) = absurd (cc)
 refusal_done r trace work reason names old new s e (given.cut text same part) = absurd (cc)
 refusal_done r trace work reason names old new s e (given.ran scene k core how course ahead is) = absurd (cc)
+refusal_done r trace work reason names old new s e (given.ran_many scene cores how blamed count first is) = absurd (cc)
 refusal_done r trace work reason names old new s e (given.checked scene told v is same all) = absurd (cc)
 refusal_done r trace work reason names old new s e (given.checked_in_part scene told v is same part) = absurd (cc)
 refusal_done r trace work reason names old new s e (given.told n scene ps run same all) = absurd (cc)
@@ -285,31 +295,31 @@ refusals_are_exact law r c told names asked files old new s reason tell gives du
 
 -- Nothing is cut where nothing failed.
 
-no_program : (w : Who) (before now : ℕ) → (Rose before now → ⊥) → IsCounted (device.Program w) (blames (status.Device (device.Program w) 0) (device.Program w)) before now → ⊥
-no_program who.Controller before now none counts = none counts
-no_program who.Oracle before now none counts = none counts
+-- a program that is blamed has a cause
+no_side : (w : Who) (before now : ℕ) → (Rose before now → ⊥) → IsCounted (device.Program w) (is_side w w) before now → ⊥
+no_side who.Controller before now none counts = none counts
+no_side who.Oracle before now none counts = none counts
 
-no_side : (w : Who) (at before now : ℕ) → (Rose before now → ⊥) → IsCounted (device.Program w) (blames (status.Ran (record { end = end.Device w; at = at })) (device.Program w)) before now → ⊥
-no_side who.Controller at before now none counts = none counts
-no_side who.Oracle at before now none counts = none counts
-
-calm_end : (e : End) (at : ℕ) (old new : Outside Sources) → ((what : Device) → IsCounted what (blames (status.Ran (record { end = e; at = at })) what) (faults_of what old) (faults_of what new)) → ((what : Device) → Rose (faults_of what old) (faults_of what new) → ⊥) →
-    (IsGivenUpAt e → ⊥) → IsUnbroken e
-calm_end (end.Device w) at old new counts none spared = no_side w at old.inputs.programs.faults new.inputs.programs.faults (none (device.Program w)) (counts (device.Program w))
-calm_end end.Normal at old new counts none spared = tt
-calm_end end.Limit at old new counts none spared = tt
-calm_end end.Oracle at old new counts none spared = tt
-calm_end end.Deadlock at old new counts none spared = tt
-calm_end (end.Raise x) at old new counts none spared = tt
-calm_end (end.Fault f) at old new counts none spared = tt
-calm_end end.TooLarge at old new counts none spared = tt
-calm_end (end.Malformed v f place) at old new counts none spared = tt
-calm_end (end.Ended v n) at old new counts none spared = tt
-calm_end (end.Budget n) at old new counts none spared = absurd (spared tt)
+calm_end : (e : End) (before now : ℕ) → ((w : Who) → IsCounted (device.Program w) (broke e w) before now) → (Rose before now → ⊥) → (IsGivenUpAt e → ⊥) → IsUnbroken e
+calm_end (end.Device w) before now counts none spared = no_side w before now none (counts w)
+calm_end end.Normal before now counts none spared = tt
+calm_end end.Limit before now counts none spared = tt
+calm_end end.Oracle before now counts none spared = tt
+calm_end end.Deadlock before now counts none spared = tt
+calm_end (end.Raise x) before now counts none spared = tt
+calm_end (end.Fault f) before now counts none spared = tt
+calm_end end.TooLarge before now counts none spared = tt
+calm_end (end.Malformed v f place) before now counts none spared = tt
+calm_end (end.Ended v n) before now counts none spared = tt
+calm_end (end.Budget n) before now counts none spared = absurd (spared tt)
 
 pub undisturbed_calls_are_uncut : UndisturbedCallsAreUncut
 undisturbed_calls_are_uncut status.Done old new counts none lasts spared = tt
-undisturbed_calls_are_uncut (status.Ran ending) old new counts none lasts spared = calm_end ending.end ending.at old new counts none spared
+undisturbed_calls_are_uncut (status.Ran ending) old new counts none lasts spared =
+    calm_end ending.end old.inputs.programs.faults new.inputs.programs.faults (λ w. counts (device.Program w)) (none (device.Program who.Controller)) spared
+undisturbed_calls_are_uncut (status.Session number (fate.Ran ending)) old new counts none lasts spared =
+    calm_end ending.end old.inputs.programs.faults new.inputs.programs.faults (λ w. counts (device.Program w)) (none (device.Program who.Controller)) spared
+undisturbed_calls_are_uncut (status.Session number (fate.Unstarted w)) old new counts none lasts spared = no_side w old.inputs.programs.faults new.inputs.programs.faults (none (device.Program w)) (counts (device.Program w))
 undisturbed_calls_are_uncut (status.Checked verdict.Legal) old new counts none lasts spared = tt
 undisturbed_calls_are_uncut (status.Checked (verdict.Illegal step)) old new counts none lasts spared = tt
 undisturbed_calls_are_uncut (status.Checked (verdict.TooMany step)) old new counts none lasts spared = tt
@@ -317,6 +327,6 @@ undisturbed_calls_are_uncut (status.Checked (verdict.Budget need step)) old new 
 undisturbed_calls_are_uncut (status.Usage kind) old new counts none lasts spared = tt
 undisturbed_calls_are_uncut (status.Refused reason) old new counts none lasts spared = tt
 undisturbed_calls_are_uncut (status.Device device.File at) old new counts none lasts spared = none device.File (counts device.File)
-undisturbed_calls_are_uncut (status.Device (device.Program w) at) old new counts none lasts spared = no_program w old.inputs.programs.faults new.inputs.programs.faults (none (device.Program w)) (counts (device.Program w))
+undisturbed_calls_are_uncut (status.Device (device.Program w) at) old new counts none lasts spared = no_side w old.inputs.programs.faults new.inputs.programs.faults (none (device.Program w)) (counts (device.Program w))
 undisturbed_calls_are_uncut (status.Device device.Trace at) old new counts none lasts spared = none device.Trace (counts device.Trace)
 undisturbed_calls_are_uncut status.Memory old new counts none lasts spared = lasts refl

@@ -24,12 +24,15 @@ use Rattle.lt_session.specs.Told.{Gives as Tells, GivesBeside as TellsBeside}
 use Rattle.lt_stress.specs.Report.{stress_line}
 use Rattle.lt_stress.specs.Run.{IsRunOf, sum_told}
 use Rattle.lt_args.specs.Words.{Request}
+use Rattle.lt_args.specs.declared.words.Mode.TheVariants as mode
 use Rattle.lt_call.specs.Call.{GivesDue, IsCounted, blames}
 use Rattle.lt_loop.specs.InputSource.{InputSource, from_trace, with_contents}
 use Rattle.lt_call.specs.Run.{RunIsAffordable, oracle_of, plan_of, run_of}
-use Rattle.lt_call.specs.Due.{Answer, Contents, IsDue, Work, checks, refuses, writes, plays, stresses, has_file}
-use Rattle.lt_call.specs.Given.{PutsNothing, verdict_text}
+use Rattle.lt_call.specs.Due.{Answer, Contents, IsDue, IsNoCampaign, Work, checks, refuses, writes, plays, plays_many, stresses, has_file}
+use Rattle.lt_call.specs.Given.{IsDone, PutsNothing, verdict_text}
 use Rattle.lt_call.specs.Lines.{status_lines}
+use Rattle.lt_call.specs.declared.status.Fate.{Fate}
+use Rattle.lt_call.specs.declared.status.Fate.TheVariants as fate
 use Rattle.lt_call.specs.declared.status.Status.{Status}
 use Rattle.lt_call.specs.declared.status.Status.TheVariants as status
 use Rattle.lt_call.specs.declared.status.Refusal.{Refusal}
@@ -74,12 +77,18 @@ abbrev pub IsDecided : Verdict → Type 0
 IsDecided (verdict.Budget need step) = ⊥
 IsDecided _ = Unit {0}
 
+-- no program of a session failed, and no instant of it was given up
+abbrev pub IsUnbrokenFate : Fate → Type 0
+IsUnbrokenFate (fate.Ran ending) = IsUnbroken ending.end
+IsUnbrokenFate (fate.Unstarted w) = ⊥
+
 -- no device failed, memory lasted, and no instant or search was given up
 abbrev pub IsUncut : Status → Type 0
 IsUncut (status.Device what at) = ⊥
 IsUncut status.Memory = ⊥
 IsUncut (status.Ran ending) = IsUnbroken ending.end
 IsUncut (status.Checked v) = IsDecided v
+IsUncut (status.Session number how) = IsUnbrokenFate how
 IsUncut _ = Unit {0}
 
 -- Work is done whole, where this is the earlier trace, and these bytes come of the two sides: its status, the names of its
@@ -93,6 +102,8 @@ IsWhole request trace c o (plays scene) names old new s =
     × (names ≡ scene.exceptions)
     × Appends old.trace.written new.trace.written (text_to destination.Trace (run_of request scene None (closed c) (closed o)).pieces)
     × AreSent (with_contents request.inputs trace) (oracle_of request.oracle) (run_of request scene None (closed c) (closed o)).pieces 0 0 old.inputs.programs new.inputs.programs
+IsWhole request trace c o (plays_many scene) names old new s =
+    IsDone request trace (without_files old) (without_files new) (plays_many scene) names s
 IsWhole request trace c o (checks scene told) names old new s =
     (v : Verdict) × IsVerdict scene request.budget told v × (s ≡ status.Checked v) × (names ≡ [])
     × Appends old.trace.written new.trace.written (verdict_text told v) × Same old.inputs.programs new.inputs.programs
@@ -110,10 +121,12 @@ UncutCallsAreWhole =
 
 -- Two calls that ask for the same of the same contents, of which the same comes of both sides, and that neither a device nor
 -- want of memory nor a budget cuts short, have the same status, say the same, and append the same bytes to their traces,
--- whatever these held before.
+-- whatever these held before. Of campaigns that isn't said: how the bytes of programs come decides in which round a session has
+-- which event.
 abbrev pub SameCallSameBytes : Type 0
 SameCallSameBytes =
     (request : Request) (contents : Contents) (told told' : List ℕ → Option (List ℕ)) (names names' asked asked' : List (List ℕ)) (old new old' new' : Outside Sources) (before now before' now' : List ℕ) (s s' : Status) (c o : List ℕ) →
+    request.mode ≢ mode.Campaign →
     Tell request told contents → GivesDue request told asked old new names s → IsUncut s → SidesTell request contents old.inputs.programs c o →
     Tell request told' contents → GivesDue request told' asked' old' new' names' s' → IsUncut s' → SidesTell request contents old'.inputs.programs c o →
     old.trace.written ≡ Some before → new.trace.written ≡ Some now → old'.trace.written ≡ Some before' → new'.trace.written ≡ Some now' →
@@ -138,10 +151,16 @@ abbrev pub IsGivenUpAt : End → Type 0
 IsGivenUpAt (end.Budget need) = Unit {0}
 IsGivenUpAt _ = ⊥
 
+-- an instant of a session was given up
+abbrev pub IsGivenUpFate : Fate → Type 0
+IsGivenUpFate (fate.Ran ending) = IsGivenUpAt ending.end
+IsGivenUpFate (fate.Unstarted w) = ⊥
+
 -- an instant of a run was given up, or a search of a check
 abbrev pub IsGivenUp : Status → Type 0
 IsGivenUp (status.Ran ending) = IsGivenUpAt ending.end
 IsGivenUp (status.Checked (verdict.Budget need step)) = Unit {0}
+IsGivenUp (status.Session number how) = IsGivenUpFate how
 IsGivenUp _ = ⊥
 
 -- Where no device's count of faults rose, memory didn't run out, and nothing was given up, a call isn't cut.
@@ -159,7 +178,7 @@ WorkIsAffordable request c o (checks scene told) =
 WorkIsAffordable request c o other = Unit {0}
 
 -- Where files and sides tell what they have, and each leaf at which the draws of the run arrive, or that a check asks, has a
--- need within the budget, a call gives nothing up.
+-- need within the budget, a call that makes no campaign gives nothing up.
 abbrev pub AffordableCallsAreNotGivenUp : Type 0
 AffordableCallsAreNotGivenUp =
     (request : Request) (contents : Contents) (told : List ℕ → Option (List ℕ))
@@ -167,7 +186,7 @@ AffordableCallsAreNotGivenUp =
     (answer : Answer) →
     Tell request told contents → GivesDue request told asked old new names s →
     SidesTell request contents old.inputs.programs c o → IsDue request contents answer →
-    WorkIsAffordable request c o answer.work → IsGivenUp s → ⊥
+    IsNoCampaign answer.work → WorkIsAffordable request c o answer.work → IsGivenUp s → ⊥
 
 -- Where, besides, no device's count of faults rose, a call does its work whole, or memory ran out and
 -- nothing was written.
@@ -178,7 +197,7 @@ AffordableCallsAreWhole =
     (answer : Answer) →
     Tell request told contents → GivesDue request told asked old new names s →
     SidesTell request contents old.inputs.programs c o → IsDue request contents answer →
-    WorkIsAffordable request c o answer.work →
+    IsNoCampaign answer.work → WorkIsAffordable request c o answer.work →
     ((what : Device) → IsCounted what (blames s what) (faults_of what old) (faults_of what new)) →
     ((what : Device) → Rose (faults_of what old) (faults_of what new) → ⊥) →
     IsWhole request contents.replay c o answer.work names old new s

@@ -1,9 +1,11 @@
 -- The run of a scenario, as words ask for it.
-use Rattle.std.specs.Prelude.{◌≡◌, ℕ, List, [], ◌∷◌, None, Some}
+use Rattle.std.specs.Prelude.{◌≡◌, ◌+◌, ◌%◌, ◌^◌, ℕ, List, [], ◌∷◌, None, Some}
 use Rattle.std.specs.Option.{is_some}
 use Rattle.std.specs.declared.option.Option.{Option}
 use Rattle.lt_drive.specs.Drive.{Continuation}
+use Rattle.lt_loop.specs.CoreState.{CoreState, core_giving_up, resume}
 use Rattle.lt_loop.specs.CoreView.{stream_of}
+use Rattle.lt_loop.specs.Event.{WantsTell}
 use Rattle.lt_loop.specs.Machine.{GivenUp, giving_up}
 use Rattle.lt_loop.specs.Plan.{Plan}
 use Rattle.lt_loop.specs.Places.{ComesTo, EachInstant, Place, first_place}
@@ -11,6 +13,7 @@ use Rattle.lt_loop.specs.Play.{Piece, Play, play_of}
 use Rattle.lt_loop.specs.Side.{Rest}
 use Rattle.lt_play.specs.Rules.{known_scene, scenario_rules}
 use Rattle.lt_loop.specs.InputSource.{InputSource, from_nobody, from_program, from_trace, talk_of}
+use Rattle.lt_loop.specs.declared.event.Wants.TheVariants as wants
 use Rattle.lt_step.specs.Machine.{CanAfford, State, started}
 use Rattle.lt_term.specs.Scene.{Scene}
 use Rattle.lt_args.specs.Words.{Request}
@@ -67,3 +70,24 @@ pub record IsContinuationOf (request : Request) (scene : Scene) (k : Continuatio
   pub unwritten : k.written ≡ 0
   pub gives_up : Option GivenUp
   pub plays : (controller oracle : Rest) → k.play controller oracle ≡ run_of request scene gives_up controller oracle
+
+-- This is the core of such a run before its first event.
+pub record IsFirstCore (request : Request) (scene : Scene) (core : CoreState State) : Type 0 where
+  pub wants : WantsTell core wants.Turn
+  pub plan : core.plan ≡ plan_of request scene
+  pub unwritten : core.written ≡ 0
+  pub plays : (u : Option GivenUp) (controller oracle : Rest) →
+      resume (core_giving_up u core) controller oracle ≡ run_of request scene u controller oracle
+
+-- what is asked for of the run of a session of this number, from 0, in a campaign: the seed is as much
+-- greater, and goes on from 0 beyond the greatest
+abbrev pub session_request : Request → ℕ → Request
+session_request request session =
+    record request { seed = (request.seed + session) % 2 ^ 64 }
+
+-- These are the cores of the runs of a scenario in a campaign, from a session on.
+abbrev pub AreFirstCores : Request → Scene → ℕ → List (CoreState State) → Type 0
+AreFirstCores request scene session [] = Unit {0}
+AreFirstCores request scene session (core ∷ cores) =
+    IsFirstCore (session_request request session) scene core
+    × AreFirstCores request scene (session + 1) cores

@@ -1,8 +1,10 @@
 //! Laws of whole calls. The functions do nothing: their contracts say it.
 
+ghost use Rattle.lt_call.specs.Campaigns.{CampaignsAreTheirRuns};
 ghost use Rattle.lt_call.specs.Cut.{CutCallsAreFronts};
 ghost use Rattle.lt_call.specs.Laws.{AffordableCallsAreNotGivenUp, AffordableCallsAreWhole, ContentsHaveOneDueAnswer, RefusalsAreExact, RepliesAreMissedOnlySo, SameCallSameBytes, UncutCallsAreWhole, UndisturbedCallsAreUncut, WantOfMemoryWritesNothing};
 
+use lt_campaign::{runs_are_alone, sessions_are_alone, sessions_begin};
 use lt_frontend::{texts_have_one_printed_answer, texts_have_one_scenario_answer};
 use lt_instant::affordable_instants_are_not_given_up;
 use lt_loop::{affordable_runs_are_the_same, budgets_have_a_cause, plays_keep_to_their_rules};
@@ -100,3 +102,15 @@ pub fn affordable_calls_are_whole()
 pub fn want_of_memory_writes_nothing()
     ensures { WantOfMemoryWritesNothing }
 {}
+
+/// Where no write to the trace failed, and memory lasted, a campaign went to its end, and each of its sessions had the run that
+/// it would have alone: where its links tell what they have left, and neither a side's fault nor a budget ended it, the text
+/// that belongs to it in the frames of the trace is the trace of a run of the same scenario with its seed.
+pub fn campaigns_are_their_runs()
+    ensures { CampaignsAreTheirRuns }
+{
+    sessions_begin::<Player>();
+    runs_are_alone::<Player>();
+    sessions_are_alone::<Player>();
+    lt_campaign::undisturbed_sessions_are_whole::<Player>();
+}

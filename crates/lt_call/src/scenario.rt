@@ -98,7 +98,9 @@ fn by_mode<F: Files, P: Spawner, S: Sink>(
         (names_of result) result.status }
 {
     match request.mode {
-        Mode::Run => run_served(alloc, request, text, scenario, files, spawner, trace),
+        Mode::Run | Mode::Campaign => {
+            run_served(alloc, request, text, scenario, files, spawner, trace)
+        }
         Mode::Check => {
             let status = check_trace(alloc, request, text, &scenario, files, trace);
             not_run(scenario, status)

@@ -56,6 +56,7 @@ module _ (one : TextsHaveOneScenarioAnswer) (request : Request) (contents : Cont
   ran_due c o names old new ending _ (due.runs other run short also few served fits) whole =
       let same = one_scene one request contents scene other has also in
       record { run = run; short = short; few = subst HasFewAtoms same few; served = subst (IsServed request) same served; work = ap plays same }
+  ran_due c o names old new ending _ (due.runs_many other way short also few served fits) whole = absurd (let modes : mode.Campaign ≡ mode.Run = sym way ∙ running in cc modes)
   ran_due c o names old new ending _ (due.long_checked other name way short also few by long) whole = absurd (cc whole.0)
   ran_due c o names old new ending _ (due.bad_trace other n way short also few fits bad) whole = absurd (cc whole.0)
   ran_due c o names old new ending _ (due.checked other told way short also few fits read) whole = absurd (cc whole.2)

@@ -49,7 +49,7 @@ use Rattle.lt_args.specs.Words.{IsWithin, Request}
 use Rattle.lt_args.specs.declared.words.Mode.TheVariants as mode
 use Rattle.lt_call.specs.Call.{IsText}
 use Rattle.lt_call.specs.Run.{IsContinuationOf, first_machine, plan_of, run_of}
-use Rattle.lt_call.specs.Due.{Answer, Contents, IsDue, IsServed, Work, checks, has_file, plays, stresses, writes}
+use Rattle.lt_call.specs.Due.{Answer, Contents, IsDue, IsServed, Work, checks, has_file, plays, plays_many, stresses, writes}
 use Rattle.lt_call.specs.Due as due
 use Rattle.lt_call.specs.Given as given
 use Rattle.lt_call.specs.Given.{Gives, IsDone, status_of}
@@ -398,6 +398,7 @@ record RunsIt (request : Request) (scene : Scene) (work : Work) : Type 0 where
   writes_not : (printed : List ℕ) → work ≡ writes printed → ⊥
   stresses_not : (n : ℕ) (other : Scene) → work ≡ stresses n other → ⊥
   checks_not : (other : Scene) (told : Told) → work ≡ checks other told → ⊥
+  campaigns_not : (other : Scene) → work ≡ plays_many other → ⊥
 
 module _ (keep : PlaysKeepToTheirRules State) (cuts : GivingUpIsACut State) (traces : ScenarioTracesShowTheirRun) (prefixes : ScenarioPrefixesShowTheirRun) (request : Request) (text : List ℕ) (scene : Scene) (within : IsWithin request) (has : IsScenarioAnswer request.decimals request.node text (Ok scene)) where
   is_run : IsServed request scene → IsRunOf request.decimals request.node text scene (setup_of request)
@@ -409,6 +410,7 @@ module _ (keep : PlaysKeepToTheirRules State) (cuts : GivingUpIsACut State) (tra
   done_shows trace old new _ _ _ it (given.cut printed same part) = absurd (it.writes_not printed refl)
   done_shows trace old new _ _ _ it (given.checked other told v verdict same all) = tt
   done_shows trace old new _ _ _ it (given.checked_in_part other told v verdict same part) = absurd (it.checks_not other told refl)
+  done_shows trace old new _ _ _ it (given.ran_many other cores how blamed count first was) = absurd (it.campaigns_not other refl)
   done_shows trace old new _ _ _ it (given.told n other ps run same all) = tt
   done_shows trace old new _ _ _ it (given.told_in_part n other ps run same part) = absurd (it.stresses_not n other refl)
   done_shows trace old new _ _ _ it (given.ran other k core how course ahead is) =
@@ -423,20 +425,21 @@ module _ (keep : PlaysKeepToTheirRules State) (cuts : GivingUpIsACut State) (tra
 -- what is due to a request whose scenario is this one
 due_runs : TextsHaveOneScenarioAnswer → (request : Request) (text : List ℕ) (scene : Scene) (contents : Contents) (answer : Answer) → request.mode ≡ mode.Run → contents.scenario ≡ text →
     IsScenarioAnswer request.decimals request.node text (Ok scene) → IsDue request contents answer → RunsIt request scene answer.work
-due_runs one request text scene contents _ run read has (due.too_long file long) = record { runs = λ other e. absurd (cc e); writes_not = λ printed e. absurd (cc e); stresses_not = λ n x e. absurd (cc e); checks_not = λ x t e. absurd (cc e) }
-due_runs one request text scene contents _ run read has (due.no_scenario reason way short why) = record { runs = λ other e. absurd (cc e); writes_not = λ printed e. absurd (cc e); stresses_not = λ n x e. absurd (cc e); checks_not = λ x t e. absurd (cc e) }
-due_runs one request text scene contents _ run read has (due.too_many_atoms other way short also many) = record { runs = λ x e. absurd (cc e); writes_not = λ printed e. absurd (cc e); stresses_not = λ n x e. absurd (cc e); checks_not = λ x t e. absurd (cc e) }
-due_runs one request text scene contents _ run read has (due.unserved other way short also few none) = record { runs = λ x e. absurd (cc e); writes_not = λ printed e. absurd (cc e); stresses_not = λ n x e. absurd (cc e); checks_not = λ x t e. absurd (cc e) }
-due_runs one request text scene contents _ run read has (due.long_trace other name way short also few served by long) = record { runs = λ x e. absurd (cc e); writes_not = λ printed e. absurd (cc e); stresses_not = λ n x e. absurd (cc e); checks_not = λ x t e. absurd (cc e) }
+due_runs one request text scene contents _ run read has (due.too_long file long) = record { runs = λ other e. absurd (cc e); writes_not = λ printed e. absurd (cc e); stresses_not = λ n x e. absurd (cc e); checks_not = λ x t e. absurd (cc e); campaigns_not = λ x e. absurd (cc e) }
+due_runs one request text scene contents _ run read has (due.no_scenario reason way short why) = record { runs = λ other e. absurd (cc e); writes_not = λ printed e. absurd (cc e); stresses_not = λ n x e. absurd (cc e); checks_not = λ x t e. absurd (cc e); campaigns_not = λ x e. absurd (cc e) }
+due_runs one request text scene contents _ run read has (due.too_many_atoms other way short also many) = record { runs = λ x e. absurd (cc e); writes_not = λ printed e. absurd (cc e); stresses_not = λ n x e. absurd (cc e); checks_not = λ x t e. absurd (cc e); campaigns_not = λ x e. absurd (cc e) }
+due_runs one request text scene contents _ run read has (due.unserved other way short also few none) = record { runs = λ x e. absurd (cc e); writes_not = λ printed e. absurd (cc e); stresses_not = λ n x e. absurd (cc e); checks_not = λ x t e. absurd (cc e); campaigns_not = λ x e. absurd (cc e) }
+due_runs one request text scene contents _ run read has (due.long_trace other name way short also few served by long) = record { runs = λ x e. absurd (cc e); writes_not = λ printed e. absurd (cc e); stresses_not = λ n x e. absurd (cc e); checks_not = λ x t e. absurd (cc e); campaigns_not = λ x e. absurd (cc e) }
 due_runs one request text scene contents _ run read has (due.runs other way short also few served fits) =
     let there : IsScenarioAnswer request.decimals request.node text (Ok other) = subst (λ (t : List ℕ). IsScenarioAnswer request.decimals request.node t (Ok other)) read also in
     let answers : Ok other ≡ Ok scene = (one request.decimals request.node text).1 (Ok other) (Ok scene) there has in
     let same : other ≡ scene = cc in
-    record { runs = λ x e. let again : other ≡ x = cc in (sym again ∙ same, subst (IsServed request) same served); writes_not = λ printed e. absurd (cc e); stresses_not = λ n x e. absurd (cc e); checks_not = λ x t e. absurd (cc e) }
-due_runs one request text scene contents _ run read has (due.long_checked other name way short also few by long) = record { runs = λ x e. absurd (cc e); writes_not = λ printed e. absurd (cc e); stresses_not = λ n x e. absurd (cc e); checks_not = λ x t e. absurd (cc e) }
-due_runs one request text scene contents _ run read has (due.bad_trace other n way short also few fits bad) = record { runs = λ x e. absurd (cc e); writes_not = λ printed e. absurd (cc e); stresses_not = λ n x e. absurd (cc e); checks_not = λ x t e. absurd (cc e) }
+    record { runs = λ x e. let again : other ≡ x = cc in (sym again ∙ same, subst (IsServed request) same served); writes_not = λ printed e. absurd (cc e); stresses_not = λ n x e. absurd (cc e); checks_not = λ x t e. absurd (cc e); campaigns_not = λ x e. absurd (cc e) }
+due_runs one request text scene contents _ run read has (due.runs_many other way short also few served fits) = absurd (let modes : mode.Campaign ≡ mode.Run = sym way ∙ run in cc modes)
+due_runs one request text scene contents _ run read has (due.long_checked other name way short also few by long) = record { runs = λ x e. absurd (cc e); writes_not = λ printed e. absurd (cc e); stresses_not = λ n x e. absurd (cc e); checks_not = λ x t e. absurd (cc e); campaigns_not = λ x e. absurd (cc e) }
+due_runs one request text scene contents _ run read has (due.bad_trace other n way short also few fits bad) = record { runs = λ x e. absurd (cc e); writes_not = λ printed e. absurd (cc e); stresses_not = λ n x e. absurd (cc e); checks_not = λ x t e. absurd (cc e); campaigns_not = λ x e. absurd (cc e) }
 due_runs one request text scene contents _ run read has (due.checked other told way short also few fits tells) = absurd (let modes : mode.Check ≡ mode.Run = sym way ∙ run in cc modes)
-due_runs one request text scene contents _ run read has (due.unprinted reason way short why) = record { runs = λ other e. absurd (cc e); writes_not = λ printed e. absurd (cc e); stresses_not = λ n x e. absurd (cc e); checks_not = λ x t e. absurd (cc e) }
+due_runs one request text scene contents _ run read has (due.unprinted reason way short why) = record { runs = λ other e. absurd (cc e); writes_not = λ printed e. absurd (cc e); stresses_not = λ n x e. absurd (cc e); checks_not = λ x t e. absurd (cc e); campaigns_not = λ x e. absurd (cc e) }
 due_runs one request text scene contents _ run read has (due.prints printed way short why) = absurd (let modes : mode.Print ≡ mode.Run = sym way ∙ run in cc modes)
 due_runs one request text scene contents _ run read has (due.stressed n other way is) = absurd (let modes : mode.Stress n ≡ mode.Run = sym way ∙ run in cc modes)
 

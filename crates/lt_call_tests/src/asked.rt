@@ -12,7 +12,7 @@ fn words_are_read_as_they_stand(rt: HostRuntime) -> Result<(), Fail> {
         r#"
 ## wrong words are told by their kind: words
 f is node n() returns (b: bool) = b fby not b
-= 2 lurette: usage: words\nlurette MODE FILE [-l N] [--seed N] [--precision N] [--budget N] [--node NAME] [--sut CMD] [--oracle CMD] [--replay FILE] [--locals] [--draw N]
+= 2 lurette: usage: words\nlurette MODE FILE [-l N] [--seed N] [--precision N] [--budget N] [--node NAME] [--sut CMD] [--oracle CMD] [--replay FILE] [--locals] [--draw N] [--count N]
 files 0
 
 $
@@ -27,14 +27,14 @@ $ run f --draw
 
 ## wrong words are told by their kind: mode
 f is node n() returns (b: bool) = b fby not b
-= 2 lurette: usage: mode\nlurette MODE FILE [-l N] [--seed N] [--precision N] [--budget N] [--node NAME] [--sut CMD] [--oracle CMD] [--replay FILE] [--locals] [--draw N]
+= 2 lurette: usage: mode\nlurette MODE FILE [-l N] [--seed N] [--precision N] [--budget N] [--node NAME] [--sut CMD] [--oracle CMD] [--replay FILE] [--locals] [--draw N] [--count N]
 files 0
 
 $ walk f --sut c --replay t
 
 ## wrong words are told by their kind: number
 f is node n() returns (b: bool) = b fby not b
-= 2 lurette: usage: number\nlurette MODE FILE [-l N] [--seed N] [--precision N] [--budget N] [--node NAME] [--sut CMD] [--oracle CMD] [--replay FILE] [--locals] [--draw N]
+= 2 lurette: usage: number\nlurette MODE FILE [-l N] [--seed N] [--precision N] [--budget N] [--node NAME] [--sut CMD] [--oracle CMD] [--replay FILE] [--locals] [--draw N] [--count N]
 files 0
 
 $ stress 1000000
@@ -45,7 +45,7 @@ $ stress x --sut c --replay t
 
 ## wrong words are told by their kind: both
 f is node n() returns (b: bool) = b fby not b
-= 2 lurette: usage: both\nlurette MODE FILE [-l N] [--seed N] [--precision N] [--budget N] [--node NAME] [--sut CMD] [--oracle CMD] [--replay FILE] [--locals] [--draw N]
+= 2 lurette: usage: both\nlurette MODE FILE [-l N] [--seed N] [--precision N] [--budget N] [--node NAME] [--sut CMD] [--oracle CMD] [--replay FILE] [--locals] [--draw N] [--count N]
 files 0
 
 $ run f --replay t --sut c

@@ -169,19 +169,52 @@ fn programs_of(alloc: Global, row: &str) -> Result<MemSpawner, Fail> {
 fn push_links(alloc: Global, links: &mut Vec<(String, ScriptLink)>, row: &str) -> Result<(), Fail> {
     for line in row.lines() {
         if let Some((program, replies)) = told_of_program(line, "says ") {
-            let link = link_of(alloc, row, program, replies)?;
-            links.push((unescaped(alloc, program)?, link))?;
+            let name = unescaped(alloc, program)?;
+            let number = count_of(links, &name);
+            let link = link_of(alloc, row, program, number, replies)?;
+            links.push((name, link))?;
         }
     }
     Ok(())
 }
 
-fn link_of(alloc: Global, row: &str, program: &str, replies: &str) -> Result<ScriptLink, Fail> {
-    let room = value_of(row, program, " holds ").unwrap_or("100");
+// How many of the links have this name.
+fn count_of(links: &[(String, ScriptLink)], name: &str) -> usize {
+    let mut count = 0usize;
+    for (other, _) in links {
+        if other.as_str() == name {
+            count = count.saturating_add(1);
+        }
+    }
+    count
+}
+
+// The link of a program that has this number among those of its name.
+fn link_of(
+    alloc: Global,
+    row: &str,
+    program: &str,
+    number: usize,
+    replies: &str,
+) -> Result<ScriptLink, Fail> {
+    let room = link_value_of(alloc, row, program, number, "holds ")?.unwrap_or("100");
     let room = room.parse::<usize>()?;
-    let cuts = numbers_of(alloc, value_of(row, program, " cuts "))?;
-    let failing = numbers_of(alloc, value_of(row, program, " fails "))?;
+    let cuts = numbers_of(alloc, link_value_of(alloc, row, program, number, "cuts ")?)?;
+    let failing = numbers_of(alloc, link_value_of(alloc, row, program, number, "fails ")?)?;
     let mut says = String::new(alloc);
     push_unquoted(&mut says, replies)?;
     Ok(ScriptLink::make(alloc, says.into_bytes(), cuts, room, failing)?)
+}
+
+// What stands after this word for the link of this number of a program, or else for all of its links.
+fn link_value_of<'a>(
+    alloc: Global,
+    row: &'a str,
+    program: &str,
+    number: usize,
+    word: &str,
+) -> Result<Option<&'a str>, Fail> {
+    let own = format!(in alloc; " {number} {word}")?;
+    let shared = format!(in alloc; " {word}")?;
+    Ok(value_of(row, program, &own).or(value_of(row, program, &shared)))
 }

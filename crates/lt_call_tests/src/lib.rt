@@ -7,6 +7,8 @@ mod asked;
 #[cfg(test)]
 mod calling;
 #[cfg(test)]
+mod campaigns;
+#[cfg(test)]
 mod checked;
 #[cfg(test)]
 mod drawn;

@@ -29,6 +29,7 @@ f is node n() returns (b: bool) = <<201 times (>>
 #[test]
 fn texts_are_refused_with_their_places(rt: HostRuntime) -> Result<(), Fail> {
     check_rows(&rt, "$ run f", 7, UNREAD)?;
+    check_rows(&rt, "$ campaign f --count 2", 7, UNREAD)?;
     check_rows(&rt, "$ print f", 7, UNREAD)
 }
 
@@ -62,6 +63,7 @@ f is let m(): int = 1 node n() returns (b: bool) = pre m
 fn programs_that_break_a_rule_of_types_are_refused(rt: HostRuntime) -> Result<(), Fail> {
     check_rows(&rt, "$ run f --precision 6", 8, ILL_TYPED)?;
     check_rows(&rt, "$ run f --precision 0", 8, ILL_TYPED)?;
+    check_rows(&rt, "$ campaign f --count 2", 8, ILL_TYPED)?;
     check_rows(&rt, "$ print f\nis printed", 8, ILL_TYPED)
 }
 
@@ -106,6 +108,7 @@ f is node n(y: int) returns (x: int [0;3]) = loop x = 1
 #[test]
 fn nodes_without_a_scenario_are_refused(rt: HostRuntime) -> Result<(), Fail> {
     check_rows(&rt, "$ run", 8, WITHOUT_SCENARIO)?;
+    check_rows(&rt, "$ campaign --count 2", 8, WITHOUT_SCENARIO)?;
     check_rows(&rt, "$ print\nis printed", 8, WITHOUT_SCENARIO)
 }
 

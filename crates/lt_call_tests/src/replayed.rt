@@ -162,7 +162,7 @@ t is "t t "
 c says "t "
 
 $ run f --sut c --replay t
-= 2 lurette: usage: both\nlurette MODE FILE [-l N] [--seed N] [--precision N] [--budget N] [--node NAME] [--sut CMD] [--oracle CMD] [--replay FILE] [--locals] [--draw N]
+= 2 lurette: usage: both\nlurette MODE FILE [-l N] [--seed N] [--precision N] [--budget N] [--node NAME] [--sut CMD] [--oracle CMD] [--replay FILE] [--locals] [--draw N] [--count N]
 files 0
 
 $ print f --sut c --replay t

@@ -10,9 +10,11 @@
 //! f is node n() ..          the text of the file `f`. Several such lines are lines of that text
 //! t is "5 #outs 7\n"        the file `t`, which an earlier trace stands in. There is none without such a line
 //! t is its trace            the file `t` has the trace that comes of the call
-//! c says "7 8 "             there is a program `c`, and this is all that it says
+//! c says "7 8 "             there is a program `c`, and this is all that it says. Several such lines are that of the first
+//!                           one of this name that is started, that of the second one, and so on
 //! c cuts 1 3                the most bytes of each piece in which it says that
 //! c holds 3                 it has room for so many bytes that it is sent
+//! c 1 holds 3               the second one has; likewise with `cuts` and `fails`. The first one is 0
 //! c fails 1                 the calls of it that fail, where the first one is 0; likewise with
 //! reads fail 0              the files that are read,
 //! starts fail 0             the programs that are started,
@@ -47,6 +49,9 @@ const BEGINNINGS: &str =
     "## ;$;f is ;t is ;reads fail ;starts fail ;ends fail ;writes fail ;says fails ;trace cuts ;trace holds ;beside plants;> ;= ;asks ;files ;is printed";
 
 const OF_PROGRAMS: &str = "says ;cuts ;holds ;fails ;got ";
+
+// What may stand after its number where several have that name.
+const OF_ONE_OF_THEM: &str = "cuts ;holds ;fails ";
 
 // Each row of tables that have so many comes to what it says. All of them share these lines, which stand in prefix.
 pub fn check_rows(
@@ -127,7 +132,16 @@ fn is_read(row: &str, line: &str) -> bool {
     let Some((program, rest)) = line.split_once(' ') else {
         return false;
     };
-    begins_with_one(rest, OF_PROGRAMS) && value_of(row, program, " says ").is_some()
+    is_of_program(rest) && value_of(row, program, " says ").is_some()
+}
+
+// Whether this may stand after the name of a program.
+fn is_of_program(rest: &str) -> bool {
+    let Some((number, behind)) = rest.split_once(' ') else {
+        return false;
+    };
+    begins_with_one(rest, OF_PROGRAMS)
+        || (number.parse::<usize>().is_ok() && begins_with_one(behind, OF_ONE_OF_THEM))
 }
 
 fn begins_with_one(line: &str, beginnings: &str) -> bool {

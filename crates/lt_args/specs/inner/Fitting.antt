@@ -2,7 +2,7 @@
 use Rattle.std.specs.Prelude.{ℕ, List, IfSome, codes}
 use Rattle.clap.specs.Values.{IsUnsignedIn}
 use Rattle.clap.specs.Walk.{Row, Text, one_of}
-use Rattle.lt_args.specs.Settings.{most_steps, most_seed, most_decimals, most_budget, most_draw}
+use Rattle.lt_args.specs.Settings.{most_steps, most_seed, most_decimals, most_budget, most_count, most_draw}
 
 -- where an option was given, its word is a number within bounds
 abbrev pub Fits : Text → ℕ → ℕ → List Row → Type 0
@@ -15,3 +15,4 @@ pub record NumbersFit (found : List Row) : Type 0 where
   pub decimals : Fits (codes "precision") 0 most_decimals found
   pub budget : Fits (codes "budget") 1 most_budget found
   pub draw : Fits (codes "draw") 1 most_draw found
+  pub count : Fits (codes "count") 1 most_count found

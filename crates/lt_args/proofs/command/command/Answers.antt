@@ -18,4 +18,5 @@ returns c =
     let oracle = c.in_ok-made-9.ensures ∙ ap₂ with_rule sut c.with_word-3.ensures.rule in
     let replay = c.in_ok-made-10.ensures ∙ ap₂ with_rule oracle c.with_word-4.ensures.rule in
     let locals = c.in_ok-made-11.ensures ∙ ap₂ with_rule replay c.locals.ensures.rule in
-    IfOk-weaker c.with-12.result _ _ (λ made last. last ∙ ap₂ with_rule locals c.with_number-4.ensures.rule) c.with-12.ensures
+    let draw = c.in_ok-made-12.ensures ∙ ap₂ with_rule locals c.with_number-4.ensures.rule in
+    IfOk-weaker c.with-13.result _ _ (λ made last. last ∙ ap₂ with_rule draw c.with_number-5.ensures.rule) c.with-13.ensures
