@@ -7,7 +7,8 @@ from collections import namedtuple
 
 # The options that a word belongs to.
 VALUED = (
-    "-l", "--seed", "--precision", "--budget", "--node", "--sut", "--oracle", "--replay", "--draw"
+    "-l", "--seed", "--precision", "--budget", "--node", "--sut", "--oracle", "--replay", "--draw",
+    "--count",
 )
 
 # What a call says: its role ("mode", "file" or the option's name), and the text of it, which stands

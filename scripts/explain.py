@@ -4,11 +4,13 @@
 
 Standard output, standard error and the status are the program's own. What is said more comes behind
 its last line, on standard error: a sentence, the line of the file with a caret at the place, and
-behind a run that found something the call that plays it again. Of an earlier trace that is replayed
-by another seed or rule of drawing it is said which ones it has, also where all went well. On a
-terminal it is also said where the program waits long for a controller or an oracle.
+behind a run that found something the call that plays it again. Of a campaign that is said of the
+session that its line names. Of an earlier trace that is replayed by another seed or rule of drawing
+it is said which ones it has, also where all went well. On a terminal it is also said where the
+program waits long for a controller or an oracle, and how many sessions of a campaign are over.
 """
 
+import io
 import os
 import re
 import signal
@@ -18,6 +20,8 @@ import threading
 
 import call_words
 import next_calls
+import progress
+import traces
 import waiting
 
 # Each code of a refusal.
@@ -51,7 +55,7 @@ CODES = {
 # Each kind of a fault of the words.
 USAGES = {
     "words": "An option is unknown, given twice or lacks its argument, or MODE or FILE is missing.",
-    "mode": "The first word is none of the modes run, print, check and stress.",
+    "mode": "The first word is none of the modes run, campaign, print, check and stress.",
     "number": "After stress comes a number from 0 to 999999, in digits only.",
     "both": "A run takes its inputs from --sut or from --replay, not from both.",
     "trace": "A check takes the trace to check from --replay.",
@@ -99,6 +103,12 @@ ENDS = {
 # What `ended controller` says where an earlier trace answers.
 NO_MORE = "The trace that is replayed has no answer for this step."
 
+# The beginning of a line of a campaign, which names a session.
+OF_A_SESSION = re.compile(r"session (\d+): ")
+
+# What is said of an earlier trace that is that of a campaign.
+MANY_RUNS = "this is a campaign's trace, with the answers of all its sessions in turn. One of them:"
+
 # The beginning of a trace, with its seed and the rule of drawing, which isn't there if it is 1.
 HEADER = re.compile(rb"#seed (\d+)\n(?:#draw (\d)\n)?")
 
@@ -110,6 +120,9 @@ TABLES = {
     "malformed": REPLIES,
     "device": DEVICES,
 }
+
+# The modes that make runs.
+RUNNING = ("run", "campaign")
 
 # The greatest budget that a call may have, and how many lines of hard constraints are shown.
 MOST_BUDGET, MOST_LINES = 10**12, 3
@@ -215,7 +228,13 @@ def bad_line(meant, number, words):
     except OSError:
         return [meant]
     shown = lines[number - 1].decode("utf-8", "replace") if number <= len(lines) else ""
-    return [f"{name}:{number}: {meant}", *([f"    {shown}"] if shown else [])]
+    hint = framed_hint(name) if traces.is_framed(lines[0] + b"\n") else []
+    return [f"{name}:{number}: {meant}", *([f"    {shown}"] if shown else []), *hint]
+
+
+def framed_hint(name):
+    """What is said of an earlier trace that is that of a campaign."""
+    return [f"{name}: {MANY_RUNS}", f"    {next_calls.parts_call(name, 0)}"]
 
 
 def replay_hint(line, words):
@@ -224,12 +243,15 @@ def replay_hint(line, words):
     name = call_words.text_of(words, "--replay")
     try:
         with open(name or "", "rb") as file:
-            header = HEADER.match(file.read(64))
+            beginning = file.read(64)
     except OSError:
         return []
-    if header is None or line.startswith(("usage", "refused", "device")):
+    header, mode = HEADER.match(beginning), call_words.text_of(words, "mode")
+    if mode not in RUNNING or line.startswith(("usage", "refused", "device")):
         return []
-    if call_words.text_of(words, "mode") != "run":
+    if traces.is_framed(beginning):
+        return framed_hint(name)
+    if header is None or mode != "run":
         return []
     number = lambda role, default: (call_words.text_of(words, role) or default).lstrip("0") or "0"
     seed, rule = header[1].decode(), (header[2] or b"1").decode()
@@ -271,11 +293,15 @@ def line_of(said):
     return own[-1] if own else ""
 
 
-def copied(stream, kept):
-    """Hands standard error on as it comes, and keeps the end of it."""
-    for chunk in iter(lambda: os.read(stream.fileno(), 65536), b""):
+def copied(stream, kept, shown):
+    """Hands standard error on as it comes, beside a line that is shown, and keeps the end of it."""
+
+    def hand_on(chunk):
         sys.stderr.buffer.write(chunk)
         sys.stderr.flush()
+
+    for chunk in iter(lambda: os.read(stream.fileno(), 65536), b""):
+        shown.beside(lambda: hand_on(chunk), chunk.endswith(b"\n"))
         kept[:] = (kept + chunk)[-65536:]
 
 
@@ -283,29 +309,78 @@ def say(line):
     print(line, file=sys.stderr, flush=True)
 
 
-def watch(run, words):
-    """Has it said where a run waits long for a side."""
+def count_of(words):
+    """How many sessions a campaign has; 0 where the words ask for none."""
+    count = call_words.text_of(words, "--count") or "1"
+    is_campaign = call_words.text_of(words, "mode") == "campaign"
+    return int(count) if is_campaign and re.fullmatch(r"\+?[0-9]+", count) else 0
+
+
+def sides_of(words):
+    """The names of the programs that a call starts, in turn."""
     names = {"--sut": "controller", "--oracle": "oracle"}
     sides = [name for role, name in names.items() if call_words.text_of(words, role) is not None]
+    if call_words.text_of(words, "mode") != "campaign":
+        return sides
+    count = min(count_of(words), traces.MOST_SESSIONS)
+    return [f"{side} of session {session}" for session in range(count) for side in sides]
+
+
+def in_the_background(work, *given):
+    found = threading.Thread(target=work, args=given, daemon=True)
+    found.start()
+    return found
+
+
+def watch(run, words, shown):
+    """Has it said where a run waits long for a side."""
+    sides = sides_of(words)
     if sides:
-        threading.Thread(target=waiting.tell_once, args=(run, sides, say), daemon=True).start()
+        tell = lambda line: shown.beside(lambda: say(line), True)
+        in_the_background(waiting.tell_once, run, sides, tell)
+
+
+def watch_trace(run, words, file, shown):
+    """Has it shown how many sessions of a campaign are over, if its trace goes to a file. Gives what
+    does so, or None."""
+    if file is None or not count_of(words):
+        return None
+    grown = io.BufferedReader(progress.Growing(file, lambda: run.poll() is not None))
+    return in_the_background(progress.follow, grown, count_of(words), shown)
+
+
+def told_lines(line, words, trace):
+    """What is said below a line of the program, which didn't go well."""
+    session = OF_A_SESSION.match(line)
+    if session is None or call_words.text_of(words, "mode") != "campaign":
+        return explanation(line, words)
+    number, rest = int(session[1]), line[session.end() :]
+    run = next_calls.alone(words, number)
+    return explanation(rest, run) + next_calls.session_lines(number, rest, run, trace)
 
 
 def main(program, *words):
     # What the terminal sends goes to the program too. It ends by it, and this with it.
     signal.signal(signal.SIGINT, lambda *_: None)
-    run = subprocess.Popen([program, *words], stderr=subprocess.PIPE)
+    shown, file = progress.Line(sys.stderr, "lurette"), None
     if sys.stderr.isatty():
-        watch(run, words)
+        file = progress.opened(1)
+    run = subprocess.Popen([program, *words], stderr=subprocess.PIPE)
+    follower = None
+    if sys.stderr.isatty():
+        watch(run, words, shown)
+        follower = watch_trace(run, words, file, shown)
     kept = bytearray()
-    copier = threading.Thread(target=copied, args=(run.stderr, kept), daemon=True)
-    copier.start()
+    copier = in_the_background(copied, run.stderr, kept, shown)
     status = run.wait()
-    # A program that still runs may hold standard error open.
-    copier.join(1)
+    # A program that still runs may hold standard error open, and a long trace be read no further.
+    for it in (copier, follower):
+        if it is not None:
+            it.join(1)
+    shown.close()
     line, trace = line_of(bytes(kept)), next_calls.trace_file()
     if status > 0:
-        for told in explanation(line, words):
+        for told in told_lines(line, words, trace):
             say(told)
     if status >= 0:
         for told in replay_hint(line, words) + next_calls.lines(line, words, trace):

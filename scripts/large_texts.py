@@ -43,12 +43,13 @@ def padded(text, length, filler=" "):
 
 
 def end_of(outcome):
-    """The status of a call, and how it ended in words: a line of its own, or that of the trace."""
+    """The status of a call, and how it ended in words: a line of its own, or what the last one of
+    the trace says."""
     if outcome.status is None:
         return "it had not ended"
     if outcome.status < 0:
         return f"the signal {-outcome.status}"
     said = outcome.errors.decode("utf-8", "replace").partition("\n")[0]
     last = outcome.output[-200:].decode("utf-8", "replace").rstrip("\n").rpartition("\n")[2]
-    words = said[len("lurette: ") :] if said else last[len("#end ") :] if last[:1] == "#" else ""
+    words = said[len("lurette: ") :] if said else last.partition(" ")[2] if last[:1] == "#" else ""
     return f"{outcome.status} {words}".rstrip()

@@ -13,9 +13,9 @@ TOP = os.path.dirname(os.path.dirname(os.path.abspath(__file__)))
 # A row of the table of words: the word with what follows it, and its meaning.
 Word = namedtuple("Word", "name operand meaning")
 
-MODES = ("run", "print", "check", "stress")
+MODES = ("run", "campaign", "print", "check", "stress")
 # What the script takes in place of a mode: each is a script of its own.
-SCRIPTS = ("shorten", "reached")
+SCRIPTS = ("shorten", "reached", "parts")
 
 BASH = """_lurette() {
     local word=${COMP_WORDS[COMP_CWORD]} before=${COMP_WORDS[COMP_CWORD - 1]}
@@ -42,7 +42,9 @@ LINES
 """
 
 # What is completed behind an option, by the word that COMMAND has for it.
-ZSH_KINDS = {"": "", "N": ":number:", "NAME": ":node:", "CMD": ":command:_command_names -e"}
+ZSH_KINDS = {
+    "": "", "N": ":number:", "I": ":session:", "NAME": ":name:", "CMD": ":command:_command_names -e"
+}
 
 
 def page():
@@ -141,7 +143,7 @@ def bash():
     known = all_options()
     names = [it.name for it in known] + [name for name, _ in of_the_script()]
     takes = lambda *operands: "|".join(it.name for it in known if it.operand in operands)
-    text = BASH.replace("PLAIN", takes("N", "NAME")).replace("COMMANDS", takes("CMD"))
+    text = BASH.replace("PLAIN", takes("N", "I", "NAME")).replace("COMMANDS", takes("CMD"))
     return text.replace("OPTIONS", " ".join(names)).replace("MODES", " ".join(MODES + SCRIPTS))
 
 

@@ -105,6 +105,17 @@ CALLS = (
         0,
         earlier=[*BESIDE, "--draw", "2", *SUT],
     ),
+    # Campaigns. Of two sessions with programs it isn't known whose piece comes first.
+    Call("campaign", ["campaign", *ALONE[1:], "--count", "3"], 0),
+    Call("campaign beside both", ["campaign", *BESIDE[1:], "--locals", *SUT, *ORACLE], 0),
+    Call(
+        "campaign, played again",
+        ["campaign", *BESIDE[1:], "--count", "2", "--replay", "earlier"],
+        0,
+        earlier=[*BESIDE, *SUT],
+    ),
+    on("campaign of deadlocks", NODE + "b and not b", 4, "campaign f --count 64"),
+    on("campaign, a controller isn't there", INPUT, 9, "campaign f --count 2 --sut ./nothing"),
     # Runs that end otherwise.
     on("run to its end", NODE + "b fby not b", 0),
     Call("verdict", ["run", "f", "--oracle", "./side got.oracle f"], 1, {"f": NODE + "b"}),

@@ -21,15 +21,36 @@ def shown(path):
     return path if near.startswith(os.pardir + os.sep) else near
 
 
-def again(words, step):
-    """The words of the same run up to a step."""
+def with_option(words, name, text):
+    """The words with a text for an option, in place of the one that it has there."""
     parts = call_words.parts_of(words)
-    if any(it.role == "-l" for it in parts):
-        change = lambda part: step if part.role == "-l" else part.text
+    if any(it.role == name for it in parts):
+        change = lambda part: text if part.role == name else part.text
         return call_words.with_texts(words, change)
     file = next(it.index for it in parts if it.role == "file")
     at = 0 if "--" in words[:file] else file + 1
-    return [*words[:at], "-l", step, *words[at:]]
+    return [*words[:at], name, text, *words[at:]]
+
+
+def without_option(words, name):
+    """The words without an option."""
+    part = next((it for it in call_words.parts_of(words) if it.role == name), None)
+    if part is None:
+        return list(words)
+    return [*words[: part.index - (part.start == 0)], *words[part.index + 1 :]]
+
+
+def again(words, step):
+    """The words of the same run up to a step."""
+    return with_option(words, "-l", step)
+
+
+def alone(words, session):
+    """The words of the run that a session of a campaign is."""
+    change = lambda part: "run" if part.role == "mode" else part.text
+    run = without_option(call_words.with_texts(words, change), "--count")
+    seed = int(call_words.text_of(words, "--seed") or "0")
+    return with_option(run, "--seed", str((seed + session) % 2**64))
 
 
 def called(words):
@@ -64,3 +85,24 @@ def lines(line, words, trace):
     seed, step = call_words.text_of(words, "--seed") or "0", found[1]
     told = [f"Seed {seed}, step {step}. The same again:", f"    {called(again(words, step))}"]
     return told + picture_lines(trace)
+
+
+def parts_call(trace, session):
+    """The call that takes a session out of the trace of a campaign."""
+    return called(["parts", shown(trace), "--session", str(session)])
+
+
+def session_lines(session, line, words, trace):
+    """What to type behind a line of a campaign, whose session is the run of these words."""
+    found, seed = FOUND.fullmatch(line), call_words.text_of(words, "--seed")
+    step = f", step {found[1]}" if found else ""
+    call = called(again(words, found[1]) if found else words)
+    told = [f"Session {session} has the seed {seed}{step}. The same run alone:", f"    {call}"]
+    if not trace:
+        return told
+    each = called(["parts", shown(trace), "--list"])
+    return told + [
+        "Its trace, and how each session ended:",
+        f"    {parts_call(trace, session)} >{session}.trace",
+        f"    {each}",
+    ]

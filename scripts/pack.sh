@@ -5,8 +5,8 @@
 
 # What whoever runs the program needs of the scripts.
 FOR_USERS='start.sh lurette.help lt_plant.help explain.py call_words.py next_calls.py
-    waiting.py traces.py draw_trace.py reached.py reached_picture.py reach_counts.py shorten.py
-    shortening.py smaller.py failing.py sides.py nodes.py children.py'
+    waiting.py progress.py traces.py parts.py draw_trace.py reached.py reached_picture.py
+    reach_counts.py shorten.py shortening.py smaller.py failing.py sides.py nodes.py children.py'
 
 # Puts a program into a tree, with its stamp, which has the sum of the text that it was built of.
 pack_program() {

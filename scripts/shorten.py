@@ -17,6 +17,7 @@ import sys
 
 import failing
 import next_calls
+import progress
 import shortening
 import traces
 
@@ -26,22 +27,6 @@ INTERRUPTED = 130
 
 def say(text):
     print(f"{TITLE}: {text}", file=sys.stderr)
-
-
-class Progress:
-    """A line on a terminal that is written again and again."""
-
-    def __init__(self, file):
-        self.file = file if file.isatty() else None
-
-    def tell(self, text):
-        if self.file:
-            self.file.write(f"\r\x1b[K{TITLE}: {text}")
-            self.file.flush()
-
-    def clear(self):
-        if self.file:
-            self.file.write("\r\x1b[K")
 
 
 # -- What is given ---------------------------------------------------------------------------------
@@ -195,7 +180,7 @@ def conclude(search):
     return 0
 
 
-def searched(given, search, steps_before, progress):
+def searched(given, search, steps_before, line):
     """Searches, writes what was found, and says so; gives the status."""
     trouble, is_interrupted = None, False
     try:
@@ -205,20 +190,20 @@ def searched(given, search, steps_before, progress):
         search.stop()
     except failing.CannotShorten as why:
         trouble = why
-    progress.clear()
+    line.clear()
     write(search)
     say(told_lengths(search, steps_before))
     if trouble is not None or is_interrupted:
         say(trouble or "it was interrupted, so this is the shortest run so far")
         return 1 if trouble else INTERRUPTED
     status = conclude(search)
-    for line in next_lines(given, search, steps_before):
-        print(line, file=sys.stderr)
+    for told in next_lines(given, search, steps_before):
+        print(told, file=sys.stderr)
     return status
 
 
 def main(words):
-    given, progress = parser().parse_args(words), Progress(sys.stderr)
+    given, line = parser().parse_args(words), progress.Line(sys.stderr, TITLE)
     signal.signal(signal.SIGTERM, signal.default_int_handler)
     try:
         trace = given_trace(given.trace)
@@ -227,17 +212,17 @@ def main(words):
         say(why)
         return 2
     try:
-        progress.tell("the run is played again")
+        line.tell("the run is played again")
         steps = first_steps(bench, trace, given.trace)
     except failing.CannotShorten as why:
-        progress.clear()
+        line.clear()
         say(why)
         return 1
     except KeyboardInterrupt:
         bench.children.stop()
         return INTERRUPTED
-    search = shortening.Search(bench, steps, given.jobs, given.seconds, progress.tell)
-    return searched(given, search, len(steps), progress)
+    search = shortening.Search(bench, steps, given.jobs, given.seconds, line.tell)
+    return searched(given, search, len(steps), line)
 
 
 if __name__ == "__main__":

@@ -160,11 +160,11 @@ answer_at_once() {
 }
 
 # Runs a script over traces, where the first word names one. Only `shorten` takes the program, and
-# not where it is to say which words it has.
+# not where it is to say which words it has. The others need none.
 start_script() {
     script=${1-}
     case $name:$script in
-        lurette:reached | lurette:shorten) shift ;;
+        lurette:reached | lurette:parts | lurette:shorten) shift ;;
         *) return 0 ;;
     esac
     need python3

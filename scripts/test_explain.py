@@ -192,6 +192,64 @@ class Replays(unittest.TestCase):
         self.assertEqual(explain.explanation("ended oracle 8", replay), [explain.ENDS["ended"]])
 
 
+class Campaigns(unittest.TestCase):
+    """What is said of a session is what is said of its run, with the call for it."""
+
+    CALL = ["campaign", "f", "--count", "4", "--seed", "9", "--replay", "old"]
+
+    def test_the_words_of_a_session_are_those_of_a_run(self):
+        found = explain.told_lines("session 3: fault Overflow 2", self.CALL, None)
+        self.assertEqual(found[0], explain.FAULTS["Overflow"])
+        self.assertEqual(found[1], "Session 3 has the seed 12, step 2. The same run alone:")
+        self.assertTrue(found[2].endswith("lurette run f -l 2 --seed 12 --replay old"))
+        found = explain.told_lines("session 0: ended controller 8", self.CALL, None)
+        self.assertEqual(found[0], explain.NO_MORE)
+
+    def test_each_line_of_a_session_has_a_sentence(self):
+        for line in (
+            "oracle 5", "deadlock 5", "raise e 5", "toolarge 5", "ended oracle 5", "budget 77 5",
+            "malformed controller NotAValue 1 at 0", "device oracle 0", "device controller 5",
+        ):
+            self.assertEqual(
+                explain.told_lines(f"session 1: {line}", self.CALL, None)[0],
+                explain.explanation(line, ["run", *self.CALL[1:]])[0],
+            )
+
+    def test_other_lines_of_a_campaign_name_no_session(self):
+        for line in ("device trace 0", "memory", "refused type.NoNode", "usage: both"):
+            self.assertEqual(len(explain.told_lines(line, self.CALL, None)), 1, line)
+
+    def test_a_run_has_no_sessions(self):
+        self.assertEqual(explain.told_lines("session 1: oracle 5", ["run", "f"], None), [])
+
+    def test_a_campaign_is_no_trace_to_replay(self):
+        with tempfile.TemporaryDirectory() as room:
+            path = os.path.join(room, "all")
+            with open(path, "w", encoding="utf-8") as file:
+                file.write("#from 0 8\n#seed 0\n#campaign 1 ended 0\n")
+            for mode in ("run", "campaign"):
+                found = explain.replay_hint("ended controller 1", [mode, "f", "--replay", path])
+                self.assertEqual(found[0], f"{path}: {explain.MANY_RUNS}")
+                self.assertTrue(found[1].endswith(f"lurette parts {path} --session 0"))
+            words = ["check", "f", "--replay", path]
+            self.assertEqual(explain.replay_hint("", words), [])
+            found = explain.explanation("refused check.BadLine at 1", words)
+            self.assertEqual(found[2], f"{path}: {explain.MANY_RUNS}")
+
+    def test_programs_of_sessions_are_named(self):
+        words = ["campaign", "f", "--sut", "c", "--oracle", "o", "--count", "2"]
+        self.assertEqual(explain.sides_of(words), [
+            "controller of session 0", "oracle of session 0",
+            "controller of session 1", "oracle of session 1",
+        ])
+        words = ["run", "f", "--oracle", "o", "--count", "2"]
+        self.assertEqual(explain.sides_of(words), ["oracle"])
+        for count, wanted in (("+02", 2), ("2", 2), ("x", 0)):
+            self.assertEqual(explain.count_of(["campaign", "f", "--count", count]), wanted)
+        self.assertEqual(explain.count_of(["campaign", "f"]), 1)
+        self.assertEqual(explain.count_of(["run", "f"]), 0)
+
+
 class Programs(unittest.TestCase):
     def test_the_last_line_of_the_program_counts(self):
         self.assertEqual(explain.line_of(b"hum\nlurette: deadlock 4\n"), "deadlock 4")

@@ -42,7 +42,7 @@ class Packed(Repository):
         self.assertEqual(self.call("--unproved", name=f"{place}/bin/lurette")[0], 2)
         found = self.call("--unproved", "run", "f", name=f"{place}/bin/lurette")
         self.assertEqual(found[0], 125)
-        for name in ("shorten", "reached"):
+        for name in ("shorten", "reached", "parts"):
             found = self.call(name, "--help", name=f"{place}/bin/lurette", PATH=self.BARE)
             self.assertEqual((found[0], found[2]), (0, []))
         for path in ("man/man1/lurette.1", "zsh/site-functions/_lurette"):

@@ -51,6 +51,10 @@ def one_step(*words):
     return ("run", "-l", "1", *words)
 
 
+def campaign(count):
+    return ("campaign", "--count", str(count))
+
+
 def static(place):
     return f"3 refused expand.BadStatic at {place}"
 
@@ -295,6 +299,12 @@ LIMITS = {
         Row(pigeons(10, 9), f"10 budget {pigeons_need(10)} 1"),
     ],
     "rules of drawing": options("--draw"),
+    "sessions of a campaign": [
+        Row(NODE + "b", USAGE, campaign(0)),
+        Row(NODE + "b", "0 1 ended 1", campaign(1)),
+        Row(NODE + "b", "0 64 ended 64", campaign(64)),
+        Row(NODE + "b", USAGE, campaign(65)),
+    ],
     "bytes of a reply": [
         replied(b"5", "0 limit 1", before=b"1" + b" " * 65_533),
         replied(b"5", malformed("TooLong", 0), before=b"1" + b" " * 65_534),

@@ -15,6 +15,7 @@ import call_words
 import calls
 import check_docs
 import manual
+import parts
 import reached
 import shorten
 
@@ -45,7 +46,7 @@ class Help(unittest.TestCase):
     def test_options_are_those_of_the_table(self):
         wanted = {(it.name, it.operand, *said_of(it)) for it in manual.options()}
         self.assertEqual(set(lines_of_help()), wanted)
-        self.assertEqual(len(wanted), 10)
+        self.assertEqual(len(wanted), 11)
 
     def test_scripts_and_their_words_are_those_of_the_tables(self):
         known = manual.of_the_scripts()
@@ -59,7 +60,7 @@ class Help(unittest.TestCase):
         self.assertEqual(told, wanted)
 
     def test_scripts_take_the_words_of_their_tables(self):
-        for name, script in (("shorten", shorten), ("reached", reached)):
+        for name, script in (("shorten", shorten), ("reached", reached), ("parts", parts)):
             rows = manual.table(f"| Word of `{name}` | Meaning |")
             wanted = {it for head, _ in rows for it in re.findall(r"--[a-z]+", head)}
             actions = [it for it in script.parser()._actions if it.help != argparse.SUPPRESS]
@@ -108,7 +109,7 @@ class Program(unittest.TestCase):
         usual = self.outcome()
         self.assertEqual(usual.status, 0)
         tried = [(name, default) for name, _, default, _ in lines_of_help() if default]
-        self.assertEqual(len(tried), 5)
+        self.assertEqual(len(tried), 6)
         for name, default in tried:
             found = self.outcome(f"{name}={default}")
             self.assertEqual((found.status, found.output), (0, usual.output), name)

@@ -49,6 +49,43 @@ class Again(unittest.TestCase):
         self.assertTrue(found[3].endswith("draw_trace.py '/a b/trace' >picture.svg"))
 
 
+class Sessions(unittest.TestCase):
+    """A session of a campaign is a run of its own."""
+
+    def test_its_run_has_the_seed_that_it_had(self):
+        for call, session, wanted in (
+            ("campaign f", 0, "run f --seed 0"),
+            ("campaign f --count 3", 2, "run f --seed 2"),
+            ("--count=3 campaign f --seed +005 -l 9", 2, "run f --seed 7 -l 9"),
+            ("--count 3 -- campaign -f", 1, "--seed 1 -- run -f"),
+            (f"campaign --seed={2**64 - 1} f --count 64", 2, "run --seed=1 f"),
+            ("campaign f --sut 'a b' --count 3 -l 2", 1, "run f --seed 1 --sut 'a b' -l 2"),
+        ):
+            found = next_calls.alone(shlex.split(call), session)
+            self.assertEqual(found, shlex.split(wanted), call)
+
+    def said(self, line, trace=None):
+        run = next_calls.alone(["campaign", "f", "--count", "3", "--seed", "5"], 2)
+        return next_calls.session_lines(2, line, run, trace)
+
+    def test_it_is_called_up_to_its_step(self):
+        found = self.said("oracle 61")
+        self.assertEqual(found[0], "Session 2 has the seed 7, step 61. The same run alone:")
+        self.assertTrue(found[1].endswith("lurette run f -l 61 --seed 7"))
+        self.assertEqual(len(found), 2)
+
+    def test_a_line_without_a_step_has_a_call_too(self):
+        for line in ("device controller 0", "device oracle 4", "toolarge 4"):
+            found = self.said(line)
+            self.assertEqual(found[0], "Session 2 has the seed 7. The same run alone:")
+            self.assertTrue(found[1].endswith("lurette run f --seed 7"))
+
+    def test_its_trace_is_taken_out_of_a_file(self):
+        found = self.said("oracle 61", "/a b/all")
+        self.assertTrue(found[3].endswith("lurette parts '/a b/all' --session 2 >2.trace"))
+        self.assertTrue(found[4].endswith("lurette parts '/a b/all' --list"))
+
+
 class Reads(unittest.TestCase):
     """A process stands for lurette: its child answers nothing, and it waits for that."""
 

@@ -62,7 +62,7 @@ def counted(*texts):
 def framed(*pieces):
     """Pieces of sessions as a campaign frames them."""
     frames = [f"#from {it} {len(text)}\n{text}" for it, text in pieces]
-    return "".join([*frames, "#campaign 2 ended 1\n"])
+    return "".join([*frames, "#campaign 3 ended 1\n"])
 
 
 class Counting(unittest.TestCase):

@@ -180,11 +180,15 @@ class Starting(Repository):
     def test_scripts_over_traces_are_called(self):
         trace = "#seed 0\n#inputs\n#outputs\n#end limit 0\n"
         write(f"{self.room}/trace", trace)
-        for words in (["shorten", "--help"], ["reached", "--help"], ["shorten"]):
+        asked = [[it, "--help"] for it in ("shorten", "reached", "parts")]
+        for words in (*asked, ["shorten"], ["parts"]):
             status, _, said = self.call(*words, PATH="/usr/bin:/bin")
             self.assertEqual(status, 0 if "--help" in words else 2, said)
         status, output, said = self.call("reached", f"{self.room}/trace", PATH="/usr/bin:/bin")
         self.assertEqual((status, output[:16], said), (0, "1 run with 0 ste", []))
+        write(f"{self.room}/campaign", f"#from 0 {len(trace)}\n{trace}#campaign 1 ended 1\n")
+        words = ["parts", f"{self.room}/campaign", "--session", "0"]
+        self.assertEqual(self.call(*words, PATH="/usr/bin:/bin"), (0, trace, []))
         self.assertEqual(self.calls_of_rt(), [])
         words = ["shorten", f"{self.room}/trace", "f", "--sut", "c"]
         status, _, said = self.call(*words)

@@ -1,8 +1,10 @@
 """Traces of lurette, read from their text and written again. docs/TRACE.md has their form.
 
-What is no trace is refused with the number of its line.
+What is no trace is refused with the number of its line. The trace of a campaign, which frames those
+of its sessions, is read piece by piece, and refused with the place of a byte.
 """
 
+import io
 import re
 from collections import namedtuple
 
@@ -133,6 +135,8 @@ def step_of(lines, sides, number):
 
 def trace_of(text):
     """The trace that a text is."""
+    if text.startswith(("#from ", "#campaign ")):
+        raise NoTrace(IS_FRAMED)
     lines = Lines(text)
     seed, rule = rest_of(lines, "#seed"), "1"
     if not re.fullmatch("[0-9]+", seed):
@@ -160,22 +164,133 @@ def why_and_number(trace):
     return why, int(number)
 
 
+# -- Many traces in one text ----------------------------------------------------------------------
+
+# The most sessions of a campaign, and how many bytes are read at once.
+MOST_SESSIONS, BLOCK = 64, 65_536
+# The line before a piece, and the last line. No such line is longer than this.
+FROM = re.compile(rb"#from (0|[1-9][0-9]*) (0|[1-9][0-9]*)\n")
+LAST = re.compile(rb"#campaign ([1-9][0-9]*) ended (0|[1-9][0-9]*)\n")
+LONGEST = 64
+IS_FRAMED = "this is a campaign's trace: `lurette parts` takes one session out of it"
+
+
+class CutShort(NoTrace):
+    """That the trace of a campaign ends before it is whole."""
+
+
+class Frames:
+    """The pieces of a campaign's trace, read from a file of bytes as they come.
+
+    Going through them gives the number of a session and some bytes of its trace, in turn. Behind
+    the last one the numbers of sessions are known: of all, and of those with the status 0.
+    """
+
+    def __init__(self, file):
+        self.file, self.at, self.highest = file, 0, -1
+        self.count = self.ended = None
+
+    def wrong(self, wanted):
+        return NoTrace(f"byte {self.at}: {wanted}")
+
+    def cut_short(self, where):
+        return CutShort(f"byte {self.at}: it ends {where}, so it isn't whole")
+
+    def __iter__(self):
+        while self.count is None:
+            line = self.file.readline(LONGEST)
+            head = FROM.fullmatch(line)
+            if head is None:
+                self.conclude(line)
+            else:
+                yield from self.piece(int(head[1]), int(head[2]), len(line))
+
+    def piece(self, session, length, taken):
+        """The blocks of a piece, behind its line."""
+        if session >= MOST_SESSIONS:
+            raise self.wrong(f"no session has the number {session}")
+        self.at, self.highest = self.at + taken, max(self.highest, session)
+        left = length
+        while left:
+            data = self.file.read(min(left, BLOCK))
+            self.at, left = self.at + len(data), left - len(data)
+            if not data:
+                there = f"{length - left} of {length} bytes are there"
+                raise self.cut_short(f"in a piece of session {session}, of which {there}")
+            yield session, data
+
+    def conclude(self, line):
+        """Reads the last line, and that nothing comes after it."""
+        last = LAST.fullmatch(line)
+        if last is None:
+            raise self.why_not(line)
+        count, ended = int(last[1]), int(last[2])
+        if not max(self.highest, ended - 1) < count <= MOST_SESSIONS:
+            raise self.wrong("#campaign has other numbers than the pieces before it")
+        self.at += len(line)
+        if self.file.read(1):
+            raise self.wrong("nothing comes after the line #campaign")
+        self.count, self.ended = count, ended
+
+    def why_not(self, line):
+        """Why a line is neither that of a piece nor the last one."""
+        if line.startswith(b"#seed "):
+            return self.wrong("this is the trace of one run, and not that of a campaign")
+        begins = any(it.startswith(line[: len(it)]) for it in (b"#from ", b"#campaign "))
+        if begins and len(line) < LONGEST and not line.endswith(b"\n"):
+            return self.cut_short("within a line" if line else "before the line #campaign")
+        return self.wrong("#from SESSION LENGTH or #campaign N ended E is expected here")
+
+
+class Part:
+    """What is known of the trace of one session, of which only so much is kept: how many bytes it
+    has, and its first and its last line."""
+
+    def __init__(self):
+        self.length, self.first, self.last, self.open = 0, b"", b"", b""
+
+    def take(self, data):
+        """Takes some more bytes."""
+        self.length += len(data)
+        self.first += data[: LONGEST - len(self.first)]
+        end = data.rfind(b"\n")
+        if end >= 0:
+            start = data.rfind(b"\n", 0, end) + 1
+            self.last = (b"" if start else self.open) + data[start:end]
+            self.open = b""
+        self.open = (self.open + data[end + 1 :])[:BLOCK]
+
+    def seed(self):
+        """The seed in its first line, or None."""
+        found = re.match(rb"#seed ([0-9]+)\n", self.first)
+        return found and found[1].decode()
+
+    def end(self):
+        """Why it ended, and the number of its end line, or None where it has no such line."""
+        is_end = self.last.startswith(b"#end ") and not self.open
+        return self.last[5:].decode("utf-8", "replace") if is_end else None
+
+    def is_well(self):
+        """Whether its session has the status 0."""
+        return self.end() is not None and self.end().split()[0] in ("normal", "limit")
+
+
+def is_framed(data):
+    """Whether the bytes at the beginning of a file are those of a campaign's trace."""
+    return data.startswith((b"#from ", b"#campaign "))
+
+
 def parts_of(data):
-    """The texts of the traces that the bytes of a file have: one, or that of each session where
-    many were framed into one text, each piece behind a line `#from SESSION LENGTH`."""
-    found, at = {}, 0
-    while data.startswith(b"#from ", at):
-        end = data.find(b"\n", at)
-        words = data[at:end].split()
-        if end < 0 or len(words) != 3 or not (words[1] + words[2]).isdigit():
-            raise NoTrace("#from SESSION LENGTH is expected here")
-        at = end + 1 + int(words[2])
-        found.setdefault(words[1], []).append(data[end + 1 : at])
-    if not found:
+    """The texts of the traces that the bytes of a file have: one, or that of each session of a
+    campaign that began."""
+    if not is_framed(data):
         return [data.decode()]
-    if not data.startswith(b"#campaign ", at):
-        raise NoTrace("#campaign is expected behind the last piece")
-    return [b"".join(it).decode() for it in found.values()]
+    found = {}
+    for session, some in Frames(io.BytesIO(data)):
+        found.setdefault(session, []).append(some)
+    if not found:
+        raise NoTrace("no session of this campaign began")
+    return [b"".join(found[it]).decode() for it in sorted(found)]
 
 
 # -- Writing --------------------------------------------------------------------------------------
