@@ -15,7 +15,7 @@ from traces import ROLES
 
 def bad_step(trace):
     """The number of the last step where it was judged false, or None."""
-    why, number = traces.why_and_number(trace)
+    why, number = traces.why_and_number(trace.end)
     return number if why == "oracle" else None
 
 

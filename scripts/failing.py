@@ -26,18 +26,21 @@ Scenario = namedtuple("Scenario", "program file options")
 # What comes of a call of the program.
 Called = namedtuple("Called", "status output errors")
 
+# A session of a campaign: the text of its trace, and what its end line says.
+Session = namedtuple("Session", "text end")
+
 
 class CannotShorten(Exception):
     """Why a run can't be shortened."""
 
 
-def failure_of(trace):
-    """Why a trace's run failed, as its end line says it, and in which step; None where it didn't.
+def failure(end):
+    """Why a run failed, as its end line says it, and in which step; None where it didn't.
 
     A program that ends is told as one that didn't answer: whether its line could still be sent is
     a matter of time.
     """
-    why, number = traces.why_and_number(trace)
+    why, number = traces.why_and_number(end)
     if why.startswith("device ") and why != "device trace" and number > 0:
         why = why.replace("device", "ended")
     return (why, number) if why.split()[0] in ("oracle", "malformed", "ended") else None
@@ -52,7 +55,7 @@ def line_of(called):
 
 def is_whole(trace):
     """Whether a trace that fails has all of the steps that failed, and the locals of them."""
-    return "#locals" in trace.roles and failure_of(trace)[0] == "oracle"
+    return "#locals" in trace.roles and failure(trace.end)[0] == "oracle"
 
 
 class Bench:
@@ -64,23 +67,23 @@ class Bench:
         self.inputs, self.outputs = self.declared(decimals)
         slots = [sides.Slot(it.kind, it.low, it.high) for it in self.inputs]
         self.programs = sides.Programs(controller, oracle, slots, decimals, self.children)
-        self.decimals, self.why = decimals, failure_of(trace)[0]
+        self.decimals, self.why = decimals, failure(trace.end)[0]
         self.head = trace._replace(steps=[])
 
     # -- Calls of the program ----------------------------------------------------------------------
 
-    def called(self, *words):
-        """The status of a call of the program, and its two texts."""
+    def called(self, *words, file=subprocess.PIPE):
+        """The status of a call of the program, and its two texts. What it writes may go to a file."""
         left = None if self.until is None else max(0, self.until - time.monotonic())
-        pipes = {it: subprocess.PIPE for it in ("stdout", "stderr")}
-        how = {**pipes, "stdin": subprocess.DEVNULL, "encoding": "utf-8", "errors": "replace"}
-        run = self.children.start([self.scenario.program, *words], **how)
-        try:
-            output, errors = run.communicate(timeout=left)
-        except subprocess.TimeoutExpired:
-            raise sides.TooLate from None
-        finally:
-            self.children.end(run)
+        pipes = {"stdin": subprocess.DEVNULL, "stdout": file, "stderr": subprocess.PIPE}
+        how = {**pipes, "encoding": "utf-8", "errors": "replace"}
+        with self.children.start([self.scenario.program, *words], **how) as run:
+            try:
+                output, errors = run.communicate(timeout=left)
+            except subprocess.TimeoutExpired:
+                raise sides.TooLate from None
+            finally:
+                self.children.end(run)
         return Called(run.returncode, output, errors)
 
     def declared(self, decimals):
@@ -143,7 +146,7 @@ class Bench:
         if is_whole(trace):
             self.head = trace._replace(steps=[])
             return self.steps_of(trace)
-        number, rows = failure_of(trace)[1], [list(it) for it in trace.steps]
+        number, rows = failure(trace.end)[1], [list(it) for it in trace.steps]
         if len(rows) < number:
             ready = [*self.stand_in(self.outputs), *self.stand_in(self.inputs)]
             rows.append(ready + ["?" for it in trace.variables if it.role == "#locals"])
@@ -189,21 +192,38 @@ class Bench:
         except (sides.TooLate, children.Stopped):
             return None
 
-    def by_seed(self, seed, limit):
-        """The trace of another seed's run, if it fails likewise in so many steps, else None."""
-        words = ["-l", str(limit), "--seed", str(seed), "--draw", self.head.rule, "--locals"]
-        sut = ["--sut", self.controller]
-        oracle = [] if self.oracle is None else ["--oracle", self.oracle]
-        more = [*self.scenario.options, *words, *sut, *oracle]
-        try:
-            found = self.called("run", self.scenario.file, *more)
-        except (sides.TooLate, children.Stopped):
-            return None
-        if found.status not in (1, 7, 8, 9) or self.children.is_stopped:
-            return None
-        trace = traces.trace_of(found.output)
-        failure = failure_of(trace)
-        return trace if failure and failure[0] == self.why else None
+    def by_seeds(self, seed, count, limit):
+        """The trace of the shortest run that fails likewise in so many steps, of so many seeds from
+        one on; None where there is none among those that were over in time."""
+        words = ["-l", str(limit), "--seed", str(seed), "--count", str(count), "--locals"]
+        words += ["--draw", self.head.rule, "--sut", self.controller]
+        words += [] if self.oracle is None else ["--oracle", self.oracle]
+        with tempfile.TemporaryFile(prefix="lurette-") as file:
+            try:
+                more = [*self.scenario.options, *words]
+                self.called("campaign", self.scenario.file, *more, file=file)
+            except (sides.TooLate, children.Stopped):
+                pass
+            file.seek(0)
+            found = [] if self.children.is_stopped else ended_sessions(file)
+        failed = [it for it in found if failure(it.end) and failure(it.end)[0] == self.why]
+        shortest = min(failed, key=lambda it: failure(it.end)[1], default=None)
+        return None if shortest is None else traces.trace_of(shortest.text)
+
+
+def ended_sessions(file):
+    """Each session of a campaign that was over, in turn, from a file of its trace, which may end too
+    early."""
+    parts, pieces = {}, {}
+    try:
+        for session, some in traces.Frames(file):
+            parts.setdefault(session, traces.Part()).take(some)
+            pieces.setdefault(session, []).append(some)
+    except traces.CutShort:
+        pass
+    ends = {session: part.end() for session, part in sorted(parts.items())}
+    text = lambda session: b"".join(pieces[session]).decode()
+    return [Session(text(it), end) for it, end in ends.items() if end is not None]
 
 
 def failing_again(bench, steps):

@@ -41,7 +41,7 @@ class Counts:
             self.rows = [{"f": 0, "t": 0} for _ in trace.variables]
         elif self.variables != trace.variables:
             raise OtherVariables("it has other variables than the first trace")
-        why, number = traces.why_and_number(trace)
+        why, number = traces.why_and_number(trace.end)
         self.lengths.append(len(trace.steps))
         self.ends.setdefault(why, []).append(number)
         columns = list(zip(*trace.steps))

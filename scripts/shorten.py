@@ -2,9 +2,9 @@
 
     python3 scripts/shorten.py --program PATH TRACE FILE --sut CMD [--oracle CMD] [OPTIONS]
 
-First other seeds are run, each with a limit below the step that failed. Then steps are taken out of
-the shortest run that was found, and values are made simple. Each such try drives the controller and
-the oracle anew, and is kept if it fails likewise and `check` says that it is legal.
+First other seeds are run in campaigns, with a limit below the step that failed. Then steps are taken
+out of the shortest run that was found, and values are made simple. Each such try drives the
+controller and the oracle anew, and is kept if it fails likewise and `check` says that it is legal.
 
 The trace of the shortest run is written to standard output, with its locals, also if the time ran
 out or the search was interrupted.
@@ -82,10 +82,10 @@ def given_trace(path):
             trace = traces.trace_of(file.read())
     except (OSError, UnicodeDecodeError, traces.NoTrace) as why:
         raise failing.CannotShorten(f"{path}: {why}") from None
-    failure = failing.failure_of(trace)
-    if failure is None:
+    failed = failing.failure(trace.end)
+    if failed is None:
         raise failing.CannotShorten(f"{path}: the run didn't fail: its end is {trace.end}")
-    if failure[1] < 1 or len(trace.steps) != failure[1] - (failure[0] != "oracle"):
+    if failed[1] < 1 or len(trace.steps) != failed[1] - (failed[0] != "oracle"):
         raise failing.CannotShorten(f"{path}: its end has another number than its steps")
     return trace
 
@@ -106,7 +106,7 @@ def bench_of(given, trace):
     options = ["--precision", str(decimals)] if decimals != 2 else []
     for name, text in (("--node", given.node), ("--budget", given.budget)):
         options += [name, text] if text is not None else []
-    if given.oracle is None and "oracle" in failing.failure_of(trace)[0].split():
+    if given.oracle is None and "oracle" in failing.failure(trace.end)[0].split():
         raise failing.CannotShorten(f"{given.trace}: an oracle ended it, so --oracle is needed")
     scenario = failing.Scenario(given.program, given.file, options)
     return failing.Bench(scenario, trace, given.sut, given.oracle, decimals)

@@ -58,20 +58,20 @@ class Search:
     # -- Other seeds -------------------------------------------------------------------------------
 
     def by_seeds(self, count):
-        """Looks for a shorter run of the next seeds: so many, or as many as the time allows."""
+        """Looks for a shorter run of the next seeds: so many, or as many as the time allows. As many
+        of them as may go on side by side are the sessions of a campaign."""
         first, over = int(self.seed) + 1, self.start + PART_OF_SEEDS * self.seconds
-        seeds = itertools.count(first) if count is None else range(first, first + count)
-        for window in windows(seeds, self.jobs):
-            if len(self.best) == 1 or time.monotonic() >= over:
-                return
-            self.bench.until = over
+        self.bench.until = over
+        while len(self.best) > 1 and time.monotonic() < over and self.seeds != count:
+            left = self.jobs if count is None else count - self.seeds
+            size = min(left, self.jobs, traces.MOST_SESSIONS)
             self.told()
-            limit = len(self.best) - 1
-            trying = lambda seed: self.bench.by_seed(seed % SEEDS, limit)
-            found = [it for it in self.pool.map(trying, window) if it is not None]
-            self.seeds += len(window)
-            if found:
-                self.take(min(found, key=lambda it: failing.failure_of(it)[1]))
+            seed = (first + self.seeds) % SEEDS
+            found = self.bench.by_seeds(seed, size, len(self.best) - 1)
+            self.seeds += size
+            if found is not None:
+                self.take(found)
+                self.bench.until = over
 
     def take(self, trace):
         """Goes on with the run of a trace, whatever the time is."""

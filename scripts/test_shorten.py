@@ -15,6 +15,7 @@ import unittest
 
 import calls
 import check_docs
+import failing
 import nodes
 import shorten
 import smaller
@@ -47,6 +48,18 @@ node levels(y: int [0; 9]) returns (level: real [-5.0; 2000.0; 0.5] = 1.5; b: bo
 LEVEL = """
 for line in sys.stdin:
     answer(WRONG if float(line.split()[0]) > 512 else "7")
+"""
+
+
+# What stands for the program: it prints a node, or writes the trace of a campaign and then waits.
+STANDS_IN = """#!{python} -IS
+import sys, time
+
+if sys.argv[1] == "print":
+    print("node n ( ) returns ( x : int ) = true")
+else:
+    print({text!r}, end="", flush=True)
+    time.sleep({waits})
 """
 
 
@@ -117,6 +130,62 @@ node n ( INPUTS ) returns ( OUTPUTS ) = c
             nodes.declared(self.TEXT, "m")
 
 
+def session_of(steps, end):
+    """The text of the trace of a session, which has so many steps."""
+    head = '#seed 7\n#inputs "x":int\n#outputs\n#locals\n'
+    told = "".join(f"#step {it}\n{it} #outs #locs\n" for it in range(1, steps + 1))
+    return f"{head}{told}#end {end}\n"
+
+
+def framed(pieces):
+    """Pieces of sessions as a campaign frames them, without its last line."""
+    return "".join(f"#from {it} {len(text)}\n{text}" for it, text in pieces)
+
+
+class Campaigns(unittest.TestCase):
+    """Other seeds, with a script in place of the program."""
+
+    ENDS = ("limit 2", "oracle 2", "oracle 1", "malformed oracle NotAValue 1", "oracle 1")
+    LAST = "#campaign 5 ended 1\n"
+
+    def setUp(self):
+        room = tempfile.TemporaryDirectory(prefix="lurette-")
+        self.addCleanup(room.cleanup)
+        self.room = room.name
+
+    def bench(self, text, waits):
+        """A bench whose program writes this text for a campaign, and then waits so long."""
+        program = os.path.join(self.room, "program")
+        with open(program, "w", encoding="utf-8") as file:
+            file.write(STANDS_IN.format(python=sys.executable, text=text, waits=waits))
+        os.chmod(program, 0o755)
+        trace = traces.trace_of(session_of(2, "oracle 2"))
+        return failing.Bench(failing.Scenario(program, "f", []), trace, "c", "o", 2)
+
+    def sessions(self, ends):
+        return [(at, session_of(int(it.split()[-1]), it)) for at, it in enumerate(ends)]
+
+    def test_the_shortest_that_fails_likewise_is_taken(self):
+        text = framed(self.sessions(self.ENDS)) + self.LAST
+        found = self.bench(text, 0).by_seeds(0, 5, 2)
+        self.assertEqual((found.end, len(found.steps)), ("oracle 1", 1))
+        text = framed(self.sessions(["limit 2", "ended controller 2"])) + "#campaign 2 ended 1\n"
+        self.assertIsNone(self.bench(text, 0).by_seeds(0, 2, 2))
+
+    def test_of_a_campaign_that_is_cut_those_count_that_were_over(self):
+        one, (at, other) = self.sessions(self.ENDS[1:3])
+        text = framed([one, (at, other[:-5])]) + "#from 1 5"
+        bench = self.bench(text, 600)
+        bench.until = time.monotonic() + 2
+        self.assertEqual(bench.by_seeds(0, 2, 2).end, "oracle 2")
+        self.assertEqual(bench.children.runs, set())
+
+    def test_nothing_counts_once_all_is_stopped(self):
+        bench = self.bench(framed(self.sessions(self.ENDS)) + self.LAST, 0)
+        bench.children.stop()
+        self.assertIsNone(bench.by_seeds(0, 5, 2))
+
+
 class Call(unittest.TestCase):
     """Calls of the script on runs of the program."""
 
@@ -145,9 +214,9 @@ class Call(unittest.TestCase):
         )
         return self.kept("trace", ran.stdout)
 
-    def shortened(self, *words):
+    def shortened(self, *words, program=None):
         """The status of a call, the trace that it wrote, and its lines."""
-        call = [sys.executable, "-B", SCRIPT, "--program", GIVEN.program, *words]
+        call = [sys.executable, "-B", SCRIPT, "--program", program or GIVEN.program, *words]
         ran = subprocess.run(
             call, capture_output=True, text=True, timeout=600, check=False, cwd=calls.TOP
         )
@@ -165,7 +234,9 @@ class Call(unittest.TestCase):
         scenario = os.path.join(calls.TOP, "examples", "drafty.lut")
         pair = ["--sut", f"{sys.executable} {PLACE}/faulty.py"]
         pair += ["--oracle", f"{sys.executable} {PLACE}/judge.py"]
-        for seed, more in ((0, ["--seeds", "8"]), (7, ["--seeds", "0"])):
+        # One of them without other seeds, so that all comes of steps that are taken out.
+        for seed in (0, 7) if GIVEN.quick else range(10):
+            more = ["--seeds", "0" if seed == 7 else "8"]
             path = self.run_of(scenario, "-l", "1000", "--seed", str(seed), *pair)
             status, trace, said = self.shortened(path, scenario, *pair, *more, *AMPLE)
             self.assertEqual(status, 0, said)
@@ -184,6 +255,43 @@ class Call(unittest.TestCase):
         pair += ["--oracle", self.program("oracle.py", LAST_WORD)]
         path = self.run_of(scenario, "-l", "200", *pair)
         return scenario, self.shortened(path, scenario, *pair, *words)
+
+    def watched(self):
+        """A program that does the same, and the file into which it puts its words, call by call."""
+        kept = os.path.join(self.room, "calls")
+        path = self.kept("watched", f'#!/bin/sh\necho "$*" >>{kept}\nexec {GIVEN.program} "$@"\n')
+        os.chmod(path, 0o755)
+        return path, kept
+
+    def test_other_seeds_are_the_sessions_of_campaigns(self):
+        scenario, seed = self.kept("events.lut", EVENTS), str(2**64 - 3)
+        pair = ["--sut", self.program("sut.py", IN_ORDER)]
+        pair += ["--oracle", self.program("oracle.py", LAST_WORD)]
+        path = self.run_of(scenario, "-l", "200", "--draw", "3", "--seed", seed, *pair)
+        program, kept = self.watched()
+        more = ["--seeds", "5", "--jobs", "2", "--seconds", "300"]
+        status, _, said = self.shortened(path, scenario, *pair, *more, program=program)
+        self.assertEqual(status, 0, said)
+        with open(kept, encoding="utf-8") as file:
+            calls_made = [it.split() for it in file]
+        word = lambda call, name: call[call.index(name) + 1]
+        made = [it for it in calls_made if it[0] == "campaign"]
+        told = [(word(it, "--seed"), word(it, "--count"), word(it, "--draw")) for it in made]
+        self.assertEqual(told, [(str(2**64 - 2), "2", "3"), ("0", "2", "3"), ("2", "1", "3")])
+        limits = [int(word(it, "-l")) for it in made]
+        self.assertEqual(limits, sorted(limits, reverse=True))
+        with open(path, encoding="utf-8") as file:
+            self.assertEqual(limits[0], len(traces.trace_of(file.read()).steps) - 1)
+        self.assertFalse([it for it in calls_made if it[0] == "run" and "--sut" in it])
+
+    def test_where_the_time_is_over_that_is_said(self):
+        path = self.kept("events.lut", EVENTS)
+        _, (status, trace, said) = self.events(IN_ORDER, "--seconds", "0")
+        self.assertEqual(status, 0, said)
+        number = traces.why_and_number(trace.end)[1]
+        self.assertEqual(said[0], f"shorten: {number} steps before, {number} after, which the seed 0 draws")
+        self.assertTrue(said[1].startswith("shorten: the time was over before each step had been"))
+        self.assertTrue(self.is_legal(path, trace))
 
     def test_three_events_in_order_are_kept_and_nothing_else(self):
         scenario, (status, trace, said) = self.events(IN_ORDER, "--seeds", "4", *AMPLE)

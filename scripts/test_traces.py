@@ -33,7 +33,7 @@ class Reading(unittest.TestCase):
         self.assertEqual((trace.seed, trace.rule), ("7", "1"))
         self.assertEqual([it.name for it in trace.variables], ["temp", "door", "heat", "gust.1"])
         self.assertEqual(trace.steps, [[18.0, True, False, None], [17.5, False, True, -3.0]])
-        self.assertEqual(traces.why_and_number(trace), ("oracle", 2))
+        self.assertEqual(traces.why_and_number(trace.end), ("oracle", 2))
 
     def test_a_trace_may_name_the_rule_of_drawing(self):
         for rule in ("2", "3"):

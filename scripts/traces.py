@@ -158,9 +158,9 @@ def trace_of(text):
     return Trace(seed, rule, tuple(sides), variables, steps, end)
 
 
-def why_and_number(trace):
-    """Why a trace ended, and the number of its end line."""
-    why, _, number = trace.end.rpartition(" ")
+def why_and_number(end):
+    """Why a run ended, and the number, of what its end line says."""
+    why, _, number = end.rpartition(" ")
     return why, int(number)
 
 
