@@ -3,6 +3,7 @@
 import os
 import shutil
 import subprocess
+import sys
 import unittest
 
 import check_docs
@@ -47,6 +48,14 @@ class Packed(Repository):
             self.assertEqual((found[0], found[2]), (0, []))
         for path in ("man/man1/lurette.1", "zsh/site-functions/_lurette"):
             self.assertTrue(os.path.getsize(f"{place}/share/{path}"))
+        self.scripts_are_whole(f"{place}/lib/lurette/scripts")
+
+    def scripts_are_whole(self, folder):
+        """Asks that what its scripts take of other scripts stands in a folder too."""
+        names = [it[:-3] for it in os.listdir(folder) if it.endswith(".py")]
+        call = [sys.executable, "-B", "-c", f"import {', '.join(names)}"]
+        run = subprocess.run(call, cwd=folder, capture_output=True, text=True, check=False)
+        self.assertEqual((run.returncode, run.stderr), (0, ""))
 
     def test_a_release_runs_without_a_kit(self):
         self.assertEqual(self.call(name="scripts/release")[0], 1)

@@ -8,6 +8,8 @@ The options are those of check_docs.py. Where no program is there, it isn't call
 import argparse
 import os
 import re
+import shutil
+import subprocess
 import sys
 import unittest
 
@@ -132,6 +134,13 @@ class Page(unittest.TestCase):
         self.assertIn(".B shorten TRACE FILE\nlooks for a shorter run", page)
         self.assertIn(".B \\-\\-seed N\nthe seed of a run, from 0 to 18446744073709551615", page)
         self.assertNotIn("](", page)
+
+    @unittest.skipUnless(shutil.which("groff"), "there is no groff")
+    def test_it_is_set_without_a_warning(self):
+        call = ["groff", "-man", "-Tutf8", "-ww", "-P-c"]
+        run = subprocess.run(call, input=manual.man().encode(), capture_output=True, check=False)
+        self.assertEqual((run.returncode, run.stderr), (0, b""))
+        self.assertIn(b" MODE FILE [OPTIONS]\n", run.stdout)
 
 
 if __name__ == "__main__":

@@ -4,11 +4,14 @@ import io
 import os
 import shlex
 import shutil
+import signal
 import subprocess
 import tempfile
+import time
 import unittest
 
 import call_words
+import calls
 import check_docs
 import prove
 
@@ -99,7 +102,8 @@ class Repository(unittest.TestCase):
         how = {it: subprocess.PIPE for it in ("stdout", "stderr")}
         env = {"PATH": self.path, "LURETTE_TEST": self.room, **changed}
         call = [os.path.join(self.top, name), *words]
-        return subprocess.Popen(call, env=env, stdin=subprocess.DEVNULL, text=True, **how)
+        how.update(stdin=subprocess.DEVNULL, text=True, start_new_session=True)
+        return subprocess.Popen(call, env=env, **how)
 
     def call(self, *words, **how):
         """The status of a call, what it wrote, and the lines that it said."""
@@ -165,6 +169,41 @@ class Starting(Repository):
         self.assertEqual(left, [])
         os.remove(f"{self.room}/refuses")
         self.assertEqual(self.call("run", "f")[:2], (0, "unproved run f\n"))
+
+    def test_a_build_that_is_interrupted_leaves_nothing(self):
+        run = self.start("run", "f")
+        while not self.calls_of_rt():
+            time.sleep(0.02)
+        os.killpg(run.pid, signal.SIGTERM)
+        run.communicate()
+        self.assertNotEqual(run.returncode, 0)
+        self.assertEqual(self.call("run", "f")[:2], (0, "unproved run f\n"))
+        self.assertEqual(self.calls_of_rt(), ["try", "try"])
+        left = [it for it in os.listdir(f"{self.top}/out") if not it.endswith(".lock")]
+        self.assertEqual(sorted(left), ["lurette", "lurette.unproved"])
+
+    def test_what_is_there_takes_little_of_the_processor(self):
+        """So that on an idle machine help comes in 0.2 seconds, and a later call in one."""
+        before = calls.seconds_so_far()
+        self.call("--help", PATH="/usr/bin:/bin")
+        self.assertLess(calls.seconds_so_far() - before, 0.2)
+        # What stands before each run of a program: the sum of the whole text, twice at most.
+        script = 'top=$1 name=lurette takes=; . "$1/scripts/start.sh"; text_sum; text_sum'
+        before = calls.seconds_so_far()
+        sums = subprocess.run(["sh", "-c", script, "sh", TOP], stdout=subprocess.PIPE, check=True)
+        self.assertLess(calls.seconds_so_far() - before, 0.5)
+        first, second = sums.stdout.split(b"\n")[:2]
+        self.assertEqual((first, len(first.split())), (second, 2))
+
+    @unittest.skipUnless(shutil.which("git"), "there is no git")
+    def test_the_version_names_the_commit(self):
+        git = ["git", "-C", self.top, "-c", "user.name=t", "-c", "user.email=t"]
+        for words in (["init", "-q"], ["add", "."], ["commit", "-q", "-m", "all"]):
+            subprocess.run([*git, *words], check=True)
+        rest = r"\), not proved; kit-0 logic 0\n$"
+        self.assertRegex(self.call("--version")[1], rf"^lurette [0-9.]+ \([0-9a-f]+{rest}")
+        write(f"{self.top}/VERSION", "0.0.1\n")
+        self.assertRegex(self.call("--version")[1], rf"^lurette 0.0.1 \([0-9a-f]+-dirty{rest}")
 
     def test_help_and_version_need_no_program(self):
         text = check_docs.read("scripts/lurette.help")

@@ -20,6 +20,9 @@ TOP = os.path.dirname(os.path.dirname(os.path.abspath(__file__)))
 NO_PROGRAM = 125
 BLANKS = " \t\r\n"
 
+# How often it is looked for the program. A look goes through all processes of the machine.
+PAUSE = 0.2
+
 # A scenario that waits for its controller, and a controller that waits.
 SCENARIO = b"node n(a: bool) returns (b: bool) = b"
 WAITS = "sleep 60"
@@ -108,7 +111,7 @@ def build(name, to, room):
             program = running_program(built, call)
             if program and is_kept(program, to):
                 return True
-            time.sleep(0.05)
+            time.sleep(PAUSE)
     finally:
         stop(run)
     return False
