@@ -52,8 +52,44 @@ class Minutes(unittest.TestCase):
             "| `a` | 1.0 |  | 0.5 | 1.5 |",
             "| all crates | 11.0 | 0.1 | 0.5 | 11.6 |",
             "| what else is done | | | | 1.0 |",
+            "| all | | | | 12.6 |",
         ]
-        self.assertEqual(module().table(crates, 756)[2:], wanted)
+        self.assertEqual(module().table(crates, 60)[2:], wanted)
+
+    def test_tables_of_several_runs_are_added(self):
+        gate_minutes = module()
+        kinds = lambda *seconds: dict(zip(gate_minutes.KINDS, seconds))
+        runs = [
+            ({"a": kinds(60, 0, 300), "b": kinds(600, 6, 0), "c": kinds(30, 60, 0)}, 60),
+            ({"b": kinds(0, 600, 0), "d": kinds(0, 0, 90)}, 120),
+        ]
+        texts = ["\n".join(["rt: b proved", *gate_minutes.table(*it), ""]) for it in runs]
+        crates, rest = gate_minutes.summed(texts)
+        self.assertEqual((crates["b"], rest), (kinds(600, 606, 0), 180))
+        wanted = [
+            "| `b` | 10.0 | 10.1 |  | 20.1 |",
+            "| `a` | 1.0 |  | 5.0 | 6.0 |",
+            "| the other crates | 0.5 | 1.0 | 1.5 | 3.0 |",
+            "| all crates | 11.5 | 11.1 | 6.5 | 29.1 |",
+            "| what else is done | | | | 3.0 |",
+            "| all | | | | 32.1 |",
+        ]
+        found = gate_minutes.table(gate_minutes.with_few_together(crates), rest)
+        self.assertEqual(found[2:], wanted)
+        # What comes of it is such a table too.
+        again, rest = gate_minutes.summed(["\n".join(found)])
+        self.assertEqual(gate_minutes.table(again, rest), found)
+
+    def test_the_sum_of_the_document_has_its_rows(self):
+        path = os.path.join(TOP, "docs", "TESTS.md")
+        run = subprocess.run([PATH, "--sum", path], capture_output=True, text=True, check=False)
+        self.assertEqual((run.returncode, run.stderr), (0, ""))
+        rows = [it for it in run.stdout.splitlines() if it.startswith("| `")]
+        self.assertGreater(len(rows), 10)
+        with open(path, encoding="utf-8") as file:
+            text = file.read()
+        for row in rows:
+            self.assertIn(row.replace("|  |", "| |").replace("|  |", "| |") + "\n", text)
 
     def test_a_number_that_is_used_again_is_another_process(self):
         gate_minutes = module()

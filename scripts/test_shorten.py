@@ -236,7 +236,7 @@ class Call(unittest.TestCase):
         pair += ["--oracle", f"{sys.executable} {PLACE}/judge.py"]
         # One of them without other seeds, so that all comes of steps that are taken out.
         for seed in (0, 7) if GIVEN.quick else range(10):
-            more = ["--seeds", "0" if seed == 7 else "8"]
+            more = ["--seeds", "0" if seed == 7 else "12"]
             path = self.run_of(scenario, "-l", "1000", "--seed", str(seed), *pair)
             status, trace, said = self.shortened(path, scenario, *pair, *more, *AMPLE)
             self.assertEqual(status, 0, said)
