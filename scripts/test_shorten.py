@@ -6,6 +6,8 @@ The options are those of check_docs.py. Where no program is there, what needs on
 """
 
 import os
+import pty
+import re
 import signal
 import subprocess
 import sys
@@ -140,6 +142,14 @@ def session_of(steps, end):
 def framed(pieces):
     """Pieces of sessions as a campaign frames them, without its last line."""
     return "".join(f"#from {it} {len(text)}\n{text}" for it, text in pieces)
+
+
+def pieces_of(terminal):
+    """What came to a terminal, or nothing once its other side is closed."""
+    try:
+        return os.read(terminal, 4096)
+    except OSError:
+        return b""
 
 
 class Campaigns(unittest.TestCase):
@@ -364,6 +374,24 @@ class Call(unittest.TestCase):
         self.assertEqual((status, said), (1, ["shorten: the seed 1 gives another step 1"]))
         path = self.kept("trace", "#seed 1\n")
         self.assertEqual(self.shortened(path, scenario, *sut)[0], 2)
+
+    def test_a_line_of_a_terminal_says_how_far_it_is(self):
+        scenario = self.kept("events.lut", EVENTS)
+        pair = ["--sut", self.program("sut.py", IN_ORDER)]
+        pair += ["--oracle", self.program("oracle.py", LAST_WORD)]
+        path = self.run_of(scenario, *pair)
+        call = [sys.executable, "-B", SCRIPT, "--program", GIVEN.program, path, scenario, *pair]
+        call += ["--seeds", "2", "--jobs", "2", "--seconds", "300"]
+        terminal, side = pty.openpty()
+        with subprocess.Popen(call, stdout=subprocess.DEVNULL, stderr=side) as run:
+            os.close(side)
+            shown = b"".join(iter(lambda: pieces_of(terminal), b""))
+        os.close(terminal)
+        self.assertEqual(run.returncode, 0, shown)
+        told = rb"\r\x1b\[Kshorten: \d+ steps?; (\d) seeds and \d+ changes tried, \d+ s left"
+        self.assertEqual(sorted(set(re.findall(told, shown))), [b"0", b"2"])
+        # It is taken away before what came of it is said.
+        self.assertIn(b"\r\x1b[Kshorten: ", shown.rpartition(b" s left")[2])
 
     def test_the_best_so_far_is_written_when_it_is_interrupted(self):
         scenario = self.kept("events.lut", EVENTS)
