@@ -142,10 +142,18 @@ mutual
     -- an expression
     value : Exp → Trace
 
+-- a run of a node: the names that its outputs get, which node it is, the expressions for its inputs, and the place of all
+-- this, from `run` to `in`
+pub record Run : Type 0 where
+  pub names : List Word
+  pub node : Word
+  pub arguments : List Exp
+  pub span : Span
+
 -- a declaration of a text
 pub data Declaration : Type 0 where
-  -- a node: its name, its inputs, its outputs, and what it does
-  node : Word → Groupings → Groupings → Trace → Declaration
+  -- a node: its name, its inputs, its outputs, which nodes it runs, and what it does
+  node : Word → Groupings → Groupings → List Run → Trace → Declaration
   -- a macro
   macro_declaration : Macro → Declaration
   -- exceptions

@@ -2,7 +2,7 @@
 use Rattle.std.specs.Prelude.{ℕ, Bool, true, false, List, [], ◌∷◌, ◌++◌, Option, Some, None}
 use Rattle.std.specs.List.{flat_map}
 use Rattle.lt_ast.specs.declared.sign.Sign.{Sign}
-use Rattle.lt_ast.specs.declared.sign.Sign.TheVariants.{Name, Number, Node, Returns, Let, In, Exist, Bool as Bool', Int, Real, Trace as Trace', Ref, Fby, Loop, Assert, Raise, Catch, Do, Trap, Try, Exception, Pre, Not, And, Or, Xor, If, Then, Else, Div, Mod, True, False, Open, Close, OpenBrace, CloseBrace, OpenBracket, CloseBracket, Colon, Semicolon, Comma, Equal, Unequal, Less, LessEqual, Greater, GreaterEqual, Plus, Minus, Star, Slash, Implies, Bar, Priority, Parallel, Tilde}
+use Rattle.lt_ast.specs.declared.sign.Sign.TheVariants.{Name, Number, Node, Returns, Let, In, Exist, Bool as Bool', Int, Real, Trace as Trace', Ref, Fby, Loop, Assert, Raise, Catch, Do, Trap, Try, Exception, Pre, Not, And, Or, Xor, If, Then, Else, Div, Mod, True, False, Open, Close, OpenBrace, CloseBrace, OpenBracket, CloseBracket, Colon, Semicolon, Comma, Equal, Unequal, Less, LessEqual, Greater, GreaterEqual, Plus, Minus, Star, Slash, Implies, Bar, Priority, Parallel, Tilde, Run as Run', Assign}
 use Rattle.lt_ast.specs.declared.group.TypeName.{TypeName}
 use Rattle.lt_ast.specs.declared.group.TypeName.TheVariants as t
 use Rattle.lt_ast.specs.declared.expr.UnOp.{UnOp}
@@ -11,7 +11,7 @@ use Rattle.lt_ast.specs.declared.expr.BinOp.{BinOp}
 use Rattle.lt_ast.specs.declared.expr.BinOp.TheVariants as b
 use Rattle.lt_ast.specs.Signs.{spelled}
 use Rattle.lt_ast.specs.Syntax as s
-use Rattle.lt_ast.specs.Syntax.{Word, Figure, WrittenRange, Exp, Argument, Arguments, Limits, Braces, Alternative, Alternatives, Trace, Traces, Grouping, Groupings, MaybeExp, MaybeTrace, Parameters, Meaning, Macro, Declaration}
+use Rattle.lt_ast.specs.Syntax.{Word, Figure, WrittenRange, Exp, Argument, Arguments, Limits, Braces, Alternative, Alternatives, Trace, Traces, Grouping, Groupings, MaybeExp, MaybeTrace, Parameters, Meaning, Macro, Run, Declaration}
 
 -- a token: its sign and its bytes
 pub record Written : Type 0 where
@@ -228,9 +228,28 @@ abbrev mutual
 abbrev pub macro_tokens : Macro → List Written
 macro_tokens m = mark Let ∷ macro_rest m
 
+-- the expressions after a first one
+abbrev pub more_expressions : List Exp → List Written
+more_expressions [] = []
+more_expressions (e ∷ es) = mark Comma ∷ (exp_tokens e ++ more_expressions es)
+
+-- expressions with commas between them
+abbrev pub expressions_tokens : List Exp → List Written
+expressions_tokens [] = []
+expressions_tokens (e ∷ es) = exp_tokens e ++ more_expressions es
+
+-- a run of a node, with the `in` after it
+abbrev pub run_tokens : Run → List Written
+run_tokens r =
+    mark Run' ∷ (names_tokens r.names ++ (mark Assign ∷ (name_token r.node
+    ∷ (in_parentheses (expressions_tokens r.arguments) ++ (mark In ∷ [])))))
+
 -- a declaration
 abbrev pub declaration_tokens : Declaration → List Written
-declaration_tokens (s.node w ins outs x) = mark Node ∷ (name_token w ∷ (in_parentheses (groupings_tokens ins) ++ (mark Returns ∷ (in_parentheses (groupings_tokens outs) ++ (mark Equal ∷ trace_tokens x)))))
+declaration_tokens (s.node w ins outs rs x) =
+    mark Node ∷ (name_token w ∷ (in_parentheses (groupings_tokens ins)
+    ++ (mark Returns ∷ (in_parentheses (groupings_tokens outs)
+    ++ (mark Equal ∷ (flat_map run_tokens rs ++ trace_tokens x))))))
 declaration_tokens (s.macro_declaration m) = macro_tokens m
 declaration_tokens (s.exception_declaration ws) = mark Exception ∷ names_tokens ws
 

@@ -2,7 +2,7 @@
 use Rattle.std.specs.Prelude.{List, Option, Some, None, map}
 use Rattle.lt_ast.specs.Letters.{letters}
 use Rattle.lt_ast.specs.Syntax as s
-use Rattle.lt_ast.specs.Syntax.{Word, Figure, WrittenRange, Exp, Argument, Arguments, Limits, Braces, Alternative, Alternatives, Trace, Traces, Grouping, Groupings, MaybeExp, MaybeTrace, Parameters, Meaning, Macro, Declaration}
+use Rattle.lt_ast.specs.Syntax.{Word, Figure, WrittenRange, Exp, Argument, Arguments, Limits, Braces, Alternative, Alternatives, Trace, Traces, Grouping, Groupings, MaybeExp, MaybeTrace, Parameters, Meaning, Macro, Run, Declaration}
 use Rattle.lt_ast.specs.declared.name.Name.{Name}
 use Rattle.lt_ast.specs.declared.name.Names.{Names}
 use Rattle.lt_ast.specs.declared.name.Literal.{Literal}
@@ -25,6 +25,7 @@ use Rattle.lt_ast.specs.declared.trace.TraceExpr.TheVariants.{Seq', Braces as Br
 use Rattle.lt_ast.specs.declared.program.Decl.{Decl}
 use Rattle.lt_ast.specs.declared.program.Decl.TheVariants as decl
 use Rattle.lt_ast.specs.declared.program.Program.{Program}
+use Rattle.lt_ast.specs.declared.program.RunDecl.{RunDecl}
 
 -- a name
 abbrev pub word : Name → Word
@@ -155,9 +156,20 @@ abbrev mutual
   trace (Try' p t h) = s.try (trace t) (maybe_trace h)
   trace (Value e) = s.value (exp e)
 
+-- a run of a node
+abbrev pub run : RunDecl → Run
+run r = record {
+  names = words r.names;
+  node = word r.node;
+  arguments = map exp r.arguments.items;
+  span = r.span;
+}
+
 -- a declaration
 abbrev pub declaration : Decl → Declaration
-declaration (decl.Node n) = s.node (word n.name) (groupings n.inputs) (groupings n.outputs) (trace n.body)
+declaration (decl.Node n) =
+    s.node (word n.name) (groupings n.inputs) (groupings n.outputs) (map run n.runs.items)
+    (trace n.body)
 declaration (decl.Macro m) = s.macro_declaration (macro m)
 declaration (decl.Exceptions ns) = s.exception_declaration (words ns)
 

@@ -18,7 +18,7 @@ pub use expr::{Arg, Args, BinOp, Expr, Operands, OperatorClass, UnOp};
 pub use group::{Group, Groups, Range, TypeName};
 pub use letters::Letters;
 pub use name::{Literal, Name, Names};
-pub use program::{Decl, NodeDecl, Program};
+pub use program::{Decl, NodeDecl, Program, RunDecl};
 pub use sign::Sign;
 pub use span::Span;
 pub use trace::{Body, Bounds, Braced, MacroDecl, Part, Parts, TraceExpr, Traces};

@@ -1,7 +1,9 @@
 //! Programs.
 
+use crate::expr::Expr;
 use crate::group::Groups;
 use crate::name::{Name, Names};
+use crate::span::Span;
 use crate::trace::{MacroDecl, TraceExpr};
 
 /// The declarations of a text, in order.
@@ -42,6 +44,25 @@ pub struct NodeDecl {
     /// What it gives.
     pub outputs: Groups,
 
+    /// The nodes that it runs, in order.
+    pub runs: Vec<RunDecl>,
+
     /// What it does.
     pub body: TraceExpr,
+}
+
+/// A run of a node.
+#[derive(Drop)]
+pub struct RunDecl {
+    /// The names that its outputs get.
+    pub names: Names,
+
+    /// Which node is run.
+    pub node: Name,
+
+    /// What it is given, an expression for each input.
+    pub arguments: Vec<Expr>,
+
+    /// Its place, from `run` to `in`.
+    pub span: Span,
 }

@@ -178,6 +178,9 @@ pub enum Sign {
 
     /// `~`.
     Tilde,
+
+    /// `:=`.
+    Assign,
 }
 
 impl Sign {
@@ -245,6 +248,7 @@ impl Sign {
             Sign::Priority => "|>",
             Sign::Parallel => "&>",
             Sign::Tilde => "~",
+            Sign::Assign => ":=",
         }
     }
 }

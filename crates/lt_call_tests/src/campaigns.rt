@@ -830,7 +830,7 @@ f is node n() returns (b: bool) = b & b
 
 $ campaign f --count 2 --sut c
 f is node n() returns (b: bool) = run
-= 3 lurette: refused parse.Unexpected at 29
+= 3 lurette: refused parse.Unexpected at 32
 
 $ campaign f --count 2 --sut c
 f is node n() returns (b: bool) = c

@@ -190,7 +190,7 @@ f is node n() returns (b: bool) = b & b
 = 3 lurette: refused lex.BadByte at 31
 
 f is node n() returns (b: bool) = run
-= 3 lurette: refused parse.Unexpected at 29
+= 3 lurette: refused parse.Unexpected at 32
 
 f is node n() returns (b: bool) = c
 = 3 lurette: refused type.Unknown at 29

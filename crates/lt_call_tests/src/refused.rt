@@ -14,7 +14,7 @@ f is let 1234567890123456789
 = 3 lurette: refused lex.NumberTooLong at 4
 
 f is node n() returns (b: bool) = run
-= 3 lurette: refused parse.Unexpected at 29
+= 3 lurette: refused parse.Unexpected at 32
 
 f is node n()
 = 3 lurette: refused parse.Unexpected at 8

@@ -4,7 +4,7 @@ use Rattle.std.specs.Prelude.{◌&&◌, ◌-ℤ◌, ◌%◌, IsTrue, int_le, nat
 use Rattle.std.specs.List.{All, flat_map}
 use Rattle.std.specs.Option.{ForSome}
 use Rattle.std.proofs.lemmas.Int.{ints}
-use Rattle.std.proofs.lemmas.List.{get_or-map, length-map, map-append}
+use Rattle.std.proofs.lemmas.List.{append_assoc, get_or-map, length-map, map-append}
 use Rattle.lt_ast.specs.declared.span.Span.{Span}
 use Rattle.lt_num.specs.Range.{is_point}
 use Rattle.lt_num.specs.Value.{raw_of, value_of}
@@ -21,6 +21,7 @@ use Rattle.lt_macros.specs.Tree.{declared}
 use Rattle.lt_macros.specs.declared.tree.Declared as written
 use Rattle.lt_term.proofs.Public.{left_of, right_of}
 use Rattle.lt_term.specs.Fitting.{IsValueOf}
+use Rattle.lt_term.specs.Scene.{Variable}
 use Rattle.lt_term.specs.SceneView.{turns, variable}
 use Rattle.lt_term.specs.declared.counter.Counter.{Counter}
 use Rattle.lt_term.specs.declared.variable.Var.{Var}
@@ -96,6 +97,18 @@ variable_taken n ds i d name v old new l is made same e h =
     ∙ map-append variable old (v ∷ [])
     ∙ (λ j. h j ++ last j ∷ [])
     ∙ sym (ap (map (variable_of n)) (taken declared ds i d l is) ∙ map-append (variable_of n) (map declared (take i ds)) (declared d ∷ []))
+
+-- one more input that a run gives
+pub given_variable_taken : (n : ℕ) (ds : List written.Declared) (i : ℕ) (d : written.Declared) (name : List ℕ) (v : Var) (before : List Variable) (old new : List Var) → i < length ds → d ≡ get_or ds i d
+    → variable v ≡ record (variable_of n (declared d)) { name = name } → name ≡ (declared d).name → new ≡ old ++ v ∷ [] → map variable old ≡ before ++ map (variable_of n) (map declared (take i ds))
+    → map variable new ≡ before ++ map (variable_of n) (map declared (take (i + 1) ds))
+given_variable_taken n ds i d name v before old new l is made same e h =
+    let last : variable v ≡ variable_of n (declared d) = made ∙ (λ j. record (variable_of n (declared d)) { name = same j }) in
+    ap (map variable) e
+    ∙ map-append variable old (v ∷ [])
+    ∙ (λ j. h j ++ last j ∷ [])
+    ∙ append_assoc before (map (variable_of n) (map declared (take i ds))) (variable_of n (declared d) ∷ [])
+    ∙ ap (λ vs. before ++ vs) (sym (ap (map (variable_of n)) (taken declared ds i d l is) ∙ map-append (variable_of n) (map declared (take i ds)) (declared d ∷ [])))
 
 locals_append : (n k m : ℕ) (xs ys : List Declared) → m ≡ k + length xs → locals_of n k (xs ++ ys) ≡ locals_of n k xs ++ locals_of n m ys
 locals_append n k m [] ys e = let same : k ≡ m = omega (arith, e) in ap (λ i. locals_of n i ys) same

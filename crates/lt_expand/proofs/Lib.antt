@@ -15,7 +15,14 @@ pub mod Throughout
 pub mod Unrefused
 pub mod Typing
 pub mod Declares
+pub mod Given
 pub mod There
 pub mod Prepared
 pub mod Made
+pub mod Runs
+pub mod Answering
+pub mod Counting
+pub mod Unrun
+pub mod Nests
+pub mod Asked
 pub mod Sizes

@@ -7,7 +7,7 @@ use Rattle.lt_expand.proofs.Sizes.{length-entries}
 use Rattle.lt_formula.specs.Kinds.{Kinds}
 use Rattle.lt_formula.specs.View.{table_expressions, table_kinds, table_len}
 use Rattle.lt_formula.specs.declared.table.Table.{Table}
-use Rattle.lt_macros.specs.Expanded.{Declared, Exception, Node}
+use Rattle.lt_macros.specs.Expanded.{Declared, Exception, Node, all_inputs}
 use Rattle.lt_formula.specs.Limits.{most_variables}
 use Rattle.lt_macros.specs.Numbering.{Follow, IsNumbered, counter_numbers, local_numbers}
 use Rattle.lt_macros.specs.Preorder.{Item, counter_at, counters_in, items, local_at, locals_in}
@@ -54,7 +54,7 @@ put_ready ks zs node e f h = subst (λ k. AreReady k zs node.body) (sym e) (subs
 
 -- what a scenario has of a node: its variables and counters
 pub record IsMade (n : ℕ) (node : Node) (inputs outputs locals : List Var) (counters : List Counter) : Type 0 where
-  pub inputs_made : map variable inputs ≡ map (variable_of n) node.inputs
+  pub inputs_made : map variable inputs ≡ map (variable_of n) (all_inputs node)
   pub outputs_made : map variable outputs ≡ map (variable_of n) node.outputs
   pub locals_made : map variable locals ≡ locals_of n 0 (locals_in node)
   pub counters_made : map turns counters ≡ map (least_and_most n) (counters_in node)
@@ -76,7 +76,7 @@ as_many_locals n vs ds h = sym (length-map vs variable) ∙ ap length h ∙ loca
 
 pub inputs_few : (n : ℕ) (node : Node) (inputs outputs locals : List Var) (counters : List Counter) → IsLimited node → IsMade n node inputs outputs locals counters → length inputs ≤ most_variables
 inputs_few n node inputs outputs locals counters few made =
-    let many = as_many variable (variable_of n) inputs node.inputs made.inputs_made in let l = few.inputs in omega (arith, many, l)
+    let many = as_many variable (variable_of n) inputs (all_inputs node) made.inputs_made in let l = few.inputs in omega (arith, many, l)
 
 pub drawn_few : (n : ℕ) (node : Node) (inputs outputs locals : List Var) (counters : List Counter) → IsLimited node → IsMade n node inputs outputs locals counters
     → length outputs + length locals ≤ most_variables
@@ -107,7 +107,7 @@ local_kinds n k (d ∷ ds) = ap (λ ks. d.kind ∷ ks) (local_kinds n (suc k) ds
 pub made_kinds : (n : ℕ) (node : Node) (inputs outputs locals : List Var) (counters : List Counter) (ks : Kinds) → ks ≡ kinds_of node → IsMade n node inputs outputs locals counters
     → ks ≡ all_kinds inputs outputs locals
 made_kinds n node inputs outputs locals counters ks e made =
-    let ins : map (λ (v : Var). v.kind) inputs ≡ map (λ (d : Declared). d.kind) node.inputs = sym (var_kinds inputs) ∙ ap kinds made.inputs_made ∙ declared_kinds n node.inputs in
+    let ins : map (λ (v : Var). v.kind) inputs ≡ map (λ (d : Declared). d.kind) (all_inputs node) = sym (var_kinds inputs) ∙ ap kinds made.inputs_made ∙ declared_kinds n (all_inputs node) in
     let outs : map (λ (v : Var). v.kind) outputs ≡ map (λ (d : Declared). d.kind) node.outputs = sym (var_kinds outputs) ∙ ap kinds made.outputs_made ∙ declared_kinds n node.outputs in
     let ls : map (λ (v : Var). v.kind) locals ≡ map (λ (d : Declared). d.kind) (locals_in node) = sym (var_kinds locals) ∙ ap kinds made.locals_made ∙ local_kinds n 0 (locals_in node) in
     e ∙ (λ i. record { inputs = sym ins i; outputs = sym outs i; locals = sym ls i })

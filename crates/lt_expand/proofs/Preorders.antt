@@ -3,14 +3,15 @@ use Rattle.std.proofs.Common.{◌≡◌, ℕ, ◌+◌, ◌<◌, ◌≤◌, List,
 use mathlib.Core.Former.{Count}
 use Rattle.std.specs.List.{flat_map}
 use Rattle.std.proofs.lemmas.Grind.{flat_map-append}
-use Rattle.std.proofs.lemmas.List.{append-nil, map-append, take_all, take_more}
+use Rattle.std.proofs.lemmas.List.{append_assoc, append-nil, map-append, take_all, take_more}
 use Rattle.lt_num.specs.declared.kind.Kind.{Kind}
-use Rattle.lt_macros.specs.Expanded.{Declared, Node}
+use Rattle.lt_macros.specs.Expanded.{Declared, Call, Node, all_inputs}
 use Rattle.lt_expand.specs.Classes.{kinds_of}
 use Rattle.lt_macros.specs.Preorder.{Item, weight, items, items_in, local_at}
 use Rattle.lt_expand.specs.inner.Items.{item, items_view, part_items}
-use Rattle.lt_macros.specs.Tree.{declared, expanded, parts, part_row, placed}
+use Rattle.lt_macros.specs.Tree.{call, declared, expanded, parts, part_row, placed}
 use Rattle.lt_expand.specs.declared.items.Item as code
+use Rattle.lt_macros.specs.declared.tree.Call as run
 use Rattle.lt_macros.specs.declared.tree.Declared as written
 use Rattle.lt_macros.specs.declared.tree.Part.{Part}
 use Rattle.lt_macros.specs.declared.tree.Parts.{Parts, Parts', out-Parts, Row_of-Part, end_of-Part, more_of-Part, items-the_row-Part, items_shown-the_row-Part-0}
@@ -44,12 +45,14 @@ items_taken f xs i x h is =
     ∙ ap (λ ys. flat_map f (items_view (take i xs)) ++ ys) (append-nil (f (item x)))
 
 -- the kind of one more variable
-pub kind_taken : (ds : List written.Declared) (i : ℕ) (d : written.Declared) (found more : List Kind) → i < length ds → d ≡ get_or ds i d → found ≡ map (λ x. x.kind) (map declared (take i ds))
-    → more ≡ found ++ d.kind ∷ [] → more ≡ map (λ x. x.kind) (map declared (take (i + 1) ds))
-kind_taken ds i d found more h is e m =
+pub kind_taken : (ds : List written.Declared) (i : ℕ) (d : written.Declared) (before found more : List Kind) → i < length ds → d ≡ get_or ds i d → found ≡ before ++ map (λ x. x.kind) (map declared (take i ds))
+    → more ≡ found ++ d.kind ∷ [] → more ≡ before ++ map (λ x. x.kind) (map declared (take (i + 1) ds))
+kind_taken ds i d before found more h is e m =
+    let old = map (λ (x : Declared). x.kind) (map declared (take i ds)) in
     m
     ∙ ap (λ ks. ks ++ d.kind ∷ []) e
-    ∙ sym (ap (map (λ (x : Declared). x.kind)) (taken declared ds i d h is) ∙ map-append (λ (x : Declared). x.kind) (map declared (take i ds)) (declared d ∷ []))
+    ∙ append_assoc before old (d.kind ∷ [])
+    ∙ ap (λ ks. before ++ ks) (sym (ap (map (λ (x : Declared). x.kind)) (taken declared ds i d h is) ∙ map-append (λ (x : Declared). x.kind) (map declared (take i ds)) (declared d ∷ [])))
 
 -- the kinds of the locals of one more part
 pub local_kinds_taken : (xs : List code.Item) (i : ℕ) (x : code.Item) (found more : List Kind) → i < length xs → x ≡ get_or xs i x → found ≡ map (λ d. d.kind) (flat_map local_at (items_view (take i xs)))
@@ -60,10 +63,23 @@ local_kinds_taken xs i x found more h is e m =
     ∙ sym (ap (map (λ (d : Declared). d.kind)) (items_taken local_at xs i x h is) ∙ map-append (λ (d : Declared). d.kind) (flat_map local_at (items_view (take i xs))) (local_at (item x)))
 
 -- the kinds of a node's variables, as they are gathered
-pub kinds_from : (node : Node) (is : List Item) (inputs outputs locals : List Kind) → is ≡ items node.body → inputs ≡ map (λ d. d.kind) node.inputs → outputs ≡ map (λ d. d.kind) node.outputs
+pub kinds_from : (node : Node) (is : List Item) (inputs outputs locals : List Kind) → is ≡ items node.body → inputs ≡ map (λ d. d.kind) (all_inputs node) → outputs ≡ map (λ d. d.kind) node.outputs
     → locals ≡ map (λ d. d.kind) (flat_map local_at is) → record { inputs = inputs; outputs = outputs; locals = locals } ≡ kinds_of node
 kinds_from node is inputs outputs locals all ins outs ls =
     let most : locals ≡ (kinds_of node).locals = ls ∙ ap (λ is. map (λ d. d.kind) (flat_map local_at is)) all in
     λ i. record { inputs = ins i; outputs = outs i; locals = most i }
 
-pub ruleset gathered = (kind_taken, local_kinds_taken)
+-- what is made of the inputs that one more run gives
+pub given_taken : {Y : Type 0} (f : Declared → Y) (ds : List Declared) (cs : List run.Call) (i : ℕ) (c : run.Call) (found more : List Y) → i < length cs → c ≡ get_or cs i c
+    → found ≡ map f (ds ++ flat_map (λ x. x.names) (map call (take i cs))) → more ≡ found ++ map f (call c).names → more ≡ map f (ds ++ flat_map (λ x. x.names) (map call (take (i + 1) cs)))
+given_taken f ds cs i c found more h is e m =
+    let names : Call → List Declared = λ x. x.names in
+    let old = flat_map names (map call (take i cs)) in
+    let one : old ++ (call c).names ≡ flat_map names (map call (take (i + 1) cs)) =
+    sym (ap (flat_map names) (taken call cs i c h is) ∙ flat_map-append names (map call (take i cs)) (call c ∷ []) ∙ ap (λ ys. old ++ ys) (append-nil (call c).names)) in
+    m
+    ∙ ap (λ ys. ys ++ map f (call c).names) e
+    ∙ sym (map-append f (ds ++ old) (call c).names)
+    ∙ ap (map f) (append_assoc ds old (call c).names ∙ ap (λ ys. ds ++ ys) one)
+
+pub ruleset gathered = (kind_taken, local_kinds_taken, given_taken)

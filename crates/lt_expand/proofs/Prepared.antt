@@ -9,22 +9,22 @@ use Rattle.lt_ast.specs.declared.span.Span.{Span}
 use Rattle.lt_formula.specs.Kinds.{Kinds, kinds_of_role}
 use Rattle.lt_formula.specs.declared.role.Role.{Role}
 use Rattle.lt_formula.specs.declared.role.Role.TheVariants as role
-use Rattle.lt_macros.specs.Expanded.{Declared, Exception, Expanded, Node, eps, dead, con, raise, seq, loop, count, any, pri, par, assert, exist, catch, try, Parts, no_part, part}
+use Rattle.lt_macros.specs.Expanded.{Declared, Exception, Expanded, Node, all_inputs, given_inputs, eps, dead, con, raise, seq, loop, count, any, pri, par, assert, exist, catch, try, Parts, no_part, part}
 use Rattle.lt_macros.specs.Failing.{unless}
 use Rattle.lt_formula.specs.Limits.{most_variables}
 use Rattle.lt_macros.specs.Limits.{most_expression_depth, most_nodes, most_term_depth, passed_limits}
-use Rattle.lt_macros.specs.Naming.{AreEachNamed, AreNamed, HaveDomains, IsNamed, IsOneOf, NamesWhatIsThere}
+use Rattle.lt_macros.specs.Naming.{AreAllNamed, AreEachNamed, AreNamed, HaveDomains, IsNamed, IsOneOf, NamesWhatIsThere}
 use Rattle.lt_macros.specs.Nodes.{drawn_count, expression_depth, node_count, term_depth}
 use Rattle.lt_macros.specs.Numbering.{Follow, IsNumbered, local_numbers, local_numbers_in}
 use Rattle.lt_macros.specs.Placed as p
 use Rattle.lt_macros.specs.Placed.{Placed}
-use Rattle.lt_macros.specs.Preorder.{Item, caught_at, expressions_in, items, items_in, locals_in, raised_at, term}
-use Rattle.lt_macros.specs.Scoping.{AreEachInside, AreInside, IsOne, IsOpen, NamesOnly}
+use Rattle.lt_macros.specs.Preorder.{Item, arguments_in, caught_at, expressions_in, items, items_in, locals_in, raised_at, term}
+use Rattle.lt_macros.specs.Scoping.{AreEachInside, AreInside, IsOne, IsOpen, NameNone, NamesOnly}
 use Rattle.lt_macros.specs.declared.limit.Limit.TheVariants.{Children, Depth, Nodes, Variables}
-use Rattle.lt_expand.specs.Classes.{controllable_conditions, controllable_weights, kinds_of, not_linear}
+use Rattle.lt_expand.specs.Classes.{kinds_of}
 use Rattle.lt_expand.specs.Exceptions.{numbered}
 use Rattle.lt_expand.specs.Static.{bad_at, bad_first, bad_statics}
-use Rattle.lt_expand.specs.declared.refusal.ExpandRefusal.TheVariants.{BadStatic, ControllableCondition, ControllableWeight, NonLinear}
+use Rattle.lt_expand.specs.declared.refusal.ExpandRefusal.TheVariants.{BadStatic}
 use Rattle.lt_expand.specs.inner.Places.{judged_refusals}
 use Rattle.lt_expand.specs.inner.Ready.{AreEachReady, AreReady, IsFine, IsFinePart, IsKnown, IsReady}
 use Rattle.lt_expand.proofs.Terms.{has_few}
@@ -43,7 +43,7 @@ pub record IsLimited (node : Node) : Type 0 where
   pub flat : term_depth node.body ≤ most_term_depth
   pub shallow : list_all (λ e. nat_le (expression_depth e) most_expression_depth) (expressions_in node) ≡ true
   pub narrow : list_all has_few (items node.body) ≡ true
-  pub inputs : length node.inputs ≤ most_variables
+  pub inputs : length (all_inputs node) ≤ most_variables
   pub drawn : drawn_count node ≤ most_variables
 
 -- a node that is past none keeps them
@@ -54,7 +54,7 @@ limited node h =
     let deep = nat_le (term_depth node.body) most_term_depth && shallow in
     let second = unless deep Depth in
     let third = unless (list_all has_few (items node.body)) Children in
-    let both = nat_le (length node.inputs) most_variables && nat_le (drawn_count node) most_variables in
+    let both = nat_le (length (all_inputs node)) most_variables && nat_le (drawn_count node) most_variables in
     let fourth = unless both Variables in
     let rest : third ++ fourth ≡ [] = right_none second (third ++ fourth) (right_none first (second ++ (third ++ fourth)) h) in
     let depths : deep ≡ true = unless_none deep Depth (left_none second (third ++ fourth) (right_none first (second ++ (third ++ fourth)) h)) in
@@ -64,8 +64,8 @@ limited node h =
       flat = at_most (term_depth node.body) most_term_depth (left_of (nat_le (term_depth node.body) most_term_depth) shallow depths);
       shallow = right_of (nat_le (term_depth node.body) most_term_depth) shallow depths;
       narrow = unless_none (list_all has_few (items node.body)) Children (left_none third fourth rest);
-      inputs = at_most (length node.inputs) most_variables (left_of (nat_le (length node.inputs) most_variables) (nat_le (drawn_count node) most_variables) variables);
-      drawn = at_most (drawn_count node) most_variables (right_of (nat_le (length node.inputs) most_variables) (nat_le (drawn_count node) most_variables) variables);
+      inputs = at_most (length (all_inputs node)) most_variables (left_of (nat_le (length (all_inputs node)) most_variables) (nat_le (drawn_count node) most_variables) variables);
+      drawn = at_most (drawn_count node) most_variables (right_of (nat_le (length (all_inputs node)) most_variables) (nat_le (drawn_count node) most_variables) variables);
     }
 
 -- WHAT IS NAMED
@@ -201,11 +201,11 @@ pub node_ready : (node : Node) → IsLimited node → NamesWhatIsThere node → 
 node_ready node few named numbers inside =
     let zs = numbered node.body in
     let ks = kinds_of node in
-    let ins : length node.inputs ≡ length ks.inputs = sym (length-map node.inputs (λ (d : Declared). d.kind)) in
+    let ins : length (all_inputs node) ≡ length ks.inputs = sym (length-map (all_inputs node) (λ (d : Declared). d.kind)) in
     let outs : length node.outputs ≡ length ks.outputs = sym (length-map node.outputs (λ (d : Declared). d.kind)) in
     let many : length (locals_in node) ≡ length ks.locals = sym (length-map (locals_in node) (λ (d : Declared). d.kind)) in
     tree_ready ks zs [] node.body (none_below (length ks.locals)) inside
-    (subst (λ a. AreNamed a (length ks.outputs) node.body) ins (subst (λ b. AreNamed (length node.inputs) b node.body) outs named.body))
+    (subst (λ a. AreNamed a (length ks.outputs) node.body) ins (subst (λ b. AreNamed (length (all_inputs node)) b node.body) outs named.body))
     (record {
       locals = follow_below 0 (local_numbers node.body) (length ks.locals) (subst (Follow 0 (local_numbers node.body)) many numbers.locals);
       raised = λ w i. record { there = numbered_there node.body w (in_left w (flat_map raised_at (items node.body)) (flat_map caught_at (items node.body)) i); few = exceptions_few node few };
@@ -221,8 +221,7 @@ map_none f (x ∷ xs) h = let untrue : f x ∷ map f xs ≡ [] = h in absurd (cc
 statics_fine : (n : ℕ) (node : Node) → judged_refusals n node ≡ [] → bad_statics n node ≡ []
 statics_fine n node h =
     map_none BadStatic (bad_statics n node)
-    (left_none (map BadStatic (bad_statics n node))
-    (map NonLinear (not_linear node) ++ (map ControllableCondition (controllable_conditions node) ++ map ControllableWeight (controllable_weights node))) h)
+    (left_none (map BadStatic (bad_statics n node)) _ h)
 
 variables_fine : (n : ℕ) (ds : List Declared) → HaveDomains ds → flat_map (bad_first n) ds ≡ [] → AllByRecursion (IsFine n) ds
 variables_fine n [] h g = tt
@@ -267,26 +266,69 @@ mutual
   parts_fine n ins outs (part w t ps) h g =
       (tt, fine_both n (items t) (items_in ps) (tree_fine n ins outs t h.1.0 (bad_left n (items t) (items_in ps) g)) (parts_fine n ins outs ps h.1.1 (bad_right n (items t) (items_in ps) g)))
 
-abbrev all_bad : ℕ → Node → List Span
-all_bad n node = flat_map (bad_first n) node.outputs ++ flat_map (bad_at n) (items node.body)
+abbrev given_bad : ℕ → Node → List Span
+given_bad n node = flat_map (bad_first n) (given_inputs node) ++ flat_map (bad_at n) (items node.body)
 
--- each input is fine
-pub inputs_fine : (n : ℕ) (node : Node) → NamesWhatIsThere node → judged_refusals n node ≡ [] → All (IsFine n) node.inputs
-inputs_fine n node named h =
-    All-from_recursion (IsFine n) node.inputs (variables_fine n node.inputs named.inputs (left_none (flat_map (bad_first n) node.inputs) (all_bad n node) (statics_fine n node h)))
+abbrev all_bad : ℕ → Node → List Span
+all_bad n node = flat_map (bad_first n) node.outputs ++ given_bad n node
 
 rest_none : (n : ℕ) (node : Node) → judged_refusals n node ≡ [] → all_bad n node ≡ []
 rest_none n node h = right_none (flat_map (bad_first n) node.inputs) (all_bad n node) (statics_fine n node h)
 
+given_none : (n : ℕ) (node : Node) → judged_refusals n node ≡ [] → given_bad n node ≡ []
+given_none n node h = right_none (flat_map (bad_first n) node.outputs) (given_bad n node) (rest_none n node h)
+
+both_none : {X : Type 0} (xs ys : List X) → xs ≡ [] → ys ≡ [] → xs ++ ys ≡ []
+both_none xs ys g h = λ i. g i ++ h i
+
+inputs_none : (n : ℕ) (node : Node) → judged_refusals n node ≡ [] → flat_map (bad_first n) (all_inputs node) ≡ []
+inputs_none n node h =
+    flat_map-append (bad_first n) node.inputs (given_inputs node)
+    ∙ both_none (flat_map (bad_first n) node.inputs) (flat_map (bad_first n) (given_inputs node))
+    (left_none (flat_map (bad_first n) node.inputs) (all_bad n node) (statics_fine n node h))
+    (left_none (flat_map (bad_first n) (given_inputs node)) (flat_map (bad_at n) (items node.body)) (given_none n node h))
+
+-- each input is fine
+pub inputs_fine : (n : ℕ) (node : Node) → NamesWhatIsThere node → judged_refusals n node ≡ [] → All (IsFine n) (all_inputs node)
+inputs_fine n node named h = All-from_recursion (IsFine n) (all_inputs node) (variables_fine n (all_inputs node) named.inputs (inputs_none n node h))
+
 -- each output
 pub outputs_fine : (n : ℕ) (node : Node) → NamesWhatIsThere node → judged_refusals n node ≡ [] → All (IsFine n) node.outputs
 outputs_fine n node named h =
-    All-from_recursion (IsFine n) node.outputs
-    (variables_fine n node.outputs named.outputs (left_none (flat_map (bad_first n) node.outputs) (flat_map (bad_at n) (items node.body)) (rest_none n node h)))
+    All-from_recursion (IsFine n) node.outputs (variables_fine n node.outputs named.outputs (left_none (flat_map (bad_first n) node.outputs) (given_bad n node) (rest_none n node h)))
 
 -- each part of what it does
 pub parts_are_fine : (n : ℕ) (node : Node) (is : List Item) → is ≡ items node.body → NamesWhatIsThere node → judged_refusals n node ≡ [] → All (IsFinePart n) is
 parts_are_fine n node is e named h =
     subst (All (IsFinePart n)) (sym e)
     (All-from_recursion (IsFinePart n) (items node.body)
-    (tree_fine n (length node.inputs) (length node.outputs) node.body named.body (right_none (flat_map (bad_first n) node.outputs) (flat_map (bad_at n) (items node.body)) (rest_none n node h))))
+    (tree_fine n (length (all_inputs node)) (length node.outputs) node.body named.body (right_none (flat_map (bad_first n) (given_inputs node)) (flat_map (bad_at n) (items node.body)) (given_none n node h))))
+
+-- ARGUMENTS
+
+arguments_each : (ks : Kinds) (es : List Placed) → NameNone es → AreAllNamed (length ks.inputs) (length ks.outputs) es → AllByRecursion (IsReady ks) es
+arguments_each ks [] h g = tt
+arguments_each ks (e ∷ es) h g = (expression_ready ks [] e (none_below (length ks.locals)) h.0 g.0, arguments_each ks es h.1 g.1)
+
+-- all that the arguments of a node's runs name is there
+pub arguments_ready : (node : Node) → NamesWhatIsThere node → NameNone (arguments_in node) → AllByRecursion (IsReady (kinds_of node)) (arguments_in node)
+arguments_ready node named inside =
+    let ks = kinds_of node in
+    let ins : length (all_inputs node) ≡ length ks.inputs = sym (length-map (all_inputs node) (λ (d : Declared). d.kind)) in
+    let outs : length node.outputs ≡ length ks.outputs = sym (length-map node.outputs (λ (d : Declared). d.kind)) in
+    arguments_each ks (arguments_in node) inside
+    (subst (λ a. AreAllNamed a (length ks.outputs) (arguments_in node)) ins (subst (λ b. AreAllNamed (length (all_inputs node)) b (arguments_in node)) outs named.arguments))
+
+pub all_left : {Y : Type 0} (P : Y → Type 0) (xs ys : List Y) → AllByRecursion P (xs ++ ys) → AllByRecursion P xs
+all_left P [] ys h = tt
+all_left P (x ∷ xs) ys h = (h.0, all_left P xs ys h.1)
+
+pub all_right : {Y : Type 0} (P : Y → Type 0) (xs ys : List Y) → AllByRecursion P (xs ++ ys) → AllByRecursion P ys
+all_right P [] ys h = h
+all_right P (x ∷ xs) ys h = all_right P xs ys h.1
+
+-- what holds of all that each of a list has holds of what one of it has
+pub each_part : {X Y : Type 0} (P : Y → Type 0) (f : X → List Y) (xs : List X) → AllByRecursion P (flat_map f xs) → AllByRecursion (λ x. All P (f x)) xs
+each_part P f [] h = tt
+each_part P f (x ∷ xs) h =
+    (All-from_recursion P (f x) (all_left P (f x) (flat_map f xs) h), each_part P f xs (all_right P (f x) (flat_map f xs) h))

@@ -8,7 +8,7 @@ use Rattle.lt_macros.specs.Expanded.{Exception, Node}
 use Rattle.lt_macros.specs.Nodes as tree
 use Rattle.lt_macros.specs.Nodes.{expression_nodes, term_count}
 use Rattle.lt_macros.specs.Placed.{Placed, bare, place_of}
-use Rattle.lt_macros.specs.Preorder.{expressions_at, expressions_in, in_first, items, weight_at, with_parts}
+use Rattle.lt_macros.specs.Preorder.{arguments_in, expressions_at, expressions_in, in_first, items, weight_at, with_parts}
 use Rattle.lt_macros.specs.Failing.{unless}
 use Rattle.lt_term.proofs.Public.{both, left_of, right_of}
 use Rattle.lt_term.specs.Classes as term
@@ -16,10 +16,10 @@ use Rattle.lt_term.specs.Depth.{term_depth}
 use Rattle.lt_term.specs.Limits.{most_expression_depth, most_nodes, most_term_depth}
 use Rattle.lt_term.specs.Named as named
 use Rattle.lt_term.specs.Valid.{has_known_conditions, has_known_weights, is_linear_throughout, is_shallow, node_count}
-use Rattle.lt_expand.specs.Classes.{controllable_conditions, controllable_weights, failing, has_known_condition, is_controllable, is_linear_node, kinds_of, not_linear}
+use Rattle.lt_expand.specs.Classes.{controllable_arguments, controllable_conditions, controllable_weights, failing, has_known_condition, is_controllable, is_linear_node, kinds_of, not_linear}
 use Rattle.lt_expand.specs.Scenes.{process_of}
 use Rattle.lt_expand.specs.Static.{bad_statics}
-use Rattle.lt_expand.specs.declared.refusal.ExpandRefusal.TheVariants.{BadStatic, ControllableCondition, ControllableWeight, NonLinear}
+use Rattle.lt_expand.specs.declared.refusal.ExpandRefusal.TheVariants.{BadStatic, ControllableArgument, ControllableCondition, ControllableWeight, NonLinear}
 use Rattle.lt_expand.specs.inner.Places.{judged_refusals}
 use Rattle.lt_expand.proofs.Measures.{bare_depth, bare_parts, term_deep, term_light, term_nodes, term_passes}
 use Rattle.lt_expand.proofs.Prepared.{IsLimited, map_none}
@@ -34,20 +34,24 @@ all_pass test (e ∷ es) h =
     let here = unless (test e) (place_of e) in
     both (test e) (list_all test es) (unless_none (test e) (place_of e) (left_none here (failing test es) h)) (all_pass test es (right_none here (failing test es) h))
 
-rest_unrefused : (n : ℕ) (node : Node) → judged_refusals n node ≡ [] → map NonLinear (not_linear node) ++ (map ControllableCondition (controllable_conditions node) ++ map ControllableWeight (controllable_weights node)) ≡ []
+rest_unrefused : (n : ℕ) (node : Node) → judged_refusals n node ≡ []
+    → map NonLinear (not_linear node) ++ (map ControllableCondition (controllable_conditions node) ++ (map ControllableWeight (controllable_weights node) ++ map ControllableArgument (controllable_arguments node))) ≡ []
 rest_unrefused n node h = right_none (map BadStatic (bad_statics n node)) _ h
 
 linear_unrefused : (n : ℕ) (node : Node) → judged_refusals n node ≡ [] → not_linear node ≡ []
 linear_unrefused n node h = map_none NonLinear (not_linear node) (left_none (map NonLinear (not_linear node)) _ (rest_unrefused n node h))
 
-last_unrefused : (n : ℕ) (node : Node) → judged_refusals n node ≡ [] → map ControllableCondition (controllable_conditions node) ++ map ControllableWeight (controllable_weights node) ≡ []
+last_unrefused : (n : ℕ) (node : Node) → judged_refusals n node ≡ []
+    → map ControllableCondition (controllable_conditions node) ++ (map ControllableWeight (controllable_weights node) ++ map ControllableArgument (controllable_arguments node)) ≡ []
 last_unrefused n node h = right_none (map NonLinear (not_linear node)) _ (rest_unrefused n node h)
 
 conditions_unrefused : (n : ℕ) (node : Node) → judged_refusals n node ≡ [] → controllable_conditions node ≡ []
 conditions_unrefused n node h = map_none ControllableCondition (controllable_conditions node) (left_none (map ControllableCondition (controllable_conditions node)) _ (last_unrefused n node h))
 
 weights_unrefused : (n : ℕ) (node : Node) → judged_refusals n node ≡ [] → controllable_weights node ≡ []
-weights_unrefused n node h = map_none ControllableWeight (controllable_weights node) (right_none (map ControllableCondition (controllable_conditions node)) _ (last_unrefused n node h))
+weights_unrefused n node h =
+    map_none ControllableWeight (controllable_weights node)
+    (left_none (map ControllableWeight (controllable_weights node)) _ (right_none (map ControllableCondition (controllable_conditions node)) _ (last_unrefused n node h)))
 
 -- EXPRESSIONS OF THE BODY
 
@@ -69,7 +73,8 @@ in_body : (test : Placed → Bool) (node : Node) → list_all test (expressions_
 in_body test node h =
     let outputs = flat_map in_first node.outputs in
     let body = flat_map expressions_at (items node.body) in
-    later test outputs body (later test (flat_map in_first node.inputs) (outputs ++ body) h)
+    let arguments = arguments_in node in
+    later test arguments body (later test outputs (arguments ++ body) (later test (flat_map in_first node.inputs) (outputs ++ (arguments ++ body)) h))
 
 -- a test of all parts of an expression, without places
 bare_throughout : (test : Expression → Bool) (d : Placed) → throughout (λ e. test (bare e)) d ≡ true → list_all test (named.with_parts (bare d)) ≡ true
@@ -113,8 +118,10 @@ body_few node zs few =
     let inputs = flat_map in_first node.inputs in
     let outputs = flat_map in_first node.outputs in
     let body = flat_map expressions_at (items node.body) in
-    let a = sum_by-append expression_nodes inputs (outputs ++ body) in
-    let b = sum_by-append expression_nodes outputs body in
+    let arguments = arguments_in node in
+    let a = sum_by-append expression_nodes inputs (outputs ++ (arguments ++ body)) in
+    let b = sum_by-append expression_nodes outputs (arguments ++ body) in
+    let c = sum_by-append expression_nodes arguments body in
     let l : tree.node_count node ≤ most_nodes = few.nodes in
     let m = term_nodes zs node.body in
-    omega (arith, a, b, l, m)
+    omega (arith, a, b, c, l, m)

@@ -4,14 +4,18 @@ use Rattle.std.specs.List.{flat_map}
 use Rattle.lt_ast.specs.declared.span.Span.{Span}
 use Rattle.lt_formula.specs.Kinds.{Kinds}
 use Rattle.lt_macros.specs.Placed.{Placed, bare, place_of}
-use Rattle.lt_macros.specs.Expanded.{Node}
+use Rattle.lt_macros.specs.Expanded.{Node, all_inputs}
 use Rattle.lt_macros.specs.Failing.{unless}
-use Rattle.lt_macros.specs.Preorder.{expressions_in, locals_in, weights_in, with_parts}
+use Rattle.lt_macros.specs.Preorder.{arguments_in, expressions_in, locals_in, weights_in, with_parts}
 use Rattle.lt_term.specs.Classes as without_places
 
 -- the kinds of a node's variables
 abbrev pub kinds_of : Node → Kinds
-kinds_of node = record { inputs = map (λ d. d.kind) node.inputs; outputs = map (λ d. d.kind) node.outputs; locals = map (λ d. d.kind) (locals_in node) }
+kinds_of node = record {
+  inputs = map (λ d. d.kind) (all_inputs node);
+  outputs = map (λ d. d.kind) node.outputs;
+  locals = map (λ d. d.kind) (locals_in node);
+}
 
 -- an expression depends on an output or a local of the instant
 abbrev pub is_controllable : Kinds → Placed → Bool
@@ -44,3 +48,8 @@ controllable_conditions node = failing (has_known_condition (kinds_of node)) (al
 -- the places of weights that depend on what is drawn
 abbrev pub controllable_weights : Node → List Span
 controllable_weights node = failing (λ w. not (is_controllable (kinds_of node) w)) (weights_in node)
+
+-- the places of arguments of runs that depend on what is drawn
+abbrev pub controllable_arguments : Node → List Span
+controllable_arguments node =
+    failing (λ e. not (is_controllable (kinds_of node) e)) (arguments_in node)

@@ -14,6 +14,8 @@ expand_code (r.NonLinear at) = codes "expand.NonLinear"
 expand_code (r.ControllableCondition at) = codes "expand.ControllableCondition"
 expand_code (r.ControllableWeight at) = codes "expand.ControllableWeight"
 expand_code r.Memory = codes "expand.Memory"
+expand_code (r.ControllableArgument at) = codes "expand.ControllableArgument"
+expand_code r.TooManyRuns = codes "expand.TooManyRuns"
 
 -- where in the text the cause is, if that is at one place
 abbrev pub expand_place : ExpandRefusal → Option ℕ
@@ -24,3 +26,5 @@ expand_place (r.NonLinear at) = Some at.start
 expand_place (r.ControllableCondition at) = Some at.start
 expand_place (r.ControllableWeight at) = Some at.start
 expand_place r.Memory = None
+expand_place (r.ControllableArgument at) = Some at.start
+expand_place r.TooManyRuns = None

@@ -4,6 +4,12 @@ pub mod Static
 pub mod Classes
 -- The numbers of exceptions.
 pub mod Exceptions
+-- How many runs the nest of a node has.
+pub mod Nested
+-- Where the nodes of a text stand.
+pub mod Nesting
+-- The runs of a node that is expanded.
+pub mod Calls
 -- The scenario of a node.
 pub mod Scenes
 -- Why a text has no scenario.

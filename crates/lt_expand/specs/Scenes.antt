@@ -6,7 +6,7 @@ use Rattle.lt_num.specs.declared.value.Value.{Value}
 use Rattle.lt_formula.specs.Expression.{Expression}
 use Rattle.lt_macros.specs.Placed.{bare}
 use Rattle.lt_macros.specs.Expanded as x
-use Rattle.lt_macros.specs.Expanded.{Declared, Exception, Expanded, Parts, no_part, part, Node}
+use Rattle.lt_macros.specs.Expanded.{Declared, Exception, Expanded, Parts, no_part, part, Node, all_inputs}
 use Rattle.lt_macros.specs.Preorder.{locals_in, counters_in}
 use Rattle.lt_expand.specs.Exceptions.{numbered, number_in, exception_names}
 use Rattle.lt_term.specs.Process.{Process, eps, dead, con, raise, seq, loop, count, any, pri, par, assert, exist, catch, try, Choices, no_choice, choice}
@@ -54,12 +54,12 @@ abbrev pub locals_of : ℕ → ℕ → List Declared → List Variable
 locals_of decimals number [] = []
 locals_of decimals number (d ∷ ds) = (record (variable_of decimals d) { name = local_name d.name number }) ∷ locals_of decimals (suc number) ds
 
--- the scenario of a node, where reals have so many decimals
+-- the scenario of a node, where reals have so many decimals; its inputs are the node's own, and then those that runs give
 abbrev pub scene_of : ℕ → Node → Scene
 scene_of decimals node = record {
   name = node.name;
   decimals = decimals;
-  inputs = map (variable_of decimals) node.inputs;
+  inputs = map (variable_of decimals) (all_inputs node);
   outputs = map (variable_of decimals) node.outputs;
   locals = locals_of decimals 0 (locals_in node);
   counters = map (least_and_most decimals) (counters_in node);

@@ -13,7 +13,7 @@ use Rattle.lt_formula.specs.Kinds.{Kinds}
 use Rattle.lt_formula.specs.Operators.{Answer}
 use Rattle.lt_formula.specs.Valuation.{Valuation, value_under}
 use Rattle.lt_macros.specs.Placed.{Placed, bare, place_of}
-use Rattle.lt_macros.specs.Expanded.{Declared, Bounds, between, around, count, exist, Node}
+use Rattle.lt_macros.specs.Expanded.{Declared, Bounds, between, around, count, exist, Node, given_inputs}
 use Rattle.lt_macros.specs.Failing.{unless}
 use Rattle.lt_macros.specs.Preorder.{Item, term, items, in_first}
 use Rattle.lt_formula.specs.Limits.{most_turns}
@@ -94,9 +94,13 @@ bad_at decimals (term (count i b x)) = bad_bounds decimals b
 bad_at decimals (term (exist i d x)) = bad_first decimals d
 bad_at decimals other = []
 
--- those of a node, in preorder: inputs and outputs first
+-- those of a node, in preorder: its inputs and outputs first, and then the inputs that its runs give
 abbrev pub bad_statics : ℕ → Node → List Span
-bad_statics decimals node = flat_map (bad_first decimals) node.inputs ++ (flat_map (bad_first decimals) node.outputs ++ flat_map (bad_at decimals) (items node.body))
+bad_statics decimals node =
+    flat_map (bad_first decimals) node.inputs
+    ++ (flat_map (bad_first decimals) node.outputs
+    ++ (flat_map (bad_first decimals) (given_inputs node)
+    ++ flat_map (bad_at decimals) (items node.body)))
 
 -- the least and the greatest number of turns; 0 where there are none
 abbrev pub numbers_of : Option Turns → ℕ × ℕ

@@ -6,5 +6,6 @@ pub mod Judged
 pub mod Places
 pub mod Declarations
 pub mod Ready
+pub mod Nesting
 pub mod Put
 pub mod Refusing

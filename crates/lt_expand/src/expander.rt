@@ -1,6 +1,6 @@
 //! From a program to its scenario.
 
-ghost use Rattle.std.specs.Prelude.{◌≡◌, ◌≤◌, []};
+ghost use Rattle.std.specs.Prelude.{◌≡◌, ◌≤◌, ℕ, [], nat_le};
 ghost use Rattle.lt_ast.specs.View.{program as declarations};
 ghost use Rattle.lt_num.specs.Bounds.{most_decimals};
 ghost use Rattle.lt_macros.specs.Answer.{asked_name};
@@ -11,11 +11,15 @@ ghost use Rattle.lt_macros.specs.Numbering.{IsNumbered};
 ghost use Rattle.lt_macros.specs.Scoping.{AreInside};
 ghost use Rattle.lt_macros.specs.Tree.{expanded, node};
 ghost use Rattle.lt_typing_laws.specs.TypedNode.{IsTypedNode};
-ghost use Rattle.lt_expand.specs.Answer.{IsAnswer};
+ghost use Rattle.lt_expand.specs.Answer.{IsAnswer, IsNodeAnswer};
+ghost use Rattle.lt_expand.specs.Nested.{most_runs, runs_in_nest};
+ghost use Rattle.lt_expand.specs.Nesting.{IsNestingOf};
 
+use crate::calls::{ExpandedNode, calls_of};
 use crate::items::items_of;
 use crate::judging::judge;
 use crate::kinds::kinds_of;
+use crate::nested::Nesting;
 use crate::refusal::ExpandRefusal;
 use crate::scenario::scenario;
 use lt_macros::{Node, expanded_node, locals_are_inside, names_are_there, parts_are_numbered};
@@ -36,9 +40,11 @@ use std::mem;
 /// [`ExpandRefusal::Memory`] where memory ran out.
 pub fn expand(alloc: Global, typed: Typed, node: Option<&str>) -> Result<Scenario, ExpandRefusal>
     ensures { IsAnswer typed.decimals
+        (runs_in_nest (asked_name node.entry) (declarations typed.program))
         (expanded_node typed.decimals (asked_name node.entry) (declarations typed.program)) result }
 {
     let asked = expanded_node(alloc, &typed, node)?;
+    let few = Nesting::new(alloc, &typed)?.is_few(node);
     let decimals = typed.decimals();
     parts_are_numbered();
     locals_are_inside();
@@ -47,23 +53,68 @@ pub fn expand(alloc: Global, typed: Typed, node: Option<&str>) -> Result<Scenari
     texts_keep_types();
     // The scenario takes the memory that the program had.
     drop(typed);
-    let made = judged_scenario(alloc, &asked, decimals)?;
+    let made = judged_scenario(alloc, &asked, decimals, few)?;
     mem::forget(asked);
     Ok(made)
 }
 
-// The scenario of a node that is within the limits, or what is refused of it first.
-fn judged_scenario(alloc: Global, asked: &Node, decimals: u32) -> Result<Scenario, ExpandRefusal>
+/// The node that is asked for, or the first one where no name is given, with its runs. How many runs nests have is known.
+///
+/// # Errors
+///
+/// As those of [`expand`].
+pub fn expand_node(
+    alloc: Global,
+    typed: &Typed,
+    nesting: &Nesting,
+    node: Option<&str>,
+) -> Result<ExpandedNode, ExpandRefusal>
+    requires { IsNestingOf (declarations typed.now.program) nesting.now }
+    ensures { IsNodeAnswer typed.now.decimals
+        (runs_in_nest (asked_name node.entry) (declarations typed.now.program))
+        (expanded_node typed.now.decimals (asked_name node.entry)
+        (declarations typed.now.program)) result }
+{
+    let asked = expanded_node(alloc, typed, node)?;
+    let few = nesting.is_few(node);
+    parts_are_numbered();
+    locals_are_inside();
+    names_are_there();
+    well_typed_is_unrefused();
+    texts_keep_types();
+    let own_inputs = asked.inputs.len();
+    let parts = items_of(alloc, &asked.body)?;
+    let calls = calls_of(alloc, &asked, &parts)?;
+    let scenario = judged_scenario(alloc, &asked, typed.decimals(), few)?;
+    Ok(ExpandedNode {
+        scenario,
+        own_inputs,
+        calls,
+    })
+}
+
+// The scenario of a node that is within the limits, or what is refused of it first. Its nest has few enough runs, or not.
+#[tactic(auto, using(crate::proofs::Answering::nothing_refused, crate::proofs::Answering::runs_refused, crate::proofs::Answering::judged_refused))]
+fn judged_scenario(
+    alloc: Global,
+    asked: &Node,
+    decimals: u32,
+    few: bool,
+) -> Result<Scenario, ExpandRefusal>
     requires few { decimals ≤ most_decimals }
     requires limits { passed_limits (node asked.now) ≡ [] }
     requires named { NamesWhatIsThere (node asked.now) }
     requires numbered { IsNumbered (node asked.now) }
     requires inside { AreInside [] (expanded asked.now.body) }
     requires typed { ∥ IsTypedNode (node asked.now) ∥₁ }
-    ensures { IsAnswer decimals (Some (node asked.now)) result }
+    ensures { (runs : ℕ) → few ≡ nat_le runs most_runs →
+        IsAnswer decimals runs (Some (node asked.now)) result }
 {
     let parts = items_of(alloc, &asked.body)?;
     let kinds = kinds_of(alloc, asked, &parts)?;
     judge(&kinds, asked, &parts, decimals)?;
+    if !few {
+        return Err(ExpandRefusal::TooManyRuns);
+    }
     Ok(scenario(alloc, kinds, asked, &parts, decimals)?)
 }

@@ -11,7 +11,7 @@ ghost use Rattle.lt_macros.specs.Tree.{expanded, node};
 
 use crate::items::Item;
 use crate::kinds::Kinds;
-use crate::places::{FirstPlaces, node_places};
+use crate::places::{FirstPlaces, controllable_argument, node_places};
 use crate::refusal::ExpandRefusal;
 use lt_macros::Node;
 
@@ -28,8 +28,11 @@ pub(crate) fn judge(
     requires parts { items_view parts.now ≡ items (expanded from.now.body) }
     ensures { IsFirst result (judged_refusals decimals (node from.now)) }
 {
-    match refusal_of(node_places(over, from, parts, decimals)) {
-        Some(refusal) => Err(refusal),
+    if let Some(refusal) = refusal_of(node_places(over, from, parts, decimals)) {
+        return Err(refusal);
+    }
+    match controllable_argument(over, from) {
+        Some(at) => Err(ExpandRefusal::ControllableArgument(at)),
         None => Ok(()),
     }
 }

@@ -4,6 +4,7 @@ ghost use Rattle.std.specs.Prelude.{◌≡◌, ◌++◌, map, IfOk, OnOk};
 ghost use Rattle.std.specs.List.{flat_map};
 ghost use Rattle.lt_formula.specs.Kinds.{kind_of_variable};
 ghost use Rattle.lt_expand.specs.Classes.{kinds_of};
+ghost use Rattle.lt_macros.specs.Expanded.{all_inputs};
 ghost use Rattle.lt_macros.specs.Preorder.{items, local_at};
 ghost use Rattle.lt_expand.specs.inner.Items.{item, items_view};
 ghost use Rattle.lt_expand.specs.inner.Judged.{kinds};
@@ -52,10 +53,23 @@ pub(crate) fn kinds_of(alloc: Global, from: &Node, parts: &[Item<'_>]) -> Result
     ensures { IfOk result (λ found. kinds found ≡ kinds_of (node from.now)) }
 {
     Ok(Kinds {
-        inputs: declared_kinds(alloc, &from.inputs)?,
+        inputs: input_kinds(alloc, from)?,
         outputs: declared_kinds(alloc, &from.outputs)?,
         locals: local_kinds(alloc, parts)?,
     })
+}
+
+// The kinds of the inputs of a node: its own, and those that its runs give.
+#[tactic(auto, using(crate::proofs::Preorders::gathered))]
+fn input_kinds(alloc: Global, from: &Node) -> Result<Vec<Kind>, AllocError>
+    ensures { IfOk result (λ found. found.items ≡
+        map (λ d. d.kind) (all_inputs (node from.now))) }
+{
+    let mut found = declared_kinds(alloc, &from.inputs)?;
+    for call in &from.calls {
+        put_declared_kinds(&mut found, &call.names)?;
+    }
+    Ok(found)
 }
 
 // The kinds of variables.
@@ -64,10 +78,20 @@ fn declared_kinds(alloc: Global, variables: &[Declared]) -> Result<Vec<Kind>, Al
     ensures { IfOk result (λ found. found.items ≡ map (λ d. d.kind) (map declared variables.now)) }
 {
     let mut found = Vec::new(alloc);
+    put_declared_kinds(&mut found, variables)?;
+    Ok(found)
+}
+
+// Puts the kinds of variables behind others.
+#[tactic(auto, using(crate::proofs::Preorders::gathered))]
+fn put_declared_kinds(found: &mut Vec<Kind>, variables: &[Declared]) -> Result<(), AllocError>
+    ensures { OnOk result (found.new.items ≡ found.old.items ++
+        map (λ d. d.kind) (map declared variables.now)) }
+{
     for variable in variables {
         found.push(variable.kind)?;
     }
-    Ok(found)
+    Ok(())
 }
 
 // The kinds of the locals that parts of a trace declare.

@@ -4,6 +4,7 @@
 //! scenario of another one is, are read off the tree (`specs/Refusals.antt`, `specs/Scenes.antt`).
 #![tactic(auto)]
 
+mod calls;
 mod classes;
 mod counters;
 mod exceptions;
@@ -12,6 +13,7 @@ mod expressions;
 mod items;
 mod judging;
 mod kinds;
+mod nested;
 mod places;
 mod refusal;
 mod scenario;
@@ -20,6 +22,8 @@ mod term;
 mod turns;
 mod variables;
 
-pub use expander::expand;
+pub use calls::{Call, ExpandedNode};
+pub use expander::{expand, expand_node};
 pub use lt_macros::Limit;
+pub use nested::{Nesting, has_runs};
 pub use refusal::ExpandRefusal;

@@ -1,21 +1,24 @@
 //! The first places of a node that are refused, of each kind.
 
-ghost use Rattle.std.specs.Prelude.{◌≡◌, ◌≤◌, [], ◌∷◌, map, option_map, option_to_list};
+ghost use Rattle.std.specs.Prelude.{◌≡◌, ◌≤◌, [], ◌∷◌, map, not, option_map, option_to_list};
+ghost use Rattle.std.specs.List.{flat_map};
+ghost use Rattle.lt_formula.specs.Kinds.{Kinds as KindsOfVariables};
 ghost use Rattle.lt_num.specs.Bounds.{most_decimals};
-ghost use Rattle.lt_expand.specs.Classes.{kinds_of};
+ghost use Rattle.lt_expand.specs.Classes.{controllable_arguments, failing, is_controllable, kinds_of};
 ghost use Rattle.lt_macros.specs.Preorder.{in_bounds, items, term as a_term};
 ghost use Rattle.lt_expand.specs.Static.{bad_bounds};
 ghost use Rattle.lt_expand.specs.inner.Items.{item, items_view};
 ghost use Rattle.lt_expand.specs.inner.Judged.{kinds};
-ghost use Rattle.lt_expand.specs.inner.Places.{declared_places, item_places, no_places, node_places, or_places, places_of};
-ghost use Rattle.lt_macros.specs.Tree.{bounds as bounds_view, declared, expanded, node, placed};
+ghost use Rattle.lt_expand.specs.inner.Places.{call_places, declared_places, item_places, no_places, node_places, or_places, places_of};
+ghost use Rattle.lt_expand.specs.inner.Firsts.{first};
+ghost use Rattle.lt_macros.specs.Tree.{bounds as bounds_view, call as call_view, declared, expanded, node, placed};
 
 use crate::classes::judge_expression;
 use crate::items::Item;
 use crate::kinds::Kinds;
 use crate::statics::{bad_bounds, bad_first, unless};
 use lt_ast::Span;
-use lt_macros::{Bounds, Declared, Expanded, Node, Placed};
+use lt_macros::{Bounds, Call, Declared, Expanded, Node, Placed};
 
 /// The first places of a node that are refused, of each kind.
 #[derive(Clone, Copy)]
@@ -74,7 +77,78 @@ pub(crate) fn node_places(
 {
     let inputs = declared_places(over, &from.inputs, decimals);
     let outputs = declared_places(over, &from.outputs, decimals);
-    inputs.or(outputs.or(item_places(over, parts, decimals)))
+    let calls = calls_places(over, &from.calls, decimals);
+    inputs.or(outputs.or(calls.or(item_places(over, parts, decimals))))
+}
+
+// Those of runs.
+#[tactic(auto, using(crate::proofs::Refused::places))]
+fn calls_places(over: &Kinds, calls: &[Call], decimals: u32) -> FirstPlaces
+    requires { decimals ≤ most_decimals }
+    ensures { result ≡ call_places decimals (kinds over.now)
+        (flat_map (λ c. c.names) (map call_view calls.now))
+        (flat_map (λ c. c.arguments) (map call_view calls.now)) }
+{
+    let mut places = FirstPlaces::none();
+    for call in calls {
+        places = places.or(one_call_places(over, call, decimals));
+    }
+    places
+}
+
+// Those of a run.
+#[tactic(auto, using(crate::proofs::Refused::places))]
+fn one_call_places(over: &Kinds, call: &Call, decimals: u32) -> FirstPlaces
+    requires { decimals ≤ most_decimals }
+    ensures { result ≡ call_places decimals (kinds over.now) (call_view call.now).names
+        (call_view call.now).arguments }
+{
+    let mut places = FirstPlaces::none();
+    for given in &call.names {
+        places = places.or(given_places(given, decimals));
+    }
+    for argument in &call.arguments {
+        places = places.or(expression_places(over, argument));
+    }
+    places
+}
+
+// That of the first value of an input that a run gives. Its parts are judged in the node that is run.
+fn given_places(given: &Declared, decimals: u32) -> FirstPlaces
+    requires { decimals ≤ most_decimals }
+    ensures { (over : KindsOfVariables) →
+        result ≡ call_places decimals over (declared given.now ∷ []) [] }
+{
+    FirstPlaces {
+        bad_static: bad_first(given, decimals),
+        ..FirstPlaces::none()
+    }
+}
+
+// The place of the first argument of a run that depends on what is drawn.
+pub(crate) fn controllable_argument(over: &Kinds, from: &Node) -> Option<Span>
+    requires { kinds over.now ≡ kinds_of (node from.now) }
+    ensures { result ≡ first (controllable_arguments (node from.now)) }
+{
+    for call in &from.calls {
+        if let Some(at) = first_controllable(over, &call.arguments) {
+            return Some(at);
+        }
+    }
+    None
+}
+
+// The place of the first of these expressions that depends on what is drawn.
+fn first_controllable(over: &Kinds, exprs: &[Placed]) -> Option<Span>
+    ensures { result ≡ first (failing (λ e. not (is_controllable (kinds over.now) e))
+        (map placed exprs.now)) }
+{
+    for expr in exprs {
+        if !judge_expression(over, expr).facts.is_known {
+            return Some(expr.place());
+        }
+    }
+    None
 }
 
 // Those of variables.

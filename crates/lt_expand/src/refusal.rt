@@ -36,6 +36,14 @@ pub enum ExpandRefusal {
     /// Memory ran out.
     #[error("out of memory")]
     Memory,
+
+    /// An argument of a run that depends on what is drawn in the same instant.
+    #[error("the argument at byte {} depends on what is drawn", .0.start)]
+    ControllableArgument(Span),
+
+    /// The nest of nodes that are run has more than 16 runs.
+    #[error("there are more than 16 runs")]
+    TooManyRuns,
 }
 
 impl ExpandRefusal {
@@ -54,6 +62,8 @@ impl ExpandRefusal {
             ExpandRefusal::ControllableCondition(_) => "expand.ControllableCondition",
             ExpandRefusal::ControllableWeight(_) => "expand.ControllableWeight",
             ExpandRefusal::Memory => "expand.Memory",
+            ExpandRefusal::ControllableArgument(_) => "expand.ControllableArgument",
+            ExpandRefusal::TooManyRuns => "expand.TooManyRuns",
         }
     }
 
@@ -65,8 +75,12 @@ impl ExpandRefusal {
             ExpandRefusal::BadStatic(span)
             | ExpandRefusal::NonLinear(span)
             | ExpandRefusal::ControllableCondition(span)
-            | ExpandRefusal::ControllableWeight(span) => Some(span.start as usize),
-            ExpandRefusal::UnknownNode | ExpandRefusal::TooLarge(_) | ExpandRefusal::Memory => None,
+            | ExpandRefusal::ControllableWeight(span)
+            | ExpandRefusal::ControllableArgument(span) => Some(span.start as usize),
+            ExpandRefusal::UnknownNode
+            | ExpandRefusal::TooLarge(_)
+            | ExpandRefusal::TooManyRuns
+            | ExpandRefusal::Memory => None,
         }
     }
 }

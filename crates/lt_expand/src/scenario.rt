@@ -21,7 +21,7 @@ use crate::exceptions::numbered;
 use crate::items::Item;
 use crate::kinds::Kinds;
 use crate::term::put_term;
-use crate::variables::{locals_of, variables_of};
+use crate::variables::{inputs_of, locals_of, variables_of};
 use lt_formula::{Memory, Table};
 use lt_macros::Node;
 use lt_term::Scenario;
@@ -49,7 +49,7 @@ pub(crate) fn scenario(
 {
     let known = numbered(alloc, parts)?;
     let name = String::from_str(alloc, &from.name)?;
-    let inputs = variables_of(alloc, &from.inputs, decimals)?;
+    let inputs = inputs_of(alloc, from, decimals)?;
     let outputs = variables_of(alloc, &from.outputs, decimals)?;
     let locals = locals_of(alloc, parts, decimals)?;
     let counters = counters_of(alloc, parts, decimals)?;

@@ -4,7 +4,8 @@ ghost use Rattle.std.specs.Prelude.{◌≡◌, ◌≤◌, ◌++◌, ◌∷◌, I
 ghost use Rattle.std.specs.List.{All, flat_map};
 ghost use Rattle.lt_num.specs.Bounds.{most_decimals};
 ghost use Rattle.lt_macros.specs.Preorder.{local_at, term as a_term};
-ghost use Rattle.lt_macros.specs.Tree.{declared as declared_view, expanded};
+ghost use Rattle.lt_macros.specs.Expanded.{all_inputs};
+ghost use Rattle.lt_macros.specs.Tree.{declared as declared_view, expanded, node};
 ghost use Rattle.lt_term.specs.SceneView.{variable as variable_view};
 ghost use Rattle.lt_expand.specs.Scenes.{first_of, locals_of, variable_of};
 ghost use Rattle.lt_expand.specs.inner.Items.{item, items_view};
@@ -13,10 +14,45 @@ ghost use Rattle.lt_expand.specs.inner.Ready.{IsFine, IsFinePart};
 use crate::items::Item;
 use crate::statics::static_raw;
 use lt_formula::Memory;
-use lt_macros::{Declared, Expanded};
+use lt_macros::{Declared, Expanded, Node};
 use lt_num::Value;
 use lt_term::Var;
 use std::alloc::{AllocError, Global};
+
+// The inputs of a node: its own, and then those that its runs give.
+#[tactic(auto, using(crate::proofs::Preorders::given_taken))]
+pub(crate) fn inputs_of(alloc: Global, from: &Node, decimals: u32) -> Result<Vec<Var>, Memory>
+    requires few { decimals ≤ most_decimals }
+    requires fine { All (IsFine decimals) (all_inputs (node from.now)) }
+    ensures { IfOk result (λ made. map variable_view made.items ≡
+        map (variable_of decimals) (all_inputs (node from.now))) }
+{
+    let mut made = variables_of(alloc, &from.inputs, decimals)?;
+    for call in &from.calls {
+        put_given(alloc, &mut made, &call.names, decimals)?;
+    }
+    Ok(made)
+}
+
+// Puts the inputs that a run gives behind others.
+#[tactic(auto, using(crate::proofs::Declares::given_variable_taken))]
+fn put_given(
+    alloc: Global,
+    made: &mut Vec<Var>,
+    names: &[Declared],
+    decimals: u32,
+) -> Result<(), Memory>
+    requires few { decimals ≤ most_decimals }
+    requires fine { All (IsFine decimals) (map declared_view names.now) }
+    ensures { OnOk result (map variable_view made.new.items ≡ map variable_view made.old.items ++
+        map (variable_of decimals) (map declared_view names.now)) }
+{
+    for declared in names {
+        let name = String::from_str(alloc, &declared.name)?;
+        made.push(variable_named(name, declared, decimals))?;
+    }
+    Ok(())
+}
 
 // Variables as they are declared.
 pub(crate) fn variables_of(

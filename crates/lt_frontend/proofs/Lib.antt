@@ -3,3 +3,8 @@ pub mod Once
 pub mod Scenarios
 pub mod Printing
 pub mod Telling
+pub mod Finding
+pub mod Counting
+pub mod Nesting
+pub mod Rows
+pub mod Leading

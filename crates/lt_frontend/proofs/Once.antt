@@ -1,7 +1,8 @@
 -- What is made of a text by its program alone is one thing.
 use Rattle.std.proofs.Common.{◌≡◌, ◌⊎◌, ℕ, List, Result, Err, ap, sym, ◌∙◌}
 use Rattle.lt_ast.specs.Syntax.{Declaration}
-use Rattle.lt_parser.specs.Text.{IsProgramOf, IsRefusal}
+use Rattle.lt_grammar.specs.Text.{IsProgramOf}
+use Rattle.lt_parser.specs.Text.{IsRefusal}
 use Rattle.lt_parser.specs.declared.refusal.ParseRefusal.{ParseRefusal}
 use Rattle.lt_frontend.specs.declared.refusal.Refusal.{Refusal}
 use Rattle.lt_frontend.specs.declared.refusal.Refusal.TheVariants as refusal

@@ -2,7 +2,8 @@
 use Rattle.std.proofs.Common.{◌⊎◌, inl, inr, ℕ, List, Result, Ok, Err, refl}
 use Rattle.lt_ast.specs.Printed.{printed}
 use Rattle.lt_ast.specs.Syntax.{Declaration}
-use Rattle.lt_parser.specs.Text.{IsProgramOf, IsRefusal}
+use Rattle.lt_grammar.specs.Text.{IsProgramOf}
+use Rattle.lt_parser.specs.Text.{IsRefusal}
 use Rattle.lt_parser.specs.declared.refusal.ParseRefusal.{ParseRefusal}
 use Rattle.lt_frontend.specs.Laws.{TextsHaveOnePrintedAnswer}
 use Rattle.lt_frontend.specs.Prepared.{IsPrintedAnswer}

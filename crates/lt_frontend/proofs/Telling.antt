@@ -1,15 +1,17 @@
 -- What the layers tell is the answer of the text.
-use Rattle.std.proofs.Common.{◌≡◌, ◌⊎◌, inl, inr, ℕ, List, [], ◌∷◌, Option, None, Some, Ok, Err, Result, option_map, slice_get, refl, subst, sym}
+use Rattle.std.proofs.Common.{◌≡◌, ◌⊎◌, inl, inr, ℕ, true, false, nat_lt, List, [], ◌∷◌, Option, None, Some, Ok, Err, Result, option_map, slice_get, refl, subst, sym}
 use Rattle.lt_ast.specs.Printed.{printed}
 use Rattle.lt_ast.specs.Syntax.{Declaration}
 use Rattle.lt_expand.specs.Answer.{IsAnswer}
+use Rattle.lt_expand.specs.Nested.{runs_in_nest}
 use Rattle.lt_expand.specs.Refusals.{refusals_of}
 use Rattle.lt_expand.specs.Scenes.{scene_of}
 use Rattle.lt_expand.specs.declared.refusal.ExpandRefusal.{ExpandRefusal}
 use Rattle.lt_expand.specs.declared.refusal.ExpandRefusal.TheVariants as expand
 use Rattle.lt_macros.specs.Expanded.{Node}
 use Rattle.lt_macros.specs.Expansion.{expanded_node}
-use Rattle.lt_parser.specs.Text.{IsProgramOf, IsRefusal}
+use Rattle.lt_grammar.specs.Text.{IsProgramOf}
+use Rattle.lt_parser.specs.Text.{IsRefusal}
 use Rattle.lt_parser.specs.declared.refusal.ParseRefusal.{ParseRefusal}
 use Rattle.lt_parser.specs.declared.refusal.ParseRefusal.TheVariants as parse
 use Rattle.lt_term.specs.SceneView.{scene}
@@ -50,7 +52,7 @@ refused_types P types.Memory h = tt
 refused_types P (types.BadStep at) h = h
 
 -- the first of these, or want of memory
-led : (P : Refusal → Type 0) (reason : TypeRefusal) (rs : List TypeRefusal) → ((why : TypeRefusal) (others : List TypeRefusal) → rs ≡ why ∷ others → P (refusal.Types why)) → Leads reason rs → IfRefused (of_types reason) P
+pub led : (P : Refusal → Type 0) (reason : TypeRefusal) (rs : List TypeRefusal) → ((why : TypeRefusal) (others : List TypeRefusal) → rs ≡ why ∷ others → P (refusal.Types why)) → Leads reason rs → IfRefused (of_types reason) P
 led P reason rs row (first why others) = refused_types P why (row why others refl)
 led P reason rs row (memory others) = tt
 
@@ -61,39 +63,49 @@ types_told decimals node text program reason spells leads =
 -- A node that has no scenario.
 
 -- the head of a list that has one
-head_of : {X : Type 0} (xs : List X) (x : X) → slice_get xs 0 ≡ Some x → (others : List X) × (xs ≡ x ∷ others)
+pub head_of : {X : Type 0} (xs : List X) (x : X) → slice_get xs 0 ≡ Some x → (others : List X) × (xs ≡ x ∷ others)
 head_of [] x h = absurd (cc)
 head_of (y ∷ ys) x h = (ys, cc)
 
-refused_expansion : (P : Refusal → Type 0) (decimals : ℕ) (asked : Option Node) (reason : ExpandRefusal) → ((why : ExpandRefusal) → slice_get (refusals_of decimals asked) 0 ≡ Some why → P (refusal.Expand why)) → IsAnswer decimals asked (Err reason) → IfRefused (of_expansion reason) P
-refused_expansion P decimals asked expand.UnknownNode row h = row expand.UnknownNode h
-refused_expansion P decimals asked (expand.TooLarge limit) row h = row (expand.TooLarge limit) h
-refused_expansion P decimals asked (expand.BadStatic at) row h = row (expand.BadStatic at) h
-refused_expansion P decimals asked (expand.NonLinear at) row h = row (expand.NonLinear at) h
-refused_expansion P decimals asked (expand.ControllableCondition at) row h = row (expand.ControllableCondition at) h
-refused_expansion P decimals asked (expand.ControllableWeight at) row h = row (expand.ControllableWeight at) h
-refused_expansion P decimals asked expand.Memory row h = tt
+pub refused_expansion : (P : Refusal → Type 0) (decimals runs : ℕ) (asked : Option Node) (reason : ExpandRefusal) → ((why : ExpandRefusal) → slice_get (refusals_of decimals runs asked) 0 ≡ Some why → P (refusal.Expand why)) → IsAnswer decimals runs asked (Err reason) → IfRefused (of_expansion reason) P
+refused_expansion P decimals runs asked expand.UnknownNode row h = row expand.UnknownNode h
+refused_expansion P decimals runs asked (expand.TooLarge limit) row h = row (expand.TooLarge limit) h
+refused_expansion P decimals runs asked (expand.BadStatic at) row h = row (expand.BadStatic at) h
+refused_expansion P decimals runs asked (expand.NonLinear at) row h = row (expand.NonLinear at) h
+refused_expansion P decimals runs asked (expand.ControllableCondition at) row h = row (expand.ControllableCondition at) h
+refused_expansion P decimals runs asked (expand.ControllableWeight at) row h = row (expand.ControllableWeight at) h
+refused_expansion P decimals runs asked expand.Memory row h = tt
+refused_expansion P decimals runs asked (expand.ControllableArgument at) row h = row (expand.ControllableArgument at) h
+refused_expansion P decimals runs asked expand.TooManyRuns row h = row expand.TooManyRuns h
 
-pub expansion_told : (decimals : ℕ) (node : Option (List ℕ)) (text : List ℕ) (program : List Declaration) (reason : ExpandRefusal) → IsProgramOf text program → IsWellTyped decimals program → IsAnswer decimals (expanded_node decimals node program) (Err reason) → IfRefused (of_expansion reason) (λ r. IsScenarioAnswer decimals node text (Err r))
+pub expansion_told : (decimals : ℕ) (node : Option (List ℕ)) (text : List ℕ) (program : List Declaration) (reason : ExpandRefusal) → IsProgramOf text program → IsWellTyped decimals program → IsAnswer decimals (runs_in_nest node program) (expanded_node decimals node program) (Err reason) → IfRefused (of_expansion reason) (λ r. IsScenarioAnswer decimals node text (Err r))
 expansion_told decimals node text program reason spells typed answer =
-    refused_expansion (λ r. IsScenarioAnswer decimals node text (Err r)) decimals (expanded_node decimals node program) reason
-    (λ why e. IsScenarioAnswer.not_expanded program why spells typed (head_of (refusals_of decimals (expanded_node decimals node program)) why e)) answer
+    refused_expansion (λ r. IsScenarioAnswer decimals node text (Err r)) decimals (runs_in_nest node program) (expanded_node decimals node program) reason
+    (λ why e. IsScenarioAnswer.not_expanded program why spells typed (head_of (refusals_of decimals (runs_in_nest node program) (expanded_node decimals node program)) why e)) answer
 
 -- the program that was checked is the one that is asked for, and so are its decimals
-pub as_asked : (decimals checked : ℕ) (node : Option (List ℕ)) (program other : List Declaration) (answer : Result Scenario ExpandRefusal) → checked ≡ decimals → other ≡ program → IsAnswer checked (expanded_node checked node other) answer → IsAnswer decimals (expanded_node decimals node program) answer
+pub as_asked : (decimals checked : ℕ) (node : Option (List ℕ)) (program other : List Declaration) (answer : Result Scenario ExpandRefusal) → checked ≡ decimals → other ≡ program → IsAnswer checked (runs_in_nest node other) (expanded_node checked node other) answer
+    → IsAnswer decimals (runs_in_nest node program) (expanded_node decimals node program) answer
 as_asked decimals checked node program other answer e f h =
-    subst (λ ds. IsAnswer decimals (expanded_node decimals node ds) answer) f (subst (λ n. IsAnswer n (expanded_node n node other) answer) e h)
+    subst (λ ds. IsAnswer decimals (runs_in_nest node ds) (expanded_node decimals node ds) answer) f (subst (λ n. IsAnswer n (runs_in_nest node other) (expanded_node n node other) answer) e h)
 
 -- One that has a scenario.
 
 -- a value that is mapped to this is there
-mapped : {X Y : Type 0} (f : X → Y) (o : Option X) (y : Y) → option_map f o ≡ Some y → (x : X) × (o ≡ Some x) × (y ≡ f x)
+pub mapped : {X Y : Type 0} (f : X → Y) (o : Option X) (y : Y) → option_map f o ≡ Some y → (x : X) × (o ≡ Some x) × (y ≡ f x)
 mapped f None y h = absurd (cc)
 mapped f (Some x) y h = (x, refl, cc)
 
-pub scene_told : (decimals : ℕ) (node : Option (List ℕ)) (text : List ℕ) (program : List Declaration) (made : Scenario) → IsProgramOf text program → IsWellTyped decimals program → IsAnswer decimals (expanded_node decimals node program) (Ok made) → IsScenarioAnswer decimals node text (Ok (scene made))
-scene_told decimals node text program made spells typed answer =
-    IsScenarioAnswer.has_scenario program (scene made) spells typed (answer.0, mapped (scene_of decimals) (expanded_node decimals node program) (scene made) answer.1)
+pub scene_told : (decimals : ℕ) (node : Option (List ℕ)) (text : List ℕ) (program : List Declaration) (made : Scenario) → IsProgramOf text program → IsWellTyped decimals program → nat_lt 0 (runs_in_nest node program) ≡ false
+    → IsAnswer decimals (runs_in_nest node program) (expanded_node decimals node program) (Ok made) → IsScenarioAnswer decimals node text (Ok (scene made))
+scene_told decimals node text program made spells typed none answer =
+    IsScenarioAnswer.has_scenario program (scene made) spells typed (answer.0, none, mapped (scene_of decimals) (expanded_node decimals node program) (scene made) answer.1)
+
+-- One that has a scenario, but runs others.
+
+pub runs_told : (decimals : ℕ) (wanted : Option (List ℕ)) (text : List ℕ) (program : List Declaration) (made : Scenario) → IsProgramOf text program → IsWellTyped decimals program → nat_lt 0 (runs_in_nest wanted program) ≡ true
+    → IsAnswer decimals (runs_in_nest wanted program) (expanded_node decimals wanted program) (Ok made) → IsScenarioAnswer decimals wanted text (Err refusal.HasRuns)
+runs_told decimals wanted text program made spells typed some answer = IsScenarioAnswer.has_runs program spells typed (answer.0, some)
 
 -- A program in print.
 

@@ -1,13 +1,15 @@
 -- What is made of a text: the scenario of one of its nodes, or its program in print.
-use Rattle.std.specs.Prelude.{◌≡◌, ℕ, List, [], ◌∷◌, Option, Some, Result, Ok, Err}
+use Rattle.std.specs.Prelude.{◌≡◌, ℕ, true, false, nat_lt, List, [], ◌∷◌, Option, Some, Result, Ok, Err}
 use Rattle.lt_ast.specs.Printed.{printed}
 use Rattle.lt_ast.specs.Syntax.{Declaration}
+use Rattle.lt_expand.specs.Nested.{runs_in_nest}
 use Rattle.lt_expand.specs.Refusals.{expand_refusals}
 use Rattle.lt_expand.specs.Scenes.{scene_of}
 use Rattle.lt_expand.specs.declared.refusal.ExpandRefusal.{ExpandRefusal}
 use Rattle.lt_macros.specs.Expanded.{Node}
 use Rattle.lt_macros.specs.Expansion.{expanded_node}
-use Rattle.lt_parser.specs.Text.{IsProgramOf, IsRefusal}
+use Rattle.lt_grammar.specs.Text.{IsProgramOf}
+use Rattle.lt_parser.specs.Text.{IsRefusal}
 use Rattle.lt_parser.specs.declared.refusal.ParseRefusal.{ParseRefusal}
 use Rattle.lt_term.specs.Scene.{Scene}
 use Rattle.lt_types.specs.Refusals.{type_refusals}
@@ -26,10 +28,16 @@ IsTypeRefusal decimals program reason = (others : List TypeRefusal) × (type_ref
 abbrev pub IsExpandRefusal : ℕ → Option (List ℕ) → List Declaration → ExpandRefusal → Type 0
 IsExpandRefusal decimals node program reason = (others : List ExpandRefusal) × (expand_refusals decimals node program ≡ reason ∷ others)
 
--- nothing is refused of the node that is asked for, and this is its scenario
+-- nothing is refused of the node that is asked for, but it runs others
+abbrev pub IsRunning : ℕ → Option (List ℕ) → List Declaration → Type 0
+IsRunning decimals node program =
+    (expand_refusals decimals node program ≡ []) × (nat_lt 0 (runs_in_nest node program) ≡ true)
+
+-- nothing is refused of the node that is asked for, it runs none, and this is its scenario
 abbrev pub IsSceneOf : ℕ → Option (List ℕ) → List Declaration → Scene → Type 0
 IsSceneOf decimals node program scene =
     (expand_refusals decimals node program ≡ [])
+    × (nat_lt 0 (runs_in_nest node program) ≡ false)
     × ((tree : Node) × (expanded_node decimals node program ≡ Some tree) × (scene ≡ scene_of decimals tree))
 
 -- What a text has as a scenario, where reals have so many decimals and this node is asked for, or else the first one: a
@@ -41,6 +49,9 @@ pub data IsScenarioAnswer (decimals : ℕ) (node : Option (List ℕ)) (text : Li
   ill_typed : (program : List Declaration) (reason : TypeRefusal) → IsProgramOf text program → IsTypeRefusal decimals program reason → IsScenarioAnswer decimals node text (Err (refusal.Types reason))
   -- the program is well typed, and its node has no scenario, for this reason
   not_expanded : (program : List Declaration) (reason : ExpandRefusal) → IsProgramOf text program → IsWellTyped decimals program → IsExpandRefusal decimals node program reason → IsScenarioAnswer decimals node text (Err (refusal.Expand reason))
+  -- its node has a scenario, but not alone, since it runs others
+  has_runs : (program : List Declaration) → IsProgramOf text program → IsWellTyped decimals program
+      → IsRunning decimals node program → IsScenarioAnswer decimals node text (Err refusal.HasRuns)
   -- its node has this scenario
   has_scenario : (program : List Declaration) (scene : Scene) → IsProgramOf text program → IsWellTyped decimals program → IsSceneOf decimals node program scene → IsScenarioAnswer decimals node text (Ok scene)
 

@@ -8,9 +8,11 @@
 #![tactic(auto)]
 
 mod laws;
+mod nest;
 mod preparing;
 mod refusal;
 
 pub use laws::{texts_have_one_printed_answer, texts_have_one_scenario_answer};
+pub use nest::{Nest, NestRun, NestRuns, nest_of};
 pub use preparing::{printed_text, scenario_of};
 pub use refusal::{Refusal, Unprepared};

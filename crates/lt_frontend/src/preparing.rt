@@ -6,8 +6,8 @@ ghost use Rattle.lt_num.specs.Bounds.{most_decimals};
 ghost use Rattle.lt_term.specs.SceneView.{scene};
 ghost use Rattle.lt_frontend.specs.Prepared.{IfRefused, IsPrintedAnswer, IsScenarioAnswer};
 
-use crate::refusal::Unprepared;
-use lt_expand::expand;
+use crate::refusal::{Refusal, Unprepared};
+use lt_expand::{expand, has_runs};
 use lt_parser::{parse, print};
 use lt_term::Scenario;
 use lt_types::check;
@@ -18,7 +18,7 @@ use std::alloc::Global;
 ///
 /// # Errors
 ///
-/// The first cause: the text spells no program, the program isn't well typed, or its node has no scenario.
+/// The first cause: the text spells no program, the program isn't well typed, its node has no scenario, or it runs others.
 /// [`Unprepared::Memory`] where memory ran out, or the text has 2^32 bytes or more.
 pub fn scenario_of(
     alloc: Global,
@@ -35,7 +35,12 @@ pub fn scenario_of(
 {
     let program = parse(alloc, text)?;
     let typed = check(alloc, program, decimals)?;
-    Ok(expand(alloc, typed, node)?)
+    let runs_others = has_runs(&typed, node);
+    let made = expand(alloc, typed, node)?;
+    if runs_others {
+        return Err(Unprepared::Refused(Refusal::HasRuns));
+    }
+    Ok(made)
 }
 
 /// The program of a text as text: a line for each declaration, its tokens with one blank between two.

@@ -1,9 +1,10 @@
 //! Why nothing is made of a text.
 
 use lt_expand::ExpandRefusal;
+use lt_formula::Memory;
 use lt_parser::ParseRefusal;
 use lt_types::TypeRefusal;
-use std::alloc::AllocError;
+use std::alloc::{AllocError, AllocFailed};
 use thiserror::Error;
 
 /// Why a text is refused, with the place that is to blame. A want of memory is told as [`Unprepared::Memory`] instead.
@@ -20,6 +21,14 @@ pub enum Refusal {
     /// Its node has no scenario.
     #[error("{0}")]
     Expand(ExpandRefusal),
+
+    /// Its node runs others, and so has no scenario alone.
+    #[error("the node runs others")]
+    HasRuns,
+
+    /// A constraint of its node, or of one that is run, has a conjunct of more than 16 atoms.
+    #[error("a constraint has a conjunct of more than 16 atoms")]
+    TooManyAtoms,
 }
 
 /// Why nothing was made of a text.
@@ -46,6 +55,8 @@ impl Refusal {
             Refusal::Text(refusal) => refusal.code(),
             Refusal::Types(refusal) => refusal.code(),
             Refusal::Expand(refusal) => refusal.code(),
+            Refusal::HasRuns => "run.HasRuns",
+            Refusal::TooManyAtoms => "run.TooManyAtoms",
         }
     }
 
@@ -57,6 +68,7 @@ impl Refusal {
             Refusal::Text(refusal) => refusal.place(),
             Refusal::Types(refusal) => refusal.place(),
             Refusal::Expand(refusal) => refusal.place(),
+            Refusal::HasRuns | Refusal::TooManyAtoms => None,
         }
     }
 }
@@ -110,6 +122,28 @@ impl From<AllocError> for Unprepared {
     ghost from_gives = { λ _ why. why ≡ unprepared.Memory };
 
     fn from(_error: AllocError) -> Unprepared {
+        Unprepared::Memory
+    }
+}
+
+impl From<Memory> for Unprepared {
+    ghost use Rattle.std.specs.Prelude.{◌≡◌};
+    ghost use Rattle.lt_frontend.specs.declared.refusal.Unprepared.TheVariants as unprepared;
+
+    ghost from_gives = { λ _ why. why ≡ unprepared.Memory };
+
+    fn from(_error: Memory) -> Unprepared {
+        Unprepared::Memory
+    }
+}
+
+impl<T: Drop> From<AllocFailed<T>> for Unprepared {
+    ghost use Rattle.std.specs.Prelude.{◌≡◌};
+    ghost use Rattle.lt_frontend.specs.declared.refusal.Unprepared.TheVariants as unprepared;
+
+    ghost from_gives = { λ _ why. why ≡ unprepared.Memory };
+
+    fn from(_error: AllocFailed<T>) -> Unprepared {
         Unprepared::Memory
     }
 }

@@ -86,6 +86,7 @@ one_or_two-each s.GreaterEqual = inr (62, 61, refl)
 one_or_two-each s.Implies = inr (61, 62, refl)
 one_or_two-each s.Priority = inr (124, 62, refl)
 one_or_two-each s.Parallel = inr (38, 62, refl)
+one_or_two-each s.Assign = inr (58, 61, refl)
 one_or_two-each sign = inl (_, refl)
 
 -- so each symbol has

@@ -54,7 +54,7 @@ fn sign_beginning(first: u8, letters: &[u8]) -> Option<Sign>
         b'}' => one_of!(letters; CloseBrace),
         b'[' => one_of!(letters; OpenBracket),
         b']' => one_of!(letters; CloseBracket),
-        b':' => one_of!(letters; Colon),
+        b':' => one_of!(letters; Colon, Assign),
         b';' => one_of!(letters; Semicolon),
         b',' => one_of!(letters; Comma),
         b'=' => one_of!(letters; Equal, Implies),

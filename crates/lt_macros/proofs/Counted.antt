@@ -5,13 +5,13 @@ use Rattle.std.proofs.lemmas.Bool.{le-leb, lt-leb, leb-true, leb-false, eq-eqb, 
 use Rattle.std.proofs.lemmas.List.Sums.{sum_by-cons, sum_by-append}
 use Rattle.std.proofs.lemmas.List.Folds.{sum_by-zero}
 use Rattle.lt_macros.specs.Placed.{Placed, constant, variable, previous, unary, binary, choice}
-use Rattle.lt_macros.specs.Expanded.{Declared, Bounds, between, around, Expanded, eps, dead, con, raise, seq, loop, count, any, pri, par, assert, exist, catch, try, Parts, no_part, part, Node}
+use Rattle.lt_macros.specs.Expanded.{Declared, Call, Bounds, between, around, Expanded, eps, dead, con, raise, seq, loop, count, any, pri, par, assert, exist, catch, try, Parts, no_part, part, Node, all_inputs}
 use Rattle.lt_macros.specs.Failing.{unless}
-use Rattle.lt_macros.specs.Preorder.{Item, term, weight, items, items_in, in_first, expressions_at, expressions_in, local_at, locals_in, with_parts}
+use Rattle.lt_macros.specs.Preorder.{Item, term, weight, items, items_in, in_first, expressions_at, arguments_in, expressions_in, local_at, locals_in, with_parts}
 use Rattle.lt_macros.specs.Nodes.{term_count, expression_nodes, node_count, term_depth, parts_depth, expression_depth, alternatives_at, drawn_count}
 use Rattle.lt_formula.specs.Limits.{most_alternatives, most_variables}
 use Rattle.lt_macros.specs.Limits.{most_nodes, most_term_depth, most_expression_depth, passed_limits}
-use Rattle.lt_macros.specs.inner.Figures.{Figure, nodes, deep_terms, deep_expressions, wide_choices, locals, one_if, term_weight, expression_weight, choice_weight, local_weight, expression_figure, bounds_figure, first_figure, expanded_figure, parts_figure, variables_figure, node_figure, limit_by}
+use Rattle.lt_macros.specs.inner.Figures.{Figure, nodes, deep_terms, deep_expressions, wide_choices, locals, one_if, term_weight, expression_weight, choice_weight, local_weight, expression_figure, bounds_figure, first_figure, expanded_figure, parts_figure, variables_figure, arguments_figure, calls_figure, node_figure, limit_by}
 use Rattle.lt_macros.specs.declared.limit.Limit.TheVariants.{Nodes, Depth, Children, Variables}
 
 -- SUMS
@@ -103,18 +103,29 @@ variables_are : (f : Figure) (ds : List Declared) → variables_figure f ds ≡ 
 variables_are f [] = refl
 variables_are f (d ∷ ds) = omega (arith, first_is f d.first, sum_by-append (expression_figure f 1) (in_first d) (flat_map in_first ds), variables_are f ds)
 
+arguments_are : (f : Figure) (es : List Placed) → arguments_figure f es ≡ expressions f es
+arguments_are f [] = refl
+arguments_are f (e ∷ es) = omega (arith, sum_by-cons (expression_figure f 1) e es, arguments_are f es)
+
+calls_are : (f : Figure) (cs : List Call) → calls_figure f cs ≡ expressions f (flat_map (λ (c : Call). c.arguments) cs)
+calls_are f [] = refl
+calls_are f (c ∷ cs) = omega (arith, arguments_are f c.arguments, sum_by-append (expression_figure f 1) c.arguments (flat_map (λ (d : Call). d.arguments) cs), calls_are f cs)
+
 node_is : (f : Figure) (node : Node) → IsFlat f → node_figure node f ≡ sum_by (plain f) (items node.body) + expressions f (expressions_in node)
 node_is f node flat =
     let outs = flat_map in_first node.outputs in
+    let given = arguments_in node in
     let inside = flat_map expressions_at (items node.body) in
     omega (
       arith,
       variables_are f node.inputs,
       variables_are f node.outputs,
+      calls_are f node.calls,
       items_total f 1 node.body flat,
       total_is f (items node.body),
-      sum_by-append (expression_figure f 1) (flat_map in_first node.inputs) (outs ++ inside),
-      sum_by-append (expression_figure f 1) outs inside,
+      sum_by-append (expression_figure f 1) (flat_map in_first node.inputs) (outs ++ (given ++ inside)),
+      sum_by-append (expression_figure f 1) outs (given ++ inside),
+      sum_by-append (expression_figure f 1) given inside,
     )
 
 -- HOW MANY NODES
@@ -299,7 +310,8 @@ fits_test most figure deepest h = by (nat_le deepest most) refl
 terms_are : (node : Node) → nat_eq (node_figure node deep_terms) 0 ≡ nat_le (term_depth node.body) most_term_depth
 terms_are node =
     let none : (ds : List Declared) → variables_figure deep_terms ds ≡ 0 = λ ds. variables_are deep_terms ds ∙ sum_none (expression_figure deep_terms 1) (flat_map in_first ds) (shallow 1) in
-    ap (λ n. nat_eq n 0) (omega (arith, none node.inputs, none node.outputs)) ∙ fits_test most_term_depth (expanded_figure deep_terms 1 node.body) (term_depth node.body) (term_fits 1 node.body)
+    let no_calls : calls_figure deep_terms node.calls ≡ 0 = calls_are deep_terms node.calls ∙ sum_none (expression_figure deep_terms 1) (arguments_in node) (shallow 1) in
+    ap (λ n. nat_eq n 0) (omega (arith, none node.inputs, none node.outputs, no_calls)) ∙ fits_test most_term_depth (expanded_figure deep_terms 1 node.body) (term_depth node.body) (term_fits 1 node.body)
 
 expressions_are : (node : Node) → nat_eq (node_figure node deep_expressions) 0 ≡ list_all (λ e. nat_le (expression_depth e) most_expression_depth) (expressions_in node)
 expressions_are node =
@@ -324,10 +336,10 @@ first_of true true true false = refl
 first_of true true true true = refl
 
 -- the limits that a node is past are judged by its figures
-pub first_passed : (node : Node) → limit_by (node_figure node) (length node.inputs) (length node.outputs) ≡ slice_get (passed_limits node) 0
+pub first_passed : (node : Node) → limit_by (node_figure node) (length (all_inputs node)) (length node.outputs) ≡ slice_get (passed_limits node) 0
 first_passed node =
     let deep : (nat_eq (node_figure node deep_terms) 0 && nat_eq (node_figure node deep_expressions) 0) ≡ (nat_le (term_depth node.body) most_term_depth && list_all (λ e. nat_le (expression_depth e) most_expression_depth) (expressions_in node)) =
     λ i. terms_are node i && expressions_are node i in
-    let shape = λ (n l : ℕ) (a b : Bool). if nat_le n most_nodes then (if a then (if b then (if nat_le (length node.inputs) most_variables && nat_le (length node.outputs + l) most_variables then None else Some Variables) else Some Children) else Some Depth) else Some Nodes in
+    let shape = λ (n l : ℕ) (a b : Bool). if nat_le n most_nodes then (if a then (if b then (if nat_le (length (all_inputs node)) most_variables && nat_le (length node.outputs + l) most_variables then None else Some Variables) else Some Children) else Some Depth) else Some Nodes in
     (λ i. shape (nodes_are node i) (locals_are node i) (deep i) (choices_are node i))
-    ∙ sym (first_of (nat_le (node_count node) most_nodes) (nat_le (term_depth node.body) most_term_depth && list_all (λ e. nat_le (expression_depth e) most_expression_depth) (expressions_in node)) (list_all (λ i. nat_le (alternatives_at i) most_alternatives) (items node.body)) (nat_le (length node.inputs) most_variables && nat_le (drawn_count node) most_variables))
+    ∙ sym (first_of (nat_le (node_count node) most_nodes) (nat_le (term_depth node.body) most_term_depth && list_all (λ e. nat_le (expression_depth e) most_expression_depth) (expressions_in node)) (list_all (λ i. nat_le (alternatives_at i) most_alternatives) (items node.body)) (nat_le (length (all_inputs node)) most_variables && nat_le (drawn_count node) most_variables))

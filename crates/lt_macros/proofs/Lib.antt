@@ -23,5 +23,7 @@ pub mod Numbering
 pub mod Locals
 pub mod Measured
 pub mod Asked
+pub mod Runs
+pub mod Passed
 pub mod Nodes
 pub mod Named

@@ -264,3 +264,7 @@ mutual
 -- what a trace stands for names locals only inside the traces that declare them, where names are closed
 pub trace_inside : (env : Environment Denotation) (t : Trace) (n : Numbers) → AreClosedNames [] env.names → AreInside [] (as_trace (trace_denotation env t) n).expanded
 trace_inside env t n h = as_closed [] (trace_denotation env t) n (trace_closed [] env t h)
+
+-- what an expression stands for names no locals, where names are closed
+pub expression_inside : (env : Environment Denotation) (e : Exp) → AreClosedNames [] env.names → NamesOnly [] (as_expression (exp_denotation env e))
+expression_inside env e h = as_expression_closed [] (exp_denotation env e) (exp_closed [] env e h)

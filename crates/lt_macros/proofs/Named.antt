@@ -1,11 +1,12 @@
 -- What an expansion names is there.
 use Rattle.std.proofs.Common.{◌≡◌, ℕ, suc, ◌+◌, ◌<◌, ◌≤◌, Bool, true, false, List, [], ◌∷◌, ◌++◌, map, length, length-append, Option, None, Some, bytes_eq, if◌then◌else◌, arith, refl, sym, ap, ◌∙◌, subst, ℤ, pos, neg_ℤ, ◌≤ℤ◌}
 use Rattle.std.specs.Prelude.{unsigned_abs}
+use Rattle.std.specs.List.{flat_map}
 use Rattle.std.specs.Int.{int_max}
 use Rattle.std.proofs.lemmas.Int.{ints, clamps}
 use Rattle.std.proofs.lemmas.List.{length-map}
 use Rattle.lt_ast.specs.Syntax as s
-use Rattle.lt_ast.specs.Syntax.{Word, WrittenRange, Figure, Exp, Argument, Arguments, Braces, Alternative, Alternatives, Trace, Traces, Grouping, Groupings, MaybeExp, MaybeTrace, Meaning, Macro, Declaration}
+use Rattle.lt_ast.specs.Syntax.{Word, WrittenRange, Figure, Exp, Argument, Arguments, Braces, Alternative, Alternatives, Trace, Traces, Grouping, Groupings, MaybeExp, MaybeTrace, Meaning, Macro, Run, Declaration}
 use Rattle.lt_ast.specs.declared.group.TypeName.TheVariants as t
 use Rattle.lt_num.specs.Bounds.{most_raw}
 use Rattle.lt_num.specs.Value.{raw_of, value_of}
@@ -18,11 +19,11 @@ use Rattle.lt_formula.specs.declared.role.Role.{Role}
 use Rattle.lt_formula.specs.declared.role.Role.TheVariants as role
 use Rattle.lt_macros.specs.Placed as p
 use Rattle.lt_macros.specs.Placed.{Placed}
-use Rattle.lt_macros.specs.Expanded.{Declared, Bounds, Expanded, seq, pri, par, Node}
+use Rattle.lt_macros.specs.Expanded.{Declared, Call, Bounds, Expanded, seq, pri, par, Node}
 use Rattle.lt_macros.specs.Environment.{Binding, variable, parameter, macro, Raised, deadlock, declared, NamedBinding, Environment, at_start, found, found_exception, with_name, with_arguments, with_variables, with_exceptions}
-use Rattle.lt_macros.specs.Expansion.{group_variables, groups_variables, with_group, with_groups, node_of, is_wanted, node_among}
+use Rattle.lt_macros.specs.Expansion.{Runnable, all_given_as, call_of, calls_of, group_variables, groups_variables, outputs_of, runnable_of, with_calls, with_declared, with_group, with_groups, node_of, is_wanted, node_among}
 use Rattle.lt_macros.specs.Literals.{kind_of, range_of, limited, from_to, most_drawn_raw, most_unranged, step_raw, written_points}
-use Rattle.lt_macros.specs.Naming.{IsOneOf, IsNamed, AreNamed, AreEachNamed, HaveDomains, NamesWhatIsThere, NamesAreThere}
+use Rattle.lt_macros.specs.Naming.{IsOneOf, IsNamed, AreAllNamed, AreNamed, AreEachNamed, HaveDomains, NamesWhatIsThere, NamesAreThere}
 use Rattle.lt_macros.specs.Denotation.{Numbers, ExpandedTrace, behind_term, behind_local, behind_counter, Denotation, expression, trace, as_expression, as_trace, standing_for, before, macro_name, parameter_names, declared_as, first_of, group_names, caught_as, raised_as, repeated, bounds_of, in_locals, in_group, in_groups, caught, exp_denotation, argument_denotation, argument_denotations, braces_denotation, weight_of, alternative_denotation, parts_of, traces_denotation, handler_denotation, meaning_denotation, macro_denotation, trace_denotation}
 
 -- Ranges.
@@ -379,11 +380,80 @@ groups_domains : (r : Role) (i : ℕ) (env : Environment Denotation) (gs : Group
 groups_domains r i env s.no_groups = tt
 groups_domains r i env (s.one_group g gs) = domains_both (group_variables r env g) _ (group_domains r env g) (groups_domains r (i + length (group_names g)) (with_group r i g env) gs)
 
-all_inputs : (ins outs : ℕ) → HasRoom ins outs role.Input 0 ins
-all_inputs ins outs = λ k low high. omega arith
-
 all_outputs : (ins outs : ℕ) → HasRoom ins outs role.Output 0 outs
 all_outputs ins outs = λ k low high. omega arith
+
+-- the first of the inputs, and those behind them
+first_inputs : (outs a b : ℕ) → HasRoom (a + b) outs role.Input 0 a
+first_inputs outs a b = λ k low high. omega arith
+
+other_inputs : (outs a b : ℕ) → HasRoom (a + b) outs role.Input a b
+other_inputs outs a b = λ k low high. omega arith
+
+-- Runs.
+
+-- the inputs that runs give
+abbrev given : List Call → List Declared
+given cs = flat_map (λ (c : Call). c.names) cs
+
+-- and what they are given
+abbrev arguments : List Call → List Placed
+arguments cs = flat_map (λ (c : Call). c.arguments) cs
+
+declared_known : (ins outs : ℕ) (r : Role) (i : ℕ) (ds : List Declared) (env : Environment Denotation) → HasRoom ins outs r i (length ds) → AreKnownNames ins outs env.names
+    → AreKnownNames ins outs (with_declared r i ds env).names
+declared_known ins outs r i [] env room h = h
+declared_known ins outs r i (d ∷ ds) env room h =
+    declared_known ins outs r (suc i) ds (with_name d.name (variable r i) env) (room_next ins outs r i (length ds) room) (room_here ins outs r i (length ds) room, h)
+
+-- there is room for the names of the first run, and for those of the others
+room_both : (ins outs i : ℕ) (c : Call) (cs : List Call) → HasRoom ins outs role.Input i (length (given (c ∷ cs))) → HasRoom ins outs role.Input i (length c.names + length (given cs))
+room_both ins outs i c cs room = subst (HasRoom ins outs role.Input i) (length-append c.names (given cs)) room
+
+calls_known : (ins outs i : ℕ) (cs : List Call) (env : Environment Denotation) → HasRoom ins outs role.Input i (length (given cs)) → AreKnownNames ins outs env.names
+    → AreKnownNames ins outs (with_calls i cs env).names
+calls_known ins outs i [] env room h = h
+calls_known ins outs i (c ∷ cs) env room h =
+    let a = length c.names in
+    let b = length (given cs) in
+    let both : HasRoom ins outs role.Input i (a + b) = room_both ins outs i c cs room in
+    calls_known ins outs (i + a) cs (with_declared role.Input i c.names env) (room_second ins outs role.Input i a b both) (declared_known ins outs role.Input i c.names env (room_first ins outs role.Input i a b both) h)
+
+all_named : (ins outs : ℕ) (env : Environment Denotation) (es : List Exp) → AreKnownNames ins outs env.names → AreAllNamed ins outs (map (λ e. as_expression (exp_denotation env e)) es)
+all_named ins outs env [] h = tt
+all_named ins outs env (e ∷ es) h = (as_expression_named ins outs (exp_denotation env e) (exp_named ins outs env e h), all_named ins outs env es h)
+
+named_both : (ins outs : ℕ) (ds es : List Placed) → AreAllNamed ins outs ds → AreAllNamed ins outs es → AreAllNamed ins outs (ds ++ es)
+named_both ins outs [] es g h = h
+named_both ins outs (d ∷ ds) es g h = (g.0, named_both ins outs ds es g.1 h)
+
+runs_named : (ins outs : ℕ) (known : List Runnable) (i : ℕ) (env : Environment Denotation) (rs : List Run) → HasRoom ins outs role.Input i (length (given (calls_of known i env rs))) → AreKnownNames ins outs env.names
+    → AreAllNamed ins outs (arguments (calls_of known i env rs))
+runs_named ins outs known i env [] room h = tt
+runs_named ins outs known i env (r ∷ rs) room h =
+    let c : Call = call_of known env r in
+    let a = length c.names in
+    let inner : Environment Denotation = with_declared role.Input i c.names env in
+    let cs : List Call = calls_of known (i + a) inner rs in
+    let b = length (given cs) in
+    let both : HasRoom ins outs role.Input i (a + b) = room_both ins outs i c cs room in
+    named_both ins outs c.arguments (arguments cs)
+    (all_named ins outs env r.arguments h)
+    (runs_named ins outs known (i + a) inner rs (room_second ins outs role.Input i a b both) (declared_known ins outs role.Input i c.names env (room_first ins outs role.Input i a b both) h))
+
+names_domains : (decimals : ℕ) (ws : List Word) (ds : List Declared) → HaveDomains (all_given_as decimals ws ds)
+names_domains decimals [] ds = tt
+names_domains decimals (w ∷ ws) [] = tt
+names_domains decimals (w ∷ ws) (d ∷ ds) = (range_domain decimals role.Input d.kind None, names_domains decimals ws ds)
+
+calls_domains : (known : List Runnable) (i : ℕ) (env : Environment Denotation) (rs : List Run) → HaveDomains (given (calls_of known i env rs))
+calls_domains known i env [] = tt
+calls_domains known i env (r ∷ rs) =
+    let c : Call = call_of known env r in
+    let inner : Environment Denotation = with_declared role.Input i c.names env in
+    domains_both c.names (given (calls_of known (i + length c.names) inner rs))
+    (names_domains env.decimals r.names (outputs_of known r.node.text))
+    (calls_domains known (i + length c.names) inner rs)
 
 -- Nodes.
 
@@ -391,30 +461,52 @@ all_outputs ins outs = λ k low high. omega arith
 abbrev AreGlobal : Environment Denotation → Type 0
 AreGlobal env = (ins outs : ℕ) → AreKnownNames ins outs env.names
 
-node_named : (env : Environment Denotation) (w : Word) (ins outs : Groupings) (t : Trace) → AreGlobal env → NamesWhatIsThere (node_of env w ins outs t)
-node_named env w ins outs t h =
-    let inner = with_groups role.Input 0 ins env in
-    let a = length (groups_variables role.Input 0 env ins) in
-    let b = length (groups_variables role.Output 0 inner outs) in
-    let known : AreKnownNames a b (with_groups role.Output 0 outs inner).names =
-    groups_known a b role.Output 0 outs inner (all_outputs a b) (groups_known a b role.Input 0 ins env (all_inputs a b) (h a b)) in
+-- so it is where a node has so many inputs of its own, so many that runs give, and so many outputs
+named_within : (a b outputs : ℕ) (known : List Runnable) (env : Environment Denotation) (w : Word) (ins outs : Groupings) (rs : List Run) (t : Trace) → AreGlobal env
+    → length (groups_variables role.Input 0 env ins) ≡ a → length (given (node_of known env w ins outs rs t).calls) ≡ b → length (node_of known env w ins outs rs t).outputs ≡ outputs
+    → AreAllNamed (a + b) outputs (arguments (node_of known env w ins outs rs t).calls) × AreNamed (a + b) outputs (node_of known env w ins outs rs t).body
+named_within a b outputs known env w ins outs rs t h own more many =
+    let n = length (groups_variables role.Input 0 env ins) in
+    let first : Environment Denotation = with_groups role.Input 0 ins env in
+    let inner : Environment Denotation = with_groups role.Output 0 outs first in
+    let cs : List Call = calls_of known n inner rs in
+    let room : HasRoom (a + b) outputs role.Input 0 n = subst (HasRoom (a + b) outputs role.Input 0) (sym own) (first_inputs outputs a b) in
+    let room_outputs : HasRoom (a + b) outputs role.Output 0 (length (groups_variables role.Output 0 first outs)) = subst (HasRoom (a + b) outputs role.Output 0) (sym many) (all_outputs (a + b) outputs) in
+    let room_given : HasRoom (a + b) outputs role.Input n (length (given cs)) = λ k low high. omega (arith, own, more) in
+    let known_names : AreKnownNames (a + b) outputs inner.names =
+    groups_known (a + b) outputs role.Output 0 outs first room_outputs (groups_known (a + b) outputs role.Input 0 ins env room (h (a + b) outputs)) in
+    let all_known : AreKnownNames (a + b) outputs (with_calls n cs inner).names = calls_known (a + b) outputs n cs inner room_given known_names in (
+      runs_named (a + b) outputs known n inner rs room_given known_names,
+      as_named (a + b) outputs (trace_denotation (with_calls n cs inner) t) (record { term = 0; local = 0; counter = 0 }) (trace_named (a + b) outputs (with_calls n cs inner) t all_known),
+    )
+
+node_named : (known : List Runnable) (env : Environment Denotation) (w : Word) (ins outs : Groupings) (rs : List Run) (t : Trace) → AreGlobal env → NamesWhatIsThere (node_of known env w ins outs rs t)
+node_named known env w ins outs rs t h =
+    let node = node_of known env w ins outs rs t in
+    let n = length (groups_variables role.Input 0 env ins) in
+    let first : Environment Denotation = with_groups role.Input 0 ins env in
+    let inner : Environment Denotation = with_groups role.Output 0 outs first in
+    let all = named_within n (length (given node.calls)) (length node.outputs) known env w ins outs rs t h refl refl refl in
+    let many : n + length (given node.calls) ≡ length (node.inputs ++ given node.calls) = sym (length-append node.inputs (given node.calls)) in
     record {
-      inputs = groups_domains role.Input 0 env ins;
-      outputs = groups_domains role.Output 0 inner outs;
-      body = as_named a b (trace_denotation (with_groups role.Output 0 outs inner) t) (record { term = 0; local = 0; counter = 0 }) (trace_named a b (with_groups role.Output 0 outs inner) t known);
+      inputs = domains_both node.inputs (given node.calls) (groups_domains role.Input 0 env ins) (calls_domains known n inner rs);
+      outputs = groups_domains role.Output 0 first outs;
+      arguments = subst (λ k. AreAllNamed k (length node.outputs) (arguments node.calls)) many all.0;
+      body = subst (λ k. AreNamed k (length node.outputs) node.body) many all.1;
     }
 
 one_holds : (P : Node → Type 0) (b : Bool) (one node : Node) (other : Option Node) → P one → (other ≡ Some node → P node) → (if b then Some one else other) ≡ Some node → P node
 one_holds P true one node other p q e = let same : one ≡ node = cc in subst P same p
 one_holds P false one node other p q e = q e
 
-named_among : (env : Environment Denotation) (wanted : Option (List ℕ)) (ds : List Declaration) (node : Node) → AreGlobal env → node_among env wanted ds ≡ Some node → NamesWhatIsThere node
-named_among env wanted [] node h e = absurd (cc)
-named_among env wanted (s.node w ins outs t ∷ ds) node h e =
-    one_holds NamesWhatIsThere (is_wanted wanted w) (node_of env w ins outs t) node (node_among env wanted ds) (node_named env w ins outs t h) (named_among env wanted ds node h) e
-named_among env wanted (s.macro_declaration m ∷ ds) node h e =
-    named_among (with_name (macro_name m) (macro (macro_denotation env m)) env) wanted ds node (λ ins outs. ((λ ss g. macro_named ins outs env m ss (h ins outs) g), h ins outs)) e
-named_among env wanted (s.exception_declaration ws ∷ ds) node h e = named_among (with_exceptions 0 ws env) wanted ds node (λ ins outs. exceptions_named ins outs 0 ws env (h ins outs)) e
+named_among : (known : List Runnable) (env : Environment Denotation) (wanted : Option (List ℕ)) (ds : List Declaration) (node : Node) → AreGlobal env → node_among known env wanted ds ≡ Some node → NamesWhatIsThere node
+named_among known env wanted [] node h e = absurd (cc)
+named_among known env wanted (s.node w ins outs rs t ∷ ds) node h e =
+    one_holds NamesWhatIsThere (is_wanted wanted w) (node_of known env w ins outs rs t) node (node_among (runnable_of env w ins outs ∷ known) env wanted ds)
+    (node_named known env w ins outs rs t h) (named_among (runnable_of env w ins outs ∷ known) env wanted ds node h) e
+named_among known env wanted (s.macro_declaration m ∷ ds) node h e =
+    named_among known (with_name (macro_name m) (macro (macro_denotation env m)) env) wanted ds node (λ ins outs. ((λ ss g. macro_named ins outs env m ss (h ins outs) g), h ins outs)) e
+named_among known env wanted (s.exception_declaration ws ∷ ds) node h e = named_among known (with_exceptions 0 ws env) wanted ds node (λ ins outs. exceptions_named ins outs 0 ws env (h ins outs)) e
 
 pub names_are_there : NamesAreThere
-names_are_there decimals wanted ds node e = named_among (at_start decimals) wanted ds node (λ ins outs. tt) e
+names_are_there decimals wanted ds node e = named_among [] (at_start decimals) wanted ds node (λ ins outs. tt) e

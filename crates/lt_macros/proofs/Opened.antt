@@ -1,7 +1,8 @@
 -- Variables of a node, whose first values are put on the list.
 use Rattle.std.proofs.Common.{◌≡◌, ℕ, suc, ◌+◌, ◌*◌, ◌<◌, ◌≤◌, List, [], ◌∷◌, ◌++◌, length, map, drop, reverse, get_or, slice_get, refl, ap, sym, subst, ◌∙◌, arith, length-append}
+use Rattle.std.specs.List.{flat_map}
 use Rattle.lt_ast.specs.Syntax as s
-use Rattle.lt_ast.specs.Syntax.{Word, Grouping, Groupings, Trace}
+use Rattle.lt_ast.specs.Syntax.{Word, Grouping, Groupings, Trace, Run}
 use Rattle.std.specs.Borrow.{Bor}
 use Rattle.lt_ast.specs.View.{trace as trace_view, word}
 use Rattle.lt_ast.specs.inner.Lists.{groups_of}
@@ -12,12 +13,12 @@ use Rattle.lt_ast.specs.declared.trace.TraceExpr.{TraceExpr}
 use Rattle.lt_formula.specs.declared.role.Role.{Role}
 use Rattle.lt_formula.specs.declared.role.Role.TheVariants.{Input, Output}
 use Rattle.lt_macros.specs.Environment.{Environment}
-use Rattle.lt_macros.specs.Expanded.{Declared, Node}
-use Rattle.lt_macros.specs.Expansion.{group_variables, groups_variables, node_of, with_group, with_groups}
+use Rattle.lt_macros.specs.Expanded.{Declared, Call, Node, all_inputs}
+use Rattle.lt_macros.specs.Expansion.{Runnable, calls_of, group_variables, groups_variables, node_of, with_calls, with_group, with_groups}
 use Rattle.lt_macros.specs.Limits.{passed_limits}
 use Rattle.lt_macros.specs.Denotation.{Numbers, ExpandedTrace, Denotation, as_trace, declared_as, first_of, group_names, trace_denotation}
 use Rattle.lt_macros.specs.inner.Counting.{AreWithin, IsTallied, pending_figure, sum_of, waiting}
-use Rattle.lt_macros.specs.inner.Figures.{Figure, expanded_figure, first_figure, limit_by, node_figure, variables_figure}
+use Rattle.lt_macros.specs.inner.Figures.{Figure, calls_figure, expanded_figure, first_figure, limit_by, node_figure, variables_figure}
 use Rattle.lt_macros.specs.inner.Numbers.{numbers_view}
 use Rattle.lt_macros.specs.inner.Reading.{environment, meant}
 use Rattle.lt_macros.specs.inner.Started.{sum_from}
@@ -67,7 +68,7 @@ mapped h [] = refl
 mapped h (x ∷ xs) = ap suc (mapped h xs)
 
 -- as many variables as names
-group_length : (role : Role) (env : Environment Denotation) (g : Grouping) → length (group_variables role env g) ≡ length (group_names g)
+pub group_length : (role : Role) (env : Environment Denotation) (g : Grouping) → length (group_variables role env g) ≡ length (group_names g)
 group_length role env (s.grouping ws type ref range first) = mapped (declared_as role env type range (first_of env first)) ws ∙ sym (mapped (λ (w : Word). w.text) ws)
 
 -- how many there are depends neither on what is visible nor on the first place
@@ -101,21 +102,42 @@ group_counted role n m env other next after all groups place g h is moved so_far
       as_many role (n + k) m (with_group role n (group_of g) env) other rest,
     )
 
--- a node's trace, and behind it the first values of its variables, are all that is counted of it
-pub node_counted : (f : Figure) (env inside here : Environment Denotation) (w : Word) (ins outs : Groupings) (t : Trace) (start inputs behind : ℕ)
-    → inside ≡ with_groups Input 0 ins env → here ≡ with_groups Output 0 outs inside
-    → start ≡ 0 → inputs ≡ start + variables_figure f (groups_variables Input 0 env ins) → behind ≡ inputs + variables_figure f (groups_variables Output 0 inside outs)
-    → expanded_figure f 1 (as_trace (trace_denotation here t) (record { term = 0; local = 0; counter = 0 })).expanded + behind ≡ node_figure (node_of env w ins outs t) f
-node_counted f env inside here w ins outs t start inputs behind inside_is here_is start_is inputs_are behind_is =
-    let node = node_of env w ins outs t in
+-- a node's trace, and behind it the arguments of its runs and the first values of its variables, are all that is counted of it
+pub node_counted : (f : Figure) (known there : List Runnable) (env inside here named : Environment Denotation) (n : ℕ) (w : Word) (ins outs : Groupings) (rs : List Run) (t : Trace) (start inputs outputs behind : ℕ)
+    → there ≡ known → inside ≡ with_groups Input 0 ins env → here ≡ with_groups Output 0 outs inside → n ≡ length (groups_variables Input 0 env ins) → named ≡ with_calls n (calls_of there n here rs) here
+    → start ≡ 0 → inputs ≡ start + variables_figure f (groups_variables Input 0 env ins) → outputs ≡ inputs + variables_figure f (groups_variables Output 0 inside outs)
+    → behind ≡ outputs + calls_figure f (calls_of there n here rs)
+    → expanded_figure f 1 (as_trace (trace_denotation named t) (record { term = 0; local = 0; counter = 0 })).expanded + behind ≡ node_figure (node_of known env w ins outs rs t) f
+node_counted f known there env inside here named n w ins outs rs t start inputs outputs behind known_is inside_is here_is n_is named_is start_is inputs_are outputs_are behind_is =
+    let node = node_of known env w ins outs rs t in
     let read = λ (e : Environment Denotation). expanded_figure f 1 (as_trace (trace_denotation e t) (record { term = 0; local = 0; counter = 0 })).expanded in
-    let body : read here ≡ expanded_figure f 1 node.body = ap read (here_is ∙ ap (with_groups Output 0 outs) inside_is) in
-    let outputs : variables_figure f (groups_variables Output 0 inside outs) ≡ variables_figure f node.outputs = ap (λ e. variables_figure f (groups_variables Output 0 e outs)) inside_is in
+    let inner : Environment Denotation = with_groups Output 0 outs (with_groups Input 0 ins env) in
+    let same : here ≡ inner = here_is ∙ ap (with_groups Output 0 outs) inside_is in
+    let body : read named ≡ expanded_figure f 1 node.body = ap read (named_is ∙ (λ i. with_calls (n_is i) (calls_of (known_is i) (n_is i) (same i) rs) (same i))) in
+    let calls : calls_figure f (calls_of there n here rs) ≡ calls_figure f node.calls = λ i. calls_figure f (calls_of (known_is i) (n_is i) (same i) rs) in
+    let given : variables_figure f (groups_variables Output 0 inside outs) ≡ variables_figure f node.outputs = ap (λ e. variables_figure f (groups_variables Output 0 e outs)) inside_is in
     let inputs_all : variables_figure f (groups_variables Input 0 env ins) ≡ variables_figure f node.inputs = refl in
-    omega (arith, body, outputs, inputs_all, start_is, inputs_are, behind_is)
+    omega (arith, body, calls, given, inputs_all, start_is, inputs_are, outputs_are, behind_is)
+
+-- as many inputs as the node has, with those that its runs give
+pub inputs_counted : (known there : List Runnable) (env inside here : Environment Denotation) (n all : ℕ) (w : Word) (ins outs : Groupings) (rs : List Run) (t : Trace)
+    → there ≡ known → inside ≡ with_groups Input 0 ins env → here ≡ with_groups Output 0 outs inside → n ≡ length (groups_variables Input 0 env ins)
+    → all ≡ n + length (flat_map (λ (c : Call). c.names) (calls_of there n here rs)) → all ≡ length (all_inputs (node_of known env w ins outs rs t))
+inputs_counted known there env inside here n all w ins outs rs t known_is inside_is here_is n_is all_is =
+    let inner : Environment Denotation = with_groups Output 0 outs (with_groups Input 0 ins env) in
+    let same : here ≡ inner = here_is ∙ ap (with_groups Output 0 outs) inside_is in
+    let own = groups_variables Input 0 env ins in
+    let calls : calls_of there n here rs ≡ calls_of known (length own) inner rs = λ i. calls_of (known_is i) (n_is i) (same i) rs in
+    omega (
+      arith,
+      all_is,
+      n_is,
+      ap (λ cs. length (flat_map (λ (c : Call). c.names) cs)) calls,
+      length-append own (flat_map (λ (c : Call). c.names) (calls_of known (length own) inner rs)),
+    )
 
 -- the first limit that a node is past, where its figures are counted
-pub first_limit : (t : Tally) (figure : Figure → ℕ) (node : Node) (inputs outputs : ℕ) → IsTallied t figure → ((f : Figure) → figure f ≡ node_figure node f) → inputs ≡ length node.inputs → outputs ≡ length node.outputs
+pub first_limit : (t : Tally) (figure : Figure → ℕ) (node : Node) (inputs outputs : ℕ) → IsTallied t figure → ((f : Figure) → figure f ≡ node_figure node f) → inputs ≡ length (all_inputs node) → outputs ≡ length node.outputs
     → limit_by (counted t) inputs outputs ≡ slice_get (passed_limits node) 0
 first_limit t figure node inputs outputs is same ins outs =
     tallied_limit t figure inputs outputs is

@@ -1,6 +1,7 @@
 -- What a node stands for: a tree without macros, in which locals, counters and exceptions have numbers, and expressions their
 -- places in the text.
-use Rattle.std.specs.Prelude.{ℕ, List}
+use Rattle.std.specs.Prelude.{ℕ, List, ◌++◌}
+use Rattle.std.specs.List.{flat_map}
 use Rattle.std.specs.declared.option.Option.{Option}
 use Rattle.lt_num.specs.declared.kind.Kind.{Kind}
 use Rattle.lt_num.specs.declared.range.Range.{Range}
@@ -63,9 +64,24 @@ mutual
     no_part : Parts
     part : Placed → Expanded → Parts → Parts
 
--- a node: its name, its variables, and what it does
+-- a run of a node: which node, what it is given, and the inputs that its outputs become
+pub record Call : Type 0 where
+  pub node : List ℕ
+  pub arguments : List Placed
+  pub names : List Declared
+
+-- a node: its name, its variables, the nodes that it runs, and what it does
 pub record Node : Type 0 where
   pub name : List ℕ
   pub inputs : List Declared
   pub outputs : List Declared
+  pub calls : List Call
   pub body : Expanded
+
+-- the inputs of a node that its runs give
+abbrev pub given_inputs : Node → List Declared
+given_inputs node = flat_map (λ c. c.names) node.calls
+
+-- the inputs of a node: its own, and then those that runs give
+abbrev pub all_inputs : Node → List Declared
+all_inputs node = node.inputs ++ given_inputs node

@@ -1,4 +1,4 @@
--- What the constraints and weights of an expansion name is there: inputs and outputs are those of the node, and constants are
+-- What the arguments, constraints and weights of an expansion name is there: inputs and outputs are those of the node, and constants are
 -- values of their kinds. The raw numbers of each variable are some that one of its kind may have.
 use Rattle.std.specs.Prelude.{◌≡◌, ◌<◌, ℕ, List, [], ◌∷◌, length}
 use Rattle.std.specs.declared.option.Option.{Option}
@@ -10,7 +10,8 @@ use Rattle.lt_formula.specs.declared.role.Role.{Role}
 use Rattle.lt_formula.specs.declared.role.Role.TheVariants as role
 use Rattle.lt_macros.specs.Placed as p
 use Rattle.lt_macros.specs.Placed.{Placed}
-use Rattle.lt_macros.specs.Expanded.{Declared, Expanded, eps, dead, con, raise, seq, loop, count, any, pri, par, assert, exist, catch, try, Parts, no_part, part, Node}
+use Rattle.lt_macros.specs.Expanded.{Declared, Expanded, eps, dead, con, raise, seq, loop, count, any, pri, par, assert, exist, catch, try, Parts, no_part, part, Node, all_inputs}
+use Rattle.lt_macros.specs.Preorder.{arguments_in}
 use Rattle.lt_macros.specs.Expansion.{expanded_node}
 
 -- A variable, if it is an input or an output, is one of so many inputs or outputs.
@@ -27,6 +28,11 @@ IsNamed ins outs (p.previous r i at) = IsOneOf ins outs r i
 IsNamed ins outs (p.unary op e at) = IsNamed ins outs e
 IsNamed ins outs (p.binary op d e at) = IsNamed ins outs d × IsNamed ins outs e
 IsNamed ins outs (p.choice c d e at) = IsNamed ins outs c × (IsNamed ins outs d × IsNamed ins outs e)
+
+-- So it is in expressions.
+abbrev pub AreAllNamed : ℕ → ℕ → List Placed → Type 0
+AreAllNamed ins outs [] = Unit {0}
+AreAllNamed ins outs (e ∷ es) = IsNamed ins outs e × AreAllNamed ins outs es
 
 -- So it is in the constraints and weights of a trace, and a variable of each local's kind may have the local's range.
 abbrev mutual
@@ -55,11 +61,12 @@ abbrev pub HaveDomains : List Declared → Type 0
 HaveDomains [] = Unit {0}
 HaveDomains (d ∷ ds) = IsDomain d.kind d.range × HaveDomains ds
 
--- What the constraints and weights of a node name is there.
+-- What the arguments, constraints and weights of a node name is there.
 pub record NamesWhatIsThere (node : Node) : Type 0 where
-  pub inputs : HaveDomains node.inputs
+  pub inputs : HaveDomains (all_inputs node)
   pub outputs : HaveDomains node.outputs
-  pub body : AreNamed (length node.inputs) (length node.outputs) node.body
+  pub arguments : AreAllNamed (length (all_inputs node)) (length node.outputs) (arguments_in node)
+  pub body : AreNamed (length (all_inputs node)) (length node.outputs) node.body
 
 -- So it is in what each node stands for.
 abbrev pub NamesAreThere : Type 0

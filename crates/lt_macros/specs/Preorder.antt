@@ -89,9 +89,16 @@ counters_in node = flat_map counter_at (items node.body)
 abbrev pub weights_in : Node → List Placed
 weights_in node = flat_map weight_at (items node.body)
 
--- its expressions: first values of inputs and outputs, and then those of what it does
+-- the arguments of its runs
+abbrev pub arguments_in : Node → List Placed
+arguments_in node = flat_map (λ c. c.arguments) node.calls
+
+-- its expressions: first values of inputs and outputs, arguments of runs, and then those of what it does
 abbrev pub expressions_in : Node → List Placed
-expressions_in node = flat_map in_first node.inputs ++ (flat_map in_first node.outputs ++ flat_map expressions_at (items node.body))
+expressions_in node =
+    flat_map in_first node.inputs
+    ++ (flat_map in_first node.outputs
+    ++ (arguments_in node ++ flat_map expressions_at (items node.body)))
 
 -- an expression and all parts of it, in preorder
 abbrev pub with_parts : Placed → List Placed

@@ -9,6 +9,7 @@ use Rattle.lt_macros.specs.Placed as p
 use Rattle.lt_macros.specs.Placed.{Placed}
 use Rattle.lt_macros.specs.Expanded.{Expanded, eps, dead, con, raise, seq, loop, count, any, pri, par, assert, exist, catch, try, Parts, no_part, part, Node}
 use Rattle.lt_macros.specs.Expansion.{expanded_node}
+use Rattle.lt_macros.specs.Preorder.{arguments_in}
 
 -- A number is one of these.
 abbrev pub IsOne : ℕ → List ℕ → Type 0
@@ -52,6 +53,14 @@ abbrev mutual
   AreEachInside xs no_part = Unit {0}
   AreEachInside xs (part w x ps) = NamesOnly xs w × (AreInside xs x × AreEachInside xs ps)
 
--- So it is in what each node stands for.
+-- Expressions name no locals.
+abbrev pub NameNone : List Placed → Type 0
+NameNone [] = Unit {0}
+NameNone (e ∷ es) = NamesOnly [] e × NameNone es
+
+-- So it is in what each node stands for, and arguments of runs name no locals.
 abbrev pub LocalsAreInside : Type 0
-LocalsAreInside = (decimals : ℕ) (wanted : Option (List ℕ)) (ds : List Declaration) (node : Node) → expanded_node decimals wanted ds ≡ Some node → AreInside [] node.body
+LocalsAreInside =
+    (decimals : ℕ) (wanted : Option (List ℕ)) (ds : List Declaration) (node : Node) →
+    expanded_node decimals wanted ds ≡ Some node
+    → AreInside [] node.body × NameNone (arguments_in node)

@@ -11,6 +11,7 @@ use Rattle.lt_macros.specs.declared.tree.Bounds.TheVariants.{Between, Around}
 use Rattle.lt_macros.specs.declared.tree.Expanded.{Expanded}
 use Rattle.lt_macros.specs.declared.tree.Expanded.TheVariants as e
 use Rattle.lt_macros.specs.declared.tree.Parts.{Parts, Parts', Row_of-Part, end_of-Part, more_of-Part}
+use Rattle.lt_macros.specs.declared.tree.Call.{Call}
 use Rattle.lt_macros.specs.declared.tree.Node.{Node}
 
 -- an expression and its place
@@ -62,6 +63,20 @@ abbrev mutual
   part_row end_of-Part = x.no_part
   part_row (more_of-Part w p a rest) = x.part (placed w) (expanded a) (part_row rest)
 
+-- a run of a node
+abbrev pub call : Call → x.Call
+call c = record {
+  node = string_bytes c.node;
+  arguments = map placed c.arguments.items;
+  names = map declared c.names.items;
+}
+
 -- a node
 abbrev pub node : Node → x.Node
-node n = record { name = string_bytes n.name; inputs = map declared n.inputs.items; outputs = map declared n.outputs.items; body = expanded n.body }
+node n = record {
+  name = string_bytes n.name;
+  inputs = map declared n.inputs.items;
+  outputs = map declared n.outputs.items;
+  calls = map call n.calls.items;
+  body = expanded n.body;
+}

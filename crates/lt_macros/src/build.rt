@@ -1,7 +1,7 @@
 //! The tree that a node stands for.
 
 ghost use Rattle.std.specs.Prelude.{◌≡◌, ◌≤◌, ◌<◌, ◌-◌, ℕ, false, IfOk, length, map, option_map};
-ghost use Rattle.lt_ast.specs.View.{alternatives, groupings, limits, trace as trace_view, word};
+ghost use Rattle.lt_ast.specs.View.{alternatives, groupings, limits, run, trace as trace_view, word};
 ghost use Rattle.lt_ast.specs.Syntax as s;
 ghost use Rattle.lt_ast.specs.inner.Lists.{alternatives_of, traces_of};
 ghost use Rattle.lt_ast.specs.inner.Rows.{maybe_trace, part_of};
@@ -9,14 +9,18 @@ ghost use Rattle.lt_ast.specs.View.{exp};
 ghost use Rattle.lt_macros.specs.Expanded as x;
 ghost use Rattle.lt_macros.specs.Expansion.{node_of};
 ghost use Rattle.lt_macros.specs.Denotation.{alone, as_expression, as_trace, behind_term, bounds_of as limits_bounds, braces_denotation, caught_as, chosen, parts_of, raised_as as raised_tree, traces_denotation, weight_of};
+ghost use Rattle.lt_macros.specs.inner.Asking.{AreThere, runnables};
 ghost use Rattle.lt_macros.specs.inner.Builder.{Builds, IsReady, IsReadyFor, form_denotation, names_at, phrase_at, trace_at, value_at};
 ghost use Rattle.lt_macros.specs.inner.Built.{AreBuilt, behind_turns, in_all, in_two, looped, numbered, numbered_parts};
 ghost use Rattle.lt_macros.specs.inner.Numbers.{numbers_view};
 ghost use Rattle.lt_macros.specs.inner.Phrase.{joined_by};
 ghost use Rattle.lt_macros.specs.inner.Reading.{meant, raised_by};
+ghost use Rattle.lt_macros.specs.inner.Rows.{rows};
 ghost use Rattle.lt_macros.specs.Tree.{bounds as bounds_view, declared as declared_view, exception as exception_view, expanded as expanded_view, node as node_view, placed};
 
 use crate::builder::Builder;
+use crate::calls::build_calls;
+use crate::declarations::Asked;
 use crate::expressions::{build_expr, build_expr_form};
 use crate::head_normal_form::{HeadNormalForm, reduce};
 use crate::literals::unwritten_weight;
@@ -26,8 +30,7 @@ use crate::scope::{Before, Declared as Raised, Join, Phrase};
 use crate::tree::{Bounds, Declared, Exception, Expanded, Node, Part, Parts, Placed};
 use crate::variables::declare_groups;
 use lt_ast::{
-    Bounds as Limits, Expr, Groups, Name, NodeDecl, Part as Alternative, Parts as Choices,
-    TraceExpr,
+    Bounds as Limits, Expr, Groups, Name, Part as Alternative, Parts as Choices, TraceExpr,
 };
 use lt_formula::{Memory, Role};
 use std::alloc::Global;
@@ -65,27 +68,31 @@ struct TwoTraces {
 }
 
 // A node, in the environment at its place.
-pub(crate) fn build_node<'a>(
-    builder: Builder<'a>,
-    environment: usize,
-    node: &'a NodeDecl,
-) -> Result<Node, Memory>
-    requires { IsReady builder environment }
+pub(crate) fn build_node<'a>(builder: Builder<'a>, asked: &Asked<'a>) -> Result<Node, Memory>
+    requires ready { IsReady builder asked.now.environment }
+    requires there { AreThere (length (rows builder.scope)) asked.now.before.items }
     ensures { IfOk result (λ n.
-        node_view n ≡ node_of (names_at builder.entry environment) (word node.now.name)
-        (groupings node.now.inputs) (groupings node.now.outputs) (trace_view node.now.body)) }
+        node_view n ≡ node_of
+        (runnables builder.entry.decimals (rows builder.entry.scope) asked.now.before.items)
+        (names_at builder.entry asked.now.environment) (word asked.now.node.now.name)
+        (groupings asked.now.node.now.inputs) (groupings asked.now.node.now.outputs)
+        (map run asked.now.node.now.runs.items) (trace_view asked.now.node.now.body)) }
 {
     let mut builder = builder;
+    let (environment, node) = (asked.environment, asked.node);
     let name = String::from_str(builder.alloc, node.name.text.as_str())?;
     let inputs = declare_groups(&mut builder, Role::Input, 0, environment, &node.inputs)?;
     let inside = inputs.environment;
     let outputs = declare_groups(&mut builder, Role::Output, 0, inside, &node.outputs)?;
-    let (start, inside) = (Numbers::start(), outputs.environment);
+    let inside = outputs.environment;
+    let runs = build_calls(&mut builder, &asked.before, inputs.next, inside, &node.runs)?;
+    let (start, inside) = (Numbers::start(), runs.environment);
     let body = build_trace(&mut builder, start, inside, Phrase::Trace(&node.body))?;
     Ok(Node {
         name,
         inputs: inputs.declared,
         outputs: outputs.declared,
+        calls: runs.calls,
         body: Box::into_inner(body.expanded),
     })
 }

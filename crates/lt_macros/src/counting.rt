@@ -1,7 +1,7 @@
 //! The first limit that a node is past, before any of it is built.
 
 ghost use Rattle.std.specs.Prelude.{◌≡◌, ◌≤◌, ◌+◌, ◌∷◌, ℕ, List, IfOk, OnOk, length, map, slice_get};
-ghost use Rattle.lt_ast.specs.View.{groupings, limits, trace as trace_view, word};
+ghost use Rattle.lt_ast.specs.View.{groupings, limits, run as run_view, trace as trace_view, word};
 ghost use Rattle.lt_ast.specs.inner.Lists.{alternatives_of, groups_of};
 ghost use Rattle.lt_ast.specs.inner.Rows.{group_of, maybe_exp, part_of, weighed};
 ghost use Rattle.lt_ast.specs.declared.trace.TraceExpr.{TraceExpr};
@@ -9,6 +9,7 @@ ghost use Rattle.lt_macros.specs.Environment.{Environment};
 ghost use Rattle.lt_macros.specs.Expansion.{group_variables, groups_variables, node_of, with_group, with_groups};
 ghost use Rattle.lt_macros.specs.Limits.{passed_limits};
 ghost use Rattle.lt_macros.specs.Denotation.{Numbers as NumbersBefore, Denotation, as_expression, as_trace, behind_counter, behind_local, behind_term, bounds_of, chosen, first_of, parts_of, repeated, weight_of};
+ghost use Rattle.lt_macros.specs.inner.Asking.{AreThere, runnables};
 ghost use Rattle.lt_macros.specs.inner.Counting.{AreWithin, IsLeftWithin, IsTallied, left_then, pending_figure, denotation_at, sum_of, trace_then, waiting};
 ghost use Rattle.lt_macros.specs.inner.Figures.{Figure, expression_figure, first_figure, local_weight, term_weight, variables_figure};
 ghost use Rattle.lt_macros.specs.inner.Handing.{AreRight};
@@ -20,6 +21,8 @@ ghost use Rattle.lt_macros.specs.inner.Started.{sum_from};
 ghost use Rattle.lt_macros.specs.inner.Tallies.{counted};
 ghost use Rattle.lt_macros.specs.declared.scope.Entry.{Entry};
 
+use crate::counting_runs::put_calls;
+use crate::declarations::Asked;
 use crate::head_normal_form::{Advance, HeadNormalForm, step_in};
 use crate::limit::Limit;
 use crate::numbers::Numbers;
@@ -27,13 +30,13 @@ use crate::position::Position;
 use crate::scope::{Phrase, Scope};
 use crate::tally::{MOST_NODES, Tally, deeper};
 use crate::variables::{Visible, show_name, show_names};
-use lt_ast::{Bounds, Expr, Group, Name, NodeDecl, Part, TraceExpr};
+use lt_ast::{Bounds, Expr, Group, Name, Part, TraceExpr};
 use lt_formula::{Memory, Role};
 use std::alloc::Global;
 
 /// What is still to be counted.
 #[derive(Clone, Copy)]
-enum Left<'a> {
+pub(crate) enum Left<'a> {
     /// A trace.
     Trace(Phrase<'a>),
 
@@ -52,61 +55,61 @@ enum Left<'a> {
 
 /// The locals of a trace that are still to be counted.
 #[derive(Clone, Copy)]
-struct Locals<'a> {
+pub(crate) struct Locals<'a> {
     /// The group that is being counted.
-    group: &'a Group,
+    pub(crate) group: &'a Group,
 
     /// The environment in which its first value is written.
-    outer: usize,
+    pub(crate) outer: usize,
 
     /// Those of its names that are left.
-    names: &'a [Name],
+    pub(crate) names: &'a [Name],
 
     /// The groups that are left.
-    groups: &'a [Group],
+    pub(crate) groups: &'a [Group],
 
     /// The trace.
-    body: &'a TraceExpr,
+    pub(crate) body: &'a TraceExpr,
 }
 
 /// Where a part stands.
 #[derive(Clone, Copy)]
-struct Place {
+pub(crate) struct Place {
     /// The environment in which it is written.
-    environment: usize,
+    pub(crate) environment: usize,
 
     /// How deep it stands: 1 at the top.
-    depth: u32,
+    pub(crate) depth: u32,
 
     /// Among how many entries: it needs no more of them, nor do those behind it.
-    len: usize,
+    pub(crate) len: usize,
 }
 
 /// A part that is still to be counted.
 #[derive(Clone, Copy)]
-struct Pending<'a> {
+pub(crate) struct Pending<'a> {
     /// The part.
-    left: Left<'a>,
+    pub(crate) left: Left<'a>,
 
     /// Where it stands.
-    at: Place,
+    pub(crate) at: Place,
 }
 
 /// What was counted, and what is still to be counted.
 #[derive(Drop)]
-struct Count<'a> {
+pub(crate) struct Count<'a> {
     /// What is left, the first part last.
-    left: Vec<Pending<'a>>,
+    pub(crate) left: Vec<Pending<'a>>,
 
     /// What stands before the first part.
-    numbers: Numbers,
+    pub(crate) numbers: Numbers,
 
     /// What was counted.
-    tally: Tally,
+    pub(crate) tally: Tally,
 }
 
 // Puts a part before those that are left.
-fn put<'a>(count: &mut Count<'a>, left: Left<'a>, at: Place) -> Result<(), Memory>
+pub(crate) fn put<'a>(count: &mut Count<'a>, left: Left<'a>, at: Place) -> Result<(), Memory>
     ensures left { OnOk result (waiting count.new
         ≡ record { left = left.entry; at = at } ∷ waiting count.old) }
     ensures numbers { OnOk result (count.new.numbers ≡ count.old.numbers) }
@@ -931,21 +934,25 @@ fn put_variables<'a>(
     Ok(visible)
 }
 
-// The first limit that a node is past, in the environment at its place, if there is one.
+// The first limit that the node that is asked for is past, if there is one.
 pub(crate) fn passed_limit<'a>(
     alloc: Global,
     scope: &mut Scope<'a>,
-    environment: usize,
-    node: &'a NodeDecl,
+    asked: &Asked<'a>,
 ) -> Result<Option<Limit>, Memory>
-    requires within { environment ≤ length (rows scope.old) }
+    requires within { asked.now.environment ≤ length (rows scope.old) }
+    requires there { AreThere (length (rows scope.old)) asked.now.before.items }
     requires right { AreRight (rows scope.old) }
     ensures limit { IfOk result (λ limit. (decimals : ℕ) →
         limit ≡ slice_get (passed_limits
-        (node_of (environment_of (meant decimals) (rows scope.old) environment) (word node.now.name)
-        (groupings node.now.inputs) (groupings node.now.outputs) (trace_view node.now.body))) 0) }
+        (node_of (runnables decimals (rows scope.old) asked.now.before.items)
+        (environment_of (meant decimals) (rows scope.old) asked.now.environment)
+        (word asked.now.node.now.name) (groupings asked.now.node.now.inputs)
+        (groupings asked.now.node.now.outputs) (map run_view asked.now.node.now.runs.items)
+        (trace_view asked.now.node.now.body))) 0) }
     ensures kept { OnOk result (rows scope.new ≡ rows scope.old) }
 {
+    let (environment, node) = (asked.environment, asked.node);
     let base = scope.len();
     let mut count = Count {
         left: Vec::new(alloc),
@@ -961,13 +968,18 @@ pub(crate) fn passed_limit<'a>(
     )?;
     let inside = inputs.environment;
     let outputs = put_variables(&mut count, scope, Role::Output, inside, &node.outputs.items)?;
-    let at = Place {
+    let outer = Visible {
         environment: outputs.environment,
+        next: inputs.next,
+    };
+    let named = put_calls(&mut count, scope, &asked.before, outer, &node.runs)?;
+    let at = Place {
+        environment: named.environment,
         depth: 1,
         len: scope.len(),
     };
     put(&mut count, Left::Trace(Phrase::Trace(&node.body)), at)?;
     run(&mut count, scope, base)?;
     scope.truncate(base);
-    Ok(count.tally.limit(inputs.next, outputs.next))
+    Ok(count.tally.limit(named.next, outputs.next))
 }

@@ -1,9 +1,10 @@
 //! From a program to the tree that a node of it stands for.
 
-ghost use Rattle.std.specs.Prelude.{IfOk};
+ghost use Rattle.std.specs.Prelude.{Some, IfOk};
 ghost use Rattle.lt_ast.specs.View.{program as declarations};
 ghost use Rattle.lt_macros.specs.Answer.{IsAnswer, asked_name};
 ghost use Rattle.lt_macros.specs.Expansion.{expanded_node};
+ghost use Rattle.lt_macros.specs.Tree.{node as node_view};
 
 use crate::build::build_node;
 use crate::builder::{Builder, Reach};
@@ -34,10 +35,9 @@ pub fn expanded_node(
 {
     let mut scope = Scope::new(alloc);
     let decls = &typed.program().decls;
-    let Some(asked) = asked_node(&mut scope, decls, wanted)? else {
+    let Some(asked) = asked_node(alloc, &mut scope, decls, wanted)? else {
         return Err(NodeRefusal::UnknownNode);
     };
-    let (environment, node) = (asked.environment, asked.node);
     let builder = Builder {
         alloc,
         scope,
@@ -45,12 +45,19 @@ pub fn expanded_node(
         reach: Reach::within_limits(),
     };
     // Hardly any node is past a limit, so the tree is built first, as far as they allow.
-    match build_node(builder, environment, node) {
-        Ok(made) => match limit_of(&made)? {
-            None => Ok(made),
-            Some(limit) => Err(NodeRefusal::TooLarge(limit)),
-        },
+    match build_node(builder, &asked) {
+        Ok(made) => small_enough(made),
         Err(Memory) => Err(refusal(alloc, typed, wanted)?),
+    }
+}
+
+// A node that is built, if it is within the limits.
+fn small_enough(made: Node) -> Result<Node, NodeRefusal>
+    ensures { IsAnswer (Some (node_view made)) result }
+{
+    match limit_of(&made)? {
+        None => Ok(made),
+        Some(limit) => Err(NodeRefusal::TooLarge(limit)),
     }
 }
 
@@ -62,10 +69,10 @@ fn refusal(alloc: Global, typed: &Typed, wanted: Option<&str>) -> Result<NodeRef
 {
     let mut scope = Scope::new(alloc);
     let decls = &typed.program().decls;
-    let Some(asked) = asked_node(&mut scope, decls, wanted)? else {
+    let Some(asked) = asked_node(alloc, &mut scope, decls, wanted)? else {
         return Ok(NodeRefusal::UnknownNode);
     };
-    if let Some(limit) = passed_limit(alloc, &mut scope, asked.environment, asked.node)? {
+    if let Some(limit) = passed_limit(alloc, &mut scope, &asked)? {
         return Ok(NodeRefusal::TooLarge(limit));
     }
     Ok(NodeRefusal::Memory)

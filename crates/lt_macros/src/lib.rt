@@ -13,8 +13,10 @@
 
 mod build;
 mod builder;
+mod calls;
 mod constructors;
 mod counting;
+mod counting_runs;
 mod declarations;
 mod declaring;
 mod expansion;
@@ -40,4 +42,4 @@ pub use expansion::expanded_node;
 pub use laws::{locals_are_inside, names_are_there, parts_are_numbered};
 pub use limit::Limit;
 pub use refusal::NodeRefusal;
-pub use tree::{Bounds, Declared, Exception, Expanded, Node, Part, Parts, Placed};
+pub use tree::{Bounds, Call, Declared, Exception, Expanded, Node, Part, Parts, Placed};

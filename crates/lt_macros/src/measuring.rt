@@ -3,13 +3,14 @@
 ghost use Rattle.std.specs.Prelude.{◌≡◌, ◌+◌, IfOk, OnOk, length, map, slice_get};
 ghost use Rattle.lt_macros.specs.Limits.{passed_limits};
 ghost use Rattle.lt_macros.specs.Nodes.{parts_count};
-ghost use Rattle.lt_macros.specs.Tree.{bounds as bounds_view, declared, expanded, node as node_view, parts, placed};
-ghost use Rattle.lt_macros.specs.inner.Figures.{Figure, bounds_figure, choice_weight, expanded_figure, expression_figure, first_figure, parts_figure, variables_figure};
+ghost use Rattle.lt_macros.specs.Expanded.{all_inputs};
+ghost use Rattle.lt_macros.specs.Tree.{bounds as bounds_view, call as call_view, declared, expanded, node as node_view, parts, placed};
+ghost use Rattle.lt_macros.specs.inner.Figures.{Figure, arguments_figure, bounds_figure, calls_figure, choice_weight, expanded_figure, expression_figure, first_figure, parts_figure, variables_figure};
 ghost use Rattle.lt_macros.specs.inner.Tallies.{counted};
 
 use crate::limit::Limit;
 use crate::tally::{Tally, deeper};
-use crate::tree::{Bounds, Declared, Expanded, Node, Parts, Placed};
+use crate::tree::{Bounds, Call, Declared, Expanded, Node, Parts, Placed};
 use lt_formula::Memory;
 
 // Counts an expression that stands so deep.
@@ -125,6 +126,40 @@ fn count_variables(tally: &mut Tally, variables: &[Declared]) -> Result<(), Memo
     Ok(())
 }
 
+// Counts the arguments of runs.
+fn count_calls(tally: &mut Tally, calls: &[Call]) -> Result<(), Memory>
+    ensures { OnOk result ((f : Figure) →
+        counted tally.new f ≡ counted tally.old f + calls_figure f (map call_view calls.now)) }
+{
+    for call in calls {
+        count_arguments(tally, &call.arguments)?;
+    }
+    Ok(())
+}
+
+// Counts arguments.
+fn count_arguments(tally: &mut Tally, arguments: &[Placed]) -> Result<(), Memory>
+    ensures { OnOk result ((f : Figure) →
+        counted tally.new f ≡ counted tally.old f + arguments_figure f (map placed arguments.now)) }
+{
+    for argument in arguments {
+        count_expression(tally, 1, argument)?;
+    }
+    Ok(())
+}
+
+// How many inputs a node has, with those that its runs give. No text that fits in memory has too many.
+fn number_of_inputs(node: &Node) -> Result<u32, Memory>
+    ensures { IfOk result (λ number. number ≡ length (all_inputs (node_view node.now))) }
+{
+    let mut number = number_of(&node.inputs)?;
+    for call in &node.calls {
+        let more = number_of(&call.names)?;
+        number = number.checked_add(more).ok_or(Memory)?;
+    }
+    Ok(number)
+}
+
 // How many variables there are. No text that fits in memory has too many.
 fn number_of(variables: &[Declared]) -> Result<u32, Memory>
     ensures { IfOk result (λ number. number ≡ length variables.now) }
@@ -139,7 +174,8 @@ pub(crate) fn limit_of(node: &Node) -> Result<Option<Limit>, Memory>
     let mut tally = Tally::start();
     count_variables(&mut tally, &node.inputs)?;
     count_variables(&mut tally, &node.outputs)?;
+    count_calls(&mut tally, &node.calls)?;
     count_trace(&mut tally, 1, &node.body)?;
-    let (inputs, outputs) = (number_of(&node.inputs)?, number_of(&node.outputs)?);
+    let (inputs, outputs) = (number_of_inputs(node)?, number_of(&node.outputs)?);
     Ok(tally.limit(inputs, outputs))
 }

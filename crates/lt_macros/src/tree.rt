@@ -153,17 +153,33 @@ pub struct Part {
     pub body: Box<Expanded>,
 }
 
+/// A run of a node.
+#[derive(Drop)]
+pub struct Call {
+    /// Which node is run.
+    pub node: String,
+
+    /// What it is given, an expression for each of its inputs.
+    pub arguments: Vec<Placed>,
+
+    /// The inputs that its outputs become.
+    pub names: Vec<Declared>,
+}
+
 /// A node.
 #[derive(Drop)]
 pub struct Node {
     /// Its name.
     pub name: String,
 
-    /// Its inputs.
+    /// Its own inputs. Behind them come those that its runs give.
     pub inputs: Vec<Declared>,
 
     /// Its outputs.
     pub outputs: Vec<Declared>,
+
+    /// The nodes that it runs, in order.
+    pub calls: Vec<Call>,
 
     /// What it does.
     pub body: Expanded,

@@ -151,6 +151,35 @@ fn build_first<'a>(
     }
 }
 
+// Variables of a role by the names of groups, the first of which has this place.
+pub(crate) fn show_groups<'a>(
+    scope: &mut Scope<'a>,
+    role: Role,
+    first: u32,
+    outer: usize,
+    groups: &'a Groups,
+) -> Result<Visible, Memory>
+    requires within { outer ≤ length (rows scope.old) }
+    requires right { AreRight (rows scope.old) }
+    ensures visible { IfOk result (λ v. (decimals : ℕ) →
+        environment_of (meant decimals) (rows scope.new) v.environment
+        ≡ with_groups role first (groupings groups.now)
+        (environment_of (meant decimals) (rows scope.old) outer)) }
+    ensures within { IfOk result (λ v. v.environment ≤ length (rows scope.new)) }
+    ensures adds { OnOk result (AddsTo (rows scope.old) (rows scope.new)) }
+    ensures right { OnOk result (AreRight (rows scope.new)) }
+{
+    let mut visible = Visible {
+        environment: outer,
+        next: first,
+    };
+    for group in &groups.items {
+        let names = &group.names.items;
+        visible = show_names(scope, role, visible.next, visible.environment, names)?;
+    }
+    Ok(visible)
+}
+
 // Variables of a role by these names, the first of which has this place.
 pub(crate) fn show_names<'a>(
     scope: &mut Scope<'a>,

@@ -6,12 +6,12 @@ use Rattle.lt_ast.specs.declared.span.Span.{Span}
 use Rattle.lt_ast.specs.declared.expr.UnOp.TheVariants as u
 use Rattle.lt_ast.specs.declared.expr.BinOp.{BinOp}
 use Rattle.lt_ast.specs.Syntax as s
-use Rattle.lt_ast.specs.Syntax.{Exp, Argument, Arguments, Trace, Traces, Alternative, Alternatives, Braces}
+use Rattle.lt_ast.specs.Syntax.{Exp, Argument, Arguments, Trace, Traces, Alternative, Alternatives, Braces, Run}
 use Rattle.lt_ast.specs.Tokens.{binary_sign}
-use Rattle.lt_parser.specs.Lexemes.{Lexemes, lexeme, IsNotFirst}
-use Rattle.lt_parser.specs.Precedence.{rank, operator, Stands, left_least, side_least, IsNoOperator}
-use Rattle.lt_parser.specs.Grammar.{DerivesExp, DerivesArgument, DerivesMoreArguments, DerivesTrace, DerivesSequence, DerivesMoreAlternatives, Place, item}
-use Rattle.lt_parser.specs.inner.Reading.{Goal, outcome, onward, an_exp, a_right_side, an_item, an_argument, some_arguments, more_arguments, some_braced, an_alternative, after_weight, after_first, more_items, sequence_of, begins_item, begin_exp, begin_item, begin_argument, begin_alternative, a_trace}
+use Rattle.lt_grammar.specs.Lexemes.{Lexemes, lexeme, IsNotFirst}
+use Rattle.lt_grammar.specs.Precedence.{rank, operator, Stands, left_least, side_least, IsNoOperator}
+use Rattle.lt_grammar.specs.Grammar.{DerivesExp, DerivesArgument, DerivesMoreArguments, DerivesTrace, DerivesSequence, DerivesMoreAlternatives, DerivesMoreExpressions, Place, item}
+use Rattle.lt_parser.specs.inner.Reading.{Goal, outcome, onward, an_exp, a_right_side, an_item, an_argument, some_arguments, more_arguments, some_braced, an_alternative, after_weight, after_first, more_items, some_expressions, more_expressions, some_runs, sequence_of, begins_item, begin_exp, begin_item, begin_argument, begin_alternative, a_trace}
 use Rattle.lt_parser.proofs.Skips.{Heads}
 use Rattle.lt_parser.proofs.Operators.{looser, left_rank, operator-sign}
 
@@ -177,6 +177,10 @@ pub arguments_closed : (more : Arguments) (most d : ℕ) (ts rest : Lexemes) →
 arguments_closed s.no_arguments most d ts rest x = subst IsNoOperator (sym x.2) (closed t.Close x.0 x.1 rest refl)
 arguments_closed (s.argument a more) most d ts rest x = subst IsNoOperator (sym x.3) (closed t.Comma x.0 x.1 x.2 refl)
 
+pub expressions_closed : (more : List Exp) (most d : ℕ) (ts rest : Lexemes) → DerivesMoreExpressions most d ts more rest → IsNoOperator ts
+expressions_closed [] most d ts rest x = subst IsNoOperator (sym x.2) (closed t.Close x.0 x.1 rest refl)
+expressions_closed (e ∷ es) most d ts rest x = subst IsNoOperator (sym x.3) (closed t.Comma x.0 x.1 x.2 refl)
+
 -- Groups and alternatives are followed by no operator, and an alternative by no colon.
 pub alternatives_uncolon : (more : Alternatives) (most d : ℕ) (ts rest : Lexemes) (q : Span) → DerivesMoreAlternatives most d ts more q rest → IsNotFirst t.Colon ts
 alternatives_uncolon s.no_alternatives most d ts rest q x = subst (IsNotFirst t.Colon) (sym x.1) (differs t.CloseBrace t.Colon x.0 q rest (λ e. cc))
@@ -202,17 +206,6 @@ begins_trace t.Trap = true
 begins_trace t.Try = true
 begins_trace sign = begins_exp sign
 
-at_braced : (sign : Sign) (w : List ℕ) (p : Span) (us : Lexemes) (most d : ℕ) (k : Braces → Span → Goal) → begins_trace sign ≡ true
-    → outcome most (some_braced d k) (lexeme sign w p ∷ us) ≡ outcome most (a_trace d (λ x. after_first d x k)) (lexeme sign w p ∷ us)
-at_braced t.Bar w p us most d k e = false_true e
-at_braced t.Priority w p us most d k e = false_true e
-at_braced t.Parallel w p us most d k e = false_true e
-at_braced sign w p us most d k e = refl
-
-braced_by : (sign : Sign) (w : List ℕ) (p : Span) (us ts : Lexemes) (most d : ℕ) (k : Braces → Span → Goal) → ts ≡ lexeme sign w p ∷ us → begins_trace sign ≡ true
-    → outcome most (some_braced d k) ts ≡ outcome most (a_trace d (λ x. after_first d x k)) ts
-braced_by sign w p us ts most d k e q = ap (outcome most (some_braced d k)) e ∙ at_braced sign w p us most d k q ∙ sym (ap (outcome most (a_trace d (λ x. after_first d x k))) e)
-
 exp_trace : (sign : Sign) → begins_exp sign ≡ true → begins_trace sign ≡ true
 exp_trace t.OpenBrace e = refl
 exp_trace t.Loop e = refl
@@ -226,26 +219,71 @@ exp_trace t.Trap e = refl
 exp_trace t.Try e = refl
 exp_trace sign e = e
 
-mutual
-  pub braced_first : (x : Trace) (place : Place) (most d d' : ℕ) (ts rest : Lexemes) → DerivesTrace most d' place ts x rest → (k : Braces → Span → Goal)
-      → outcome most (some_braced d k) ts ≡ outcome most (a_trace d (λ y. after_first d y k)) ts
-  braced_first (s.sequence xs) place most d d' ts rest x k = braced_first_row xs most d d' ts rest x.1 k
-  braced_first (s.braces y at) place most d d' ts rest x k = braced_by t.OpenBrace x.0 x.1 x.2 ts most d k x.3 refl
-  braced_first (s.loop l y) place most d d' ts rest x k = braced_by t.Loop x.0 x.1 x.2 ts most d k x.3 refl
-  braced_first (s.raise n) place most d d' ts rest x k = braced_by t.Raise x.0 x.1 (lexeme t.Name n.text n.span ∷ rest) ts most d k x.2 refl
-  braced_first (s.assert e y) place most d d' ts rest x k = braced_by t.Assert x.0 x.1 x.2 ts most d k x.3 refl
-  braced_first (s.exist gs y) place most d d' ts rest x k = braced_by t.Exist x.0 x.1 x.2 ts most d k x.3 refl
-  braced_first (s.define z y) place most d d' ts rest x k = braced_by t.Let x.0 x.1 x.2 ts most d k x.3 refl
-  braced_first (s.exceptions ns y) place most d d' ts rest x k = braced_by t.Exception x.0 x.1 x.2 ts most d k x.3 refl
-  braced_first (s.catch n y h) place most d d' ts rest x k = braced_by t.Catch x.0 x.1 (lexeme t.Name n.text n.span ∷ (lexeme t.In x.2 x.3 ∷ x.4)) ts most d k x.5 refl
-  braced_first (s.trap n y h) place most d d' ts rest x k = braced_by t.Trap x.0 x.1 (lexeme t.Name n.text n.span ∷ (lexeme t.In x.2 x.3 ∷ x.4)) ts most d k x.5 refl
-  braced_first (s.try y h) place most d d' ts rest x k = braced_by t.Try x.0 x.1 x.2 ts most d k x.3 refl
-  braced_first (s.value e) place most d d' ts rest x k = let b = exp_begins e most d' ts rest x.0 in braced_by b.sign b.text b.at b.rest ts most d k b.is (exp_trace b.sign b.begins)
+record BeginsTrace (ts : Lexemes) : Type 0 where
+  sign : Sign
+  text : List ℕ
+  at : Span
+  rest : Lexemes
+  is : ts ≡ lexeme sign text at ∷ rest
+  begins : begins_trace sign ≡ true
 
-  braced_first_row : (xs : Traces) (most d d' : ℕ) (ts rest : Lexemes) → DerivesSequence most d' ts xs rest → (k : Braces → Span → Goal)
-      → outcome most (some_braced d k) ts ≡ outcome most (a_trace d (λ y. after_first d y k)) ts
-  braced_first_row s.no_traces most d d' ts rest x k = absurd x
-  braced_first_row (s.one_trace y ys) most d d' ts rest x k = braced_first y item most d d' ts x.0 x.1 k
+mutual
+  trace_begins : (x : Trace) (place : Place) (most d : ℕ) (ts rest : Lexemes) → DerivesTrace most d place ts x rest → BeginsTrace ts
+  trace_begins (s.sequence xs) place most d ts rest x = row_begins xs most d ts rest x.1
+  trace_begins (s.braces y at) place most d ts rest x = record { sign = t.OpenBrace; text = x.0; at = x.1; rest = x.2; is = x.3; begins = refl }
+  trace_begins (s.loop l y) place most d ts rest x = record { sign = t.Loop; text = x.0; at = x.1; rest = x.2; is = x.3; begins = refl }
+  trace_begins (s.raise n) place most d ts rest x = record { sign = t.Raise; text = x.0; at = x.1; rest = lexeme t.Name n.text n.span ∷ rest; is = x.2; begins = refl }
+  trace_begins (s.assert e y) place most d ts rest x = record { sign = t.Assert; text = x.0; at = x.1; rest = x.2; is = x.3; begins = refl }
+  trace_begins (s.exist gs y) place most d ts rest x = record { sign = t.Exist; text = x.0; at = x.1; rest = x.2; is = x.3; begins = refl }
+  trace_begins (s.define z y) place most d ts rest x = record { sign = t.Let; text = x.0; at = x.1; rest = x.2; is = x.3; begins = refl }
+  trace_begins (s.exceptions ns y) place most d ts rest x = record { sign = t.Exception; text = x.0; at = x.1; rest = x.2; is = x.3; begins = refl }
+  trace_begins (s.catch n y h) place most d ts rest x = record { sign = t.Catch; text = x.0; at = x.1; rest = lexeme t.Name n.text n.span ∷ (lexeme t.In x.2 x.3 ∷ x.4); is = x.5; begins = refl }
+  trace_begins (s.trap n y h) place most d ts rest x = record { sign = t.Trap; text = x.0; at = x.1; rest = lexeme t.Name n.text n.span ∷ (lexeme t.In x.2 x.3 ∷ x.4); is = x.5; begins = refl }
+  trace_begins (s.try y h) place most d ts rest x = record { sign = t.Try; text = x.0; at = x.1; rest = x.2; is = x.3; begins = refl }
+  trace_begins (s.value e) place most d ts rest x =
+      let b = exp_begins e most d ts rest x.0 in record { sign = b.sign; text = b.text; at = b.at; rest = b.rest; is = b.is; begins = exp_trace b.sign b.begins }
+
+  row_begins : (xs : Traces) (most d : ℕ) (ts rest : Lexemes) → DerivesSequence most d ts xs rest → BeginsTrace ts
+  row_begins s.no_traces most d ts rest x = absurd x
+  row_begins (s.one_trace y ys) most d ts rest x = trace_begins y item most d ts x.0 x.1
+
+at_braced : (sign : Sign) (w : List ℕ) (p : Span) (us : Lexemes) (most d : ℕ) (k : Braces → Span → Goal) → begins_trace sign ≡ true
+    → outcome most (some_braced d k) (lexeme sign w p ∷ us) ≡ outcome most (a_trace d (λ x. after_first d x k)) (lexeme sign w p ∷ us)
+at_braced t.Bar w p us most d k e = false_true e
+at_braced t.Priority w p us most d k e = false_true e
+at_braced t.Parallel w p us most d k e = false_true e
+at_braced sign w p us most d k e = refl
+
+-- What stands in braces begins as its first trace does.
+pub braced_first : (x : Trace) (place : Place) (most d d' : ℕ) (ts rest : Lexemes) → DerivesTrace most d' place ts x rest → (k : Braces → Span → Goal)
+    → outcome most (some_braced d k) ts ≡ outcome most (a_trace d (λ y. after_first d y k)) ts
+braced_first x place most d d' ts rest dx k =
+    let b = trace_begins x place most d' ts rest dx in
+    ap (outcome most (some_braced d k)) b.is ∙ at_braced b.sign b.text b.at b.rest most d k b.begins ∙ sym (ap (outcome most (a_trace d (λ y. after_first d y k))) b.is)
+
+at_runs : (sign : Sign) (w : List ℕ) (p : Span) (us : Lexemes) (most d : ℕ) (k : List Run → Trace → Goal) → begins_trace sign ≡ true
+    → outcome most (some_runs d k) (lexeme sign w p ∷ us) ≡ outcome most (a_trace d (k [])) (lexeme sign w p ∷ us)
+at_runs t.Run w p us most d k e = false_true e
+at_runs sign w p us most d k e = refl
+
+-- Where no run comes, a trace does.
+pub runs_first : (x : Trace) (place : Place) (most d d' : ℕ) (ts rest : Lexemes) → DerivesTrace most d' place ts x rest → (k : List Run → Trace → Goal)
+    → outcome most (some_runs d k) ts ≡ outcome most (a_trace d (k [])) ts
+runs_first x place most d d' ts rest dx k =
+    let b = trace_begins x place most d' ts rest dx in
+    ap (outcome most (some_runs d k)) b.is ∙ at_runs b.sign b.text b.at b.rest most d k b.begins ∙ sym (ap (outcome most (a_trace d (k []))) b.is)
+
+at_expressions : (sign : Sign) (w : List ℕ) (p : Span) (us : Lexemes) (most d : ℕ) (k : List Exp → Goal) → begins_exp sign ≡ true
+    → outcome most (some_expressions d k) (lexeme sign w p ∷ us) ≡ outcome most (an_exp d 0 (λ e. more_expressions d (λ es. k (e ∷ es)))) (lexeme sign w p ∷ us)
+at_expressions t.Close w p us most d k e = false_true e
+at_expressions sign w p us most d k e = refl
+
+-- Expressions begin as the first of them does.
+pub expressions_first : (e : Exp) (most d d' : ℕ) (ts rest : Lexemes) → DerivesExp most d' ts e rest → (k : List Exp → Goal)
+    → outcome most (some_expressions d k) ts ≡ outcome most (an_exp d 0 (λ e'. more_expressions d (λ es. k (e' ∷ es)))) ts
+expressions_first e most d d' ts rest x k =
+    let b = exp_begins e most d' ts rest x in
+    ap (outcome most (some_expressions d k)) b.is ∙ at_expressions b.sign b.text b.at b.rest most d k b.begins ∙ sym (ap (outcome most (an_exp d 0 (λ e'. more_expressions d (λ es. k (e' ∷ es))))) b.is)
 
 -- A sign that begins no expression begins an alternative without a weight.
 at_unweighted : (sign : Sign) (w : List ℕ) (p : Span) (us : Lexemes) (most d : ℕ) (k : Alternative → Goal) → begins_item sign ≡ true

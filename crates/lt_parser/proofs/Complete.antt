@@ -9,18 +9,18 @@ use Rattle.lt_ast.specs.declared.group.TypeName.TheVariants as ty
 use Rattle.lt_ast.specs.declared.expr.BinOp.{BinOp}
 use Rattle.lt_ast.specs.declared.expr.BinOp.TheVariants as b
 use Rattle.lt_ast.specs.Syntax as s
-use Rattle.lt_ast.specs.Syntax.{Word, Figure, WrittenRange, Exp, Argument, Arguments, Limits, Braces, Alternative, Alternatives, Trace, Traces, Grouping, Groupings, MaybeExp, MaybeTrace, Parameters, Meaning, Macro, Declaration}
+use Rattle.lt_ast.specs.Syntax.{Word, Figure, WrittenRange, Exp, Argument, Arguments, Limits, Braces, Alternative, Alternatives, Trace, Traces, Grouping, Groupings, MaybeExp, MaybeTrace, Parameters, Meaning, Macro, Run, Declaration}
 use Rattle.lt_ast.specs.Tokens.{binary_sign, type_sign}
-use Rattle.lt_parser.specs.Lexemes.{Lexemes, lexeme, IsNotFirst}
-use Rattle.lt_parser.specs.Precedence.{rank, under, Stands, left_least, right_least, IsNoOperator}
+use Rattle.lt_grammar.specs.Lexemes.{Lexemes, lexeme, IsNotFirst}
+use Rattle.lt_grammar.specs.Precedence.{rank, under, Stands, left_least, right_least, IsNoOperator}
 use Rattle.lt_ast.specs.Places.{across, span_of}
-use Rattle.lt_parser.specs.Grammar.{IsNoWeight, opened, MayOpen, Place, whole, item, Ends, DerivesNames, DerivesMoreNames, DerivesNumber, DerivesFigure, DerivesRange, DerivesStep, DerivesRef, DerivesExp, DerivesArgument, DerivesArguments, DerivesMoreArguments, DerivesBraced, DerivesChoice, DerivesMoreAlternatives, DerivesAlternative, DerivesTraces, DerivesMoreTraces, DerivesLimits, DerivesBound, DerivesGrouping, DerivesFirst, DerivesGroups, DerivesMoreGroups, DerivesParameters, DerivesMeaning, DerivesMacro, DerivesTrace, DerivesSequence, DerivesMoreItems, DerivesHandler, Means, HasAlternative, HasTrace, HasGroup, DerivesDeclaration, SpellsWithin}
-use Rattle.lt_parser.specs.inner.Reading.{Goal, Stop, done, a_list, outcome, onward, operand, allowed, opens, top, cap, an_exp, more_exp, some_arguments, more_arguments, an_argument, an_item, more_items, a_handler, some_limits, a_bound, some_braced, after_first, an_alternative, after_weight, more_alternatives, more_traces, some_groups, more_groups, more_names, a_type, a_ref, a_range, a_step, a_figure, a_first, some_parameters, declarations, a_trace, names, a_group, groups, a_meaning, a_macro, a_sign, a_name, paren_goal, if_goal, sequence_of}
-use Rattle.lt_parser.specs.Program.{SpellsAtMostOne}
+use Rattle.lt_grammar.specs.Grammar.{IsNoWeight, opened, MayOpen, Place, whole, item, Ends, DerivesNames, DerivesMoreNames, DerivesNumber, DerivesFigure, DerivesRange, DerivesStep, DerivesRef, DerivesExp, DerivesArgument, DerivesArguments, DerivesMoreArguments, DerivesBraced, DerivesChoice, DerivesMoreAlternatives, DerivesAlternative, DerivesTraces, DerivesMoreTraces, DerivesLimits, DerivesBound, DerivesGrouping, DerivesFirst, DerivesGroups, DerivesMoreGroups, DerivesParameters, DerivesMeaning, DerivesMacro, DerivesTrace, DerivesSequence, DerivesMoreItems, DerivesHandler, Means, HasAlternative, HasTrace, HasGroup, DerivesMoreExpressions, DerivesExpressions, DerivesRun, DerivesRuns, DerivesDeclaration, SpellsWithin, SpellsExpressionWithin}
+use Rattle.lt_parser.specs.inner.Reading.{Goal, Tree, Stop, program_tree, expression_tree, done, expression_done, whole_exp, a_list, outcome, onward, operand, allowed, opens, top, cap, an_exp, more_exp, some_arguments, more_arguments, an_argument, an_item, more_items, a_handler, some_limits, a_bound, some_braced, after_first, an_alternative, after_weight, more_alternatives, more_traces, some_groups, more_groups, more_names, a_type, a_ref, a_range, a_step, a_figure, a_first, some_parameters, some_expressions, more_expressions, some_runs, run_goal, declarations, a_trace, names, a_group, groups, a_meaning, a_macro, a_sign, a_name, paren_goal, if_goal, sequence_of}
+use Rattle.lt_grammar.specs.Program.{SpellsAtMostOne}
 use Rattle.lt_parser.specs.inner.Reading.{ReadsTheSpelled}
 use Rattle.lt_parser.proofs.Skips.{enter, Heads, ends, no_call, no_item, no_handler, no_ref, no_range, no_step, no_first, no_parameters, no_name, no_limits}
 use Rattle.lt_parser.proofs.Operators.{stands_zero, looser, left_rank, left_top, right_top, cap_right, under_top, top_under, take_unary, take_binary}
-use Rattle.lt_parser.proofs.Begins.{closed, head_op, differs, item_value, argument_value, arguments_first, alternative_value, side_first, arguments_closed, no_weight, braced_first, unweighted_by}
+use Rattle.lt_parser.proofs.Begins.{closed, head_op, differs, item_value, argument_value, arguments_first, alternative_value, side_first, arguments_closed, no_weight, braced_first, runs_first, expressions_first, expressions_closed, unweighted_by}
 
 -- An expression that no operator follows.
 no_heads : (P : BinOp → Type 0) (ts : Lexemes) → IsNoOperator ts → Heads P ts
@@ -478,16 +478,49 @@ mutual
   reads_handler s.no_trace most d ts rest x k = ap (outcome most (a_handler d k)) x.0 ∙ no_handler most d k rest x.1
   reads_handler (s.a_trace y) most d ts rest x k = ap (outcome most (a_handler d k)) x.3 ∙ reads_at y as_whole most d x.2 rest x.4 (λ y'. k (s.a_trace y'))
 
+-- RUNS
+
+-- an expression among others
+reads_full : (e : Exp) (most d : ℕ) (ts rest : Lexemes) → DerivesExp most d ts e rest → IsNoOperator rest → (k : Exp → Goal) → outcome most (an_exp d 0 k) ts ≡ outcome most (k e) rest
+reads_full e most d ts rest x c k = fully e most d ts rest (reads_exp e most d 0 ts rest x (stands_zero e) (no_heads (λ op. rank op ≤ top e) rest c)) c k
+
+reads_more_expressions : (es : List Exp) (most d : ℕ) (ts rest : Lexemes) → DerivesMoreExpressions most d ts es rest → (k : List Exp → Goal) → outcome most (more_expressions d k) ts ≡ outcome most (k es) rest
+reads_more_expressions [] most d ts rest x k = ap (outcome most (more_expressions d k)) x.2
+reads_more_expressions (e ∷ es) most d ts rest x k =
+    ap (outcome most (more_expressions d k)) x.3 ∙ reads_full e most d x.2 x.4 x.5 (expressions_closed es most d x.4 rest x.6) (λ e'. more_expressions d (λ es'. k (e' ∷ es')))
+    ∙ reads_more_expressions es most d x.4 rest x.6 (λ es'. k (e ∷ es'))
+
+reads_expressions : (es : List Exp) (most d : ℕ) (ts rest : Lexemes) → DerivesExpressions most d ts es rest → (k : List Exp → Goal) → outcome most (some_expressions d k) ts ≡ outcome most (k es) rest
+reads_expressions [] most d ts rest x k = ap (outcome most (some_expressions d k)) x.2
+reads_expressions (e ∷ es) most d ts rest x k =
+    expressions_first e most d d ts x.0 x.1 k ∙ reads_full e most d ts x.0 x.1 (expressions_closed es most d x.0 rest x.2) (λ e'. more_expressions d (λ es'. k (e' ∷ es')))
+    ∙ reads_more_expressions es most d x.0 rest x.2 (λ es'. k (e ∷ es'))
+
+reads_run : (r : Run) (most d : ℕ) (ts rest : Lexemes) → DerivesRun most d ts r rest → (k : List Run → Trace → Goal)
+    → outcome most (some_runs d k) ts ≡ outcome most (some_runs (suc d) (λ rs y. k (r ∷ rs) y)) rest
+reads_run r most d ts rest x k =
+    let j : Run → Goal = λ r'. some_runs (suc d) (λ rs y. k (r' ∷ rs) y) in
+    let made : List Word → Word → List Exp → Span → Run = λ ns n es at. record { names = ns; node = n; arguments = es; span = at } in
+    ap (outcome most (some_runs d k)) x.3 ∙ enter most (suc (suc d)) x.11 (run_goal (suc (suc d)) x.1 j) x.2
+    ∙ reads_names r.names most x.2 (lexeme t.Assign x.5 x.6 ∷ (lexeme t.Name r.node.text r.node.span ∷ (lexeme t.Open x.7 x.8 ∷ x.9))) x.10
+    (λ ns. a_sign t.Assign (λ p. a_name (λ n. a_sign t.Open (λ o. some_expressions (suc (suc d)) (λ es. a_sign t.In (λ q. j (made ns n es (across x.1 q))))))))
+    ∙ reads_expressions r.arguments most (suc (suc d)) x.9 (lexeme t.In x.12 x.13 ∷ rest) x.14 (λ es. a_sign t.In (λ q. j (made r.names r.node es (across x.1 q))))
+    ∙ (λ i. outcome most (j (made r.names r.node r.arguments (sym x.15 i))) rest)
+
+reads_runs : (rs : List Run) (y : Trace) (most d : ℕ) (ts rest : Lexemes) → DerivesRuns most d ts rs y rest → (k : List Run → Trace → Goal) → outcome most (some_runs d k) ts ≡ outcome most (k rs y) rest
+reads_runs [] y most d ts rest x k = runs_first y whole most d d ts rest x k ∙ reads_at y as_whole most d ts rest x (k [])
+reads_runs (r ∷ rs) y most d ts rest x k = reads_run r most d ts x.0 x.1 k ∙ reads_runs rs y most (suc d) x.0 rest x.2 (λ rs' y'. k (r ∷ rs') y')
+
 -- DECLARATIONS
 
 reads_declaration : (y : Declaration) (most : ℕ) (ts rest : Lexemes) → DerivesDeclaration most ts y rest → (k : List Declaration → Goal) → outcome most (declarations k) ts ≡ outcome most (declarations (λ ys. k (y ∷ ys))) rest
-reads_declaration (s.node n ins outs y) most ts rest x k =
+reads_declaration (s.node n ins outs rs y) most ts rest x k =
     ap (outcome most (declarations k)) x.5
-    ∙ enter most 1 x.6 (some_groups 1 (λ ins'. a_sign t.Returns (λ p. a_list 0 (λ outs'. a_sign t.Equal (λ q. a_trace 0 (λ y'. declarations (λ ys. k (s.node n ins' outs' y' ∷ ys)))))))) x.4
-    ∙ reads_listed ins most 1 x.4 (lexeme t.Returns x.7 x.8 ∷ (lexeme t.Open x.9 x.10 ∷ x.11)) x.12 (λ ins'. a_sign t.Returns (λ p. a_list 0 (λ outs'. a_sign t.Equal (λ q. a_trace 0 (λ y'. declarations (λ ys. k (s.node n ins' outs' y' ∷ ys)))))))
-    ∙ enter most 1 x.6 (some_groups 1 (λ outs'. a_sign t.Equal (λ q. a_trace 0 (λ y'. declarations (λ ys. k (s.node n ins outs' y' ∷ ys)))))) x.11
-    ∙ reads_listed outs most 1 x.11 (lexeme t.Equal x.13 x.14 ∷ x.15) x.16 (λ outs'. a_sign t.Equal (λ q. a_trace 0 (λ y'. declarations (λ ys. k (s.node n ins outs' y' ∷ ys)))))
-    ∙ reads_at y as_whole most 0 x.15 rest x.17 (λ y'. declarations (λ ys. k (s.node n ins outs y' ∷ ys)))
+    ∙ enter most 1 x.6 (some_groups 1 (λ ins'. a_sign t.Returns (λ p. a_list 0 (λ outs'. a_sign t.Equal (λ q. some_runs 0 (λ rs' y'. declarations (λ ys. k (s.node n ins' outs' rs' y' ∷ ys)))))))) x.4
+    ∙ reads_listed ins most 1 x.4 (lexeme t.Returns x.7 x.8 ∷ (lexeme t.Open x.9 x.10 ∷ x.11)) x.12 (λ ins'. a_sign t.Returns (λ p. a_list 0 (λ outs'. a_sign t.Equal (λ q. some_runs 0 (λ rs' y'. declarations (λ ys. k (s.node n ins' outs' rs' y' ∷ ys)))))))
+    ∙ enter most 1 x.6 (some_groups 1 (λ outs'. a_sign t.Equal (λ q. some_runs 0 (λ rs' y'. declarations (λ ys. k (s.node n ins outs' rs' y' ∷ ys)))))) x.11
+    ∙ reads_listed outs most 1 x.11 (lexeme t.Equal x.13 x.14 ∷ x.15) x.16 (λ outs'. a_sign t.Equal (λ q. some_runs 0 (λ rs' y'. declarations (λ ys. k (s.node n ins outs' rs' y' ∷ ys)))))
+    ∙ reads_runs rs y most 0 x.15 rest x.17 (λ rs' y'. declarations (λ ys. k (s.node n ins outs rs' y' ∷ ys)))
 reads_declaration (s.macro_declaration y) most ts rest x k =
     ap (outcome most (declarations k)) x.3 ∙ reads_macro y most 0 x.2 rest x.4 (λ y'. declarations (λ ys. k (s.macro_declaration y' ∷ ys)))
 reads_declaration (s.exception_declaration ns) most ts rest x k =
@@ -499,11 +532,26 @@ reads_program [] most ts x k = ap (outcome most (declarations k)) x
 reads_program (y ∷ ys) most ts x k = reads_declaration y most ts x.0 x.1 k ∙ reads_program ys most x.0 x.2 (λ zs. k (y ∷ zs))
 
 -- What is spelled is read.
-pub spelled_is_read : (ys : List Declaration) (most : ℕ) (ts : Lexemes) → SpellsWithin most ts ys → outcome most (declarations done) ts ≡ Ok ys
+pub spelled_is_read : (ys : List Declaration) (most : ℕ) (ts : Lexemes) → SpellsWithin most ts ys → outcome most (declarations done) ts ≡ Ok (program_tree ys)
 spelled_is_read ys most ts x = reads_program ys most ts x done
 
 pub at_most_one : SpellsAtMostOne
-at_most_one = λ most ts x y p q. let e : ◌≡◌ {A = Result (List Declaration) Stop} (Ok x) (Ok y) = sym (spelled_is_read x most ts p) ∙ spelled_is_read y most ts q in cc
+at_most_one = λ most ts x y p q. let e : ◌≡◌ {A = Result Tree Stop} (Ok (program_tree x)) (Ok (program_tree y)) = sym (spelled_is_read x most ts p) ∙ spelled_is_read y most ts q in cc
 
-pub reads_the_spelled : ReadsTheSpelled
+pub reads_the_spelled : ReadsTheSpelled SpellsWithin program_tree (declarations done)
 reads_the_spelled = λ most ts x p. spelled_is_read x most ts p
+
+-- No operator is left at the end.
+no_operator_at_end : IsNoOperator []
+no_operator_at_end = λ op sign w at rest e e'. cc
+
+-- An expression that is spelled is read.
+pub expression_is_read : (e : Exp) (most : ℕ) (ts : Lexemes) → SpellsExpressionWithin most ts e → outcome most (whole_exp expression_done) ts ≡ Ok (expression_tree e)
+expression_is_read e most ts x = reads_full e most 0 ts [] x no_operator_at_end expression_done
+
+pub at_most_one_expression : (most : ℕ) (ts : Lexemes) (x y : Exp) → SpellsExpressionWithin most ts x → SpellsExpressionWithin most ts y → x ≡ y
+at_most_one_expression most ts x y p q =
+    let e : ◌≡◌ {A = Result Tree Stop} (Ok (expression_tree x)) (Ok (expression_tree y)) = sym (expression_is_read x most ts p) ∙ expression_is_read y most ts q in cc
+
+pub reads_the_expression : ReadsTheSpelled SpellsExpressionWithin expression_tree (whole_exp expression_done)
+reads_the_expression = λ most ts x p. expression_is_read x most ts p

@@ -19,14 +19,14 @@ use Rattle.lt_parser.specs.inner.Parsing.{Refused}
 use Rattle.lt_parser.specs.inner.Printing.{PrintsAs}
 use Rattle.lt_parser.specs.inner.Reading.{declarations, done, outcome}
 use Rattle.lt_parser.specs.inner.Tokens.{lexeme_of, lexemes}
-use Rattle.lt_parser.specs.Grammar.{SpellsWithin}
-use Rattle.lt_parser.specs.Lexemes.{Lexemes, lexeme}
-use Rattle.lt_parser.specs.Nesting.{most_levels}
-use Rattle.lt_parser.specs.Written.{AreSpelled, IsSpelled, written_of}
+use Rattle.lt_grammar.specs.Grammar.{SpellsWithin}
+use Rattle.lt_grammar.specs.Lexemes.{Lexemes, lexeme}
+use Rattle.lt_grammar.specs.Nesting.{most_levels}
+use Rattle.lt_grammar.specs.Written.{AreSpelled, IsSpelled, written_of}
 use Rattle.lt_parser.proofs.Complete.{reads_program}
 use Rattle.lt_parser.proofs.Programs.{at_end, one_more, refused_after}
 use Rattle.lt_parser.proofs.Sound.{read_is_spelled}
-use Rattle.lt_parser.proofs.Written.{written_as_spelled}
+use Rattle.lt_grammar.proofs.Written.{written_as_spelled}
 
 -- Some declarations are read, and these bytes are their lines: with the lines of those that the rest spells, they are
 -- the lines of all.

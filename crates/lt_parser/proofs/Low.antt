@@ -11,14 +11,14 @@ use Rattle.lt_ast.specs.declared.expr.UnOp.TheVariants as u
 use Rattle.lt_ast.specs.declared.expr.BinOp.{BinOp}
 use Rattle.lt_ast.specs.declared.expr.BinOp.TheVariants as b
 use Rattle.lt_ast.specs.Syntax as s
-use Rattle.lt_ast.specs.Syntax.{Word, Figure, WrittenRange, Exp, Argument, Arguments, Limits, Braces, Alternative, Alternatives, Trace, Traces, Grouping, Groupings, MaybeExp, MaybeTrace, Parameters, Meaning, Macro, Declaration}
-use Rattle.lt_parser.specs.Precedence.{rank, operator}
+use Rattle.lt_ast.specs.Syntax.{Word, Figure, WrittenRange, Exp, Argument, Arguments, Limits, Braces, Alternative, Alternatives, Trace, Traces, Grouping, Groupings, MaybeExp, MaybeTrace, Parameters, Meaning, Macro, Run, Declaration}
+use Rattle.lt_grammar.specs.Precedence.{rank, operator}
 use Rattle.lt_ast.specs.Places.{across, span_of}
-use Rattle.lt_parser.specs.inner.Reading.{Goal, Move, stuck, next, opens, step, extend, operand, allowed, top, done, a_sign, a_name, an_exp, more_exp, a_right_side, after_name, some_arguments, more_arguments, an_argument, an_item, more_items, a_handler, some_limits, a_bound, some_braced, after_first, an_alternative, after_weight, more_alternatives, more_traces, some_groups, more_groups, more_names, a_type, a_ref, a_range, a_step, a_figure, a_digits, a_list, a_first, some_parameters, declarations, a_trace, after_group_name, groups, a_meaning, a_macro, sequence_of, begin_exp, begin_item, begin_argument, begin_alternative, begins_item, right_side_low, unary_goal, if_goal}
+use Rattle.lt_parser.specs.inner.Reading.{Goal, Move, stuck, next, opens, step, extend, operand, allowed, top, nothing_more, a_sign, a_name, an_exp, more_exp, a_right_side, after_name, some_arguments, more_arguments, an_argument, an_item, more_items, a_handler, some_limits, a_bound, some_braced, after_first, an_alternative, after_weight, more_alternatives, more_traces, some_groups, more_groups, more_names, a_type, a_ref, a_range, a_step, a_figure, a_digits, a_list, a_first, some_parameters, some_expressions, more_expressions, some_runs, declarations, a_trace, after_group_name, groups, a_meaning, a_macro, sequence_of, begin_exp, begin_item, begin_argument, begin_alternative, begins_item, right_side_low, unary_goal, if_goal}
 
 -- Each number of levels in a want, and in all that is wanted after it, is at most this one.
 abbrev pub Low : ℕ → Goal → Type 0
-Low n (done xs) = Unit {0}
+Low n (nothing_more x) = Unit {0}
 Low n (a_sign wanted k) = (p : Span) → Low n (k p)
 Low n (a_name k) = (x : Word) → Low n (k x)
 Low n (an_exp d low k) = (d ≤ n) × ((e : Exp) → Low n (k e))
@@ -51,7 +51,10 @@ Low n (a_digits p k) = (x : Figure) → Low n (k x)
 Low n (a_list d k) = (d ≤ n) × ((x : Groupings) → Low n (k x))
 Low n (a_first d k) = (d ≤ n) × ((x : MaybeExp) → Low n (k x))
 Low n (some_parameters d k) = (d ≤ n) × ((x : Parameters) → Low n (k x))
-Low n (declarations k) = (x : List Declaration) → Low n (k x)
+Low n (some_expressions d k) = (d ≤ n) × ((x : List Exp) → Low n (k x))
+Low n (more_expressions d k) = (d ≤ n) × ((x : List Exp) → Low n (k x))
+Low n (some_runs d k) = (suc d ≤ n) × ((x : List Run) (y : Trace) → Low n (k x y))
+Low n (declarations k) = (1 ≤ n) × ((x : List Declaration) → Low n (k x))
 
 -- After a token: the level that it opens is at most one more, and where it is none too many, what is wanted next keeps within them.
 abbrev pub LowMove : ℕ → Move → Type 0
@@ -62,6 +65,10 @@ LowMove n (opens d goal) = (d ≤ suc n) × (d ≤ n → Low n goal)
 -- The level above one of at most so many is at most one more.
 one_more : (d n : ℕ) → d ≤ n → suc d ≤ suc n
 one_more d n l = omega (arith, l)
+
+-- A level below others is one of them.
+one_less : (d n : ℕ) → suc d ≤ n → d ≤ n
+one_less d n l = omega (arith, l)
 
 -- At the start no level is open.
 none_open : (n : ℕ) → 0 ≤ n
@@ -166,7 +173,7 @@ low_extend (Some op) n d low x k skip l h g =
 
 -- A token opens at most one level more than a want speaks of.
 pub low_step : (g : Goal) (n : ℕ) (sign : Sign) (w : List ℕ) (at : Span) → Low n g → LowMove n (step g sign w at)
-low_step (done xs) n sign w at h = tt
+low_step (nothing_more x) n sign w at h = tt
 low_step (a_sign wanted k) n sign w at h = low_if (sameb the_type wanted sign) n (next (k at)) stuck (h at) tt
 low_step (a_name k) n t.Name w at h = h (record { text = w; span = at })
 low_step (a_name k) n sign w at h = tt
@@ -248,8 +255,18 @@ low_step (a_first d k) n t.Equal w at h = (h.0, λ e. h.1 (s.an_exp e))
 low_step (a_first d k) n sign w at h = low_step (k s.no_exp) n sign w at (h.1 s.no_exp)
 low_step (some_parameters d k) n t.Open w at h = (one_more d n h.0, λ m. (m, λ gs. h.1 (s.parameters gs)))
 low_step (some_parameters d k) n sign w at h = low_step (k s.no_parameters) n sign w at (h.1 s.no_parameters)
+low_step (some_expressions d k) n t.Close w at h = h.1 []
+low_step (some_expressions d k) n sign w at h =
+    low_exp n d 0 (λ e. more_expressions d (λ es. k (e ∷ es))) h.0 (λ e. (h.0, λ es. h.1 (e ∷ es))) sign w at
+low_step (more_expressions d k) n t.Close w at h = h.1 []
+low_step (more_expressions d k) n t.Comma w at h = (h.0, λ e. (h.0, λ es. h.1 (e ∷ es)))
+low_step (more_expressions d k) n sign w at h = tt
+low_step (some_runs d k) n t.Run w at h =
+    (one_more (suc d) n h.0, λ m x xs p y o. (m, λ es q. (m, λ rs z. h.1 (record { names = x ∷ xs; node = y; arguments = es; span = across at q } ∷ rs) z)))
+low_step (some_runs d k) n sign w at h =
+    low_item n d (λ x. more_items d (λ xs. k [] (sequence_of x xs))) (one_less d n h.0) (λ x. (one_less d n h.0, λ xs. h.1 [] (sequence_of x xs))) sign w at
 low_step (declarations k) n t.Node w at h =
-    λ x. (none_open n, λ ins p. (none_open n, λ outs q. low_trace n 0 (λ y. declarations (λ xs. k (s.node x ins outs y ∷ xs))) (none_open n) (λ y xs. h (s.node x ins outs y ∷ xs))))
-low_step (declarations k) n t.Let w at h = low_macro n 0 (λ y. declarations (λ xs. k (s.macro_declaration y ∷ xs))) (none_open n) (λ y xs. h (s.macro_declaration y ∷ xs))
-low_step (declarations k) n t.Exception w at h = λ x xs ys. h (s.exception_declaration (x ∷ xs) ∷ ys)
-low_step (declarations k) n sign w at h = low_step (k []) n sign w at (h [])
+    λ x. (none_open n, λ ins p. (none_open n, λ outs q. (h.0, λ rs y. (h.0, λ xs. h.1 (s.node x ins outs rs y ∷ xs)))))
+low_step (declarations k) n t.Let w at h = low_macro n 0 (λ y. declarations (λ xs. k (s.macro_declaration y ∷ xs))) (none_open n) (λ y. (h.0, λ xs. h.1 (s.macro_declaration y ∷ xs)))
+low_step (declarations k) n t.Exception w at h = λ x xs. (h.0, λ ys. h.1 (s.exception_declaration (x ∷ xs) ∷ ys))
+low_step (declarations k) n sign w at h = low_step (k []) n sign w at (h.1 [])

@@ -10,8 +10,8 @@ use Rattle.lt_ast.specs.declared.expr.BinOp.TheVariants as b
 use Rattle.lt_ast.specs.Syntax as s
 use Rattle.lt_ast.specs.Syntax.{Exp}
 use Rattle.lt_ast.specs.Tokens.{unary_sign, binary_sign}
-use Rattle.lt_parser.specs.Lexemes.{Lexemes, lexeme}
-use Rattle.lt_parser.specs.Precedence.{rank, under, operator, Stands, left_least, right_least, side_least}
+use Rattle.lt_grammar.specs.Lexemes.{Lexemes, lexeme}
+use Rattle.lt_grammar.specs.Precedence.{rank, under, operator, Stands, left_least, right_least, side_least}
 use Rattle.lt_ast.specs.Places.{across, span_of}
 use Rattle.lt_parser.specs.inner.Reading.{Goal, Move, outcome, onward, operand, allowed, opens, stuck, extend, step, top, cap, an_exp, more_exp, unary_goal}
 use Rattle.lt_parser.proofs.Skips.{enter}

@@ -1,24 +1,23 @@
--- Where reading stops is the first token that no program has there.
+-- Where reading stops is the first token that no tree of the kind wanted has there.
 use Rattle.std.proofs.Common.{◌≡◌, ℕ, suc, ◌≤◌, List, [], ◌∷◌, ◌++◌, length, refl, sym, ◌∙◌, ap, subst, Bool, true, false, if◌then◌else◌, nat_le, None, Result, Ok, Err, ◌⊎◌, inl, inr, arith}
 use Rattle.std.proofs.lemmas.Bool.{leb-true}
 use Rattle.lt_ast.specs.declared.sign.Sign.{Sign}
 use Rattle.lt_ast.specs.declared.span.Span.{Span}
 use Rattle.lt_ast.specs.Syntax as s
-use Rattle.lt_ast.specs.Syntax.{Declaration}
-use Rattle.lt_parser.specs.Lexemes.{Lexeme, Lexemes, lexeme}
-use Rattle.lt_parser.specs.Program.{IsViableWithin, NoneContinues, IsUnexpected, IsTooDeep}
-use Rattle.lt_parser.specs.inner.Reading.{Goal, Move, stuck, next, opens, Stop, unexpected, too_deep, step, finish, onward, outcome, done, more_exp, after_name, more_items, a_handler, some_limits, after_weight, more_names, a_ref, a_range, a_step, a_first, some_parameters, declarations, UnexpectedIsExact, TooDeepIsExact}
-use Rattle.lt_parser.proofs.Complete.{spelled_is_read}
+use Rattle.lt_grammar.specs.Lexemes.{Lexeme, Lexemes, lexeme}
+use Rattle.lt_grammar.specs.Program.{IsViableWithin, NoneContinues, IsUnexpected, IsTooDeep}
+use Rattle.lt_parser.specs.inner.Reading.{Goal, Tree, nothing_more, Move, stuck, next, opens, Stop, unexpected, too_deep, step, finish, onward, outcome, more_exp, after_name, more_items, a_handler, some_limits, after_weight, more_names, a_ref, a_range, a_step, a_first, some_parameters, declarations, UnexpectedIsExact, TooDeepIsExact}
 use Rattle.lt_parser.proofs.Low.{Low, LowMove, low_step}
-use Rattle.lt_parser.proofs.Sound.{Accepts, Accepted, back, accepted_is_spelled, read_is_spelled}
-use Rattle.lt_parser.proofs.Stops.{unexpected_stops, deep_stops, program_has_none, one_unexpected, one_deep, not_both}
+use Rattle.lt_parser.proofs.Sound.{Accepts, Accepted, back}
+use Rattle.lt_grammar.proofs.Stops.{unexpected_stops, deep_stops, tree_has_none, one_unexpected, one_deep, not_both}
 use Rattle.lt_parser.proofs.Tidy.{Tidy, TidyMove, tidy_step, words, completes}
-use Rattle.lt_parser.specs.Nesting.{most_levels}
+use Rattle.lt_parser.proofs.Wholes.{IsWhole, some_spelled}
+use Rattle.lt_grammar.specs.Nesting.{most_levels}
 
 -- Tokens that go on as these do aren't read, whatever the levels.
 abbrev pub StuckAt : Goal → Lexemes → Lexemes → Type 0
-StuckAt g before [] = (most : ℕ) (x : List Declaration) → outcome most g before ≡ Ok x → ⊥
-StuckAt g before (u ∷ us) = (most : ℕ) (m : Lexemes) (x : List Declaration) → outcome most g ((before ++ u ∷ []) ++ m) ≡ Ok x → ⊥
+StuckAt g before [] = (most : ℕ) (x : Tree) → outcome most g before ≡ Ok x → ⊥
+StuckAt g before (u ∷ us) = (most : ℕ) (m : Lexemes) (x : Tree) → outcome most g ((before ++ u ∷ []) ++ m) ≡ Ok x → ⊥
 
 -- Reading may go on up to a place, and from there on no more, whatever the levels; so many tokens are left.
 pub record Refuses (most : ℕ) (g : Goal) (ts : Lexemes) (left : ℕ) : Type 0 where
@@ -41,11 +40,11 @@ pub record Deepens (most : ℕ) (g : Goal) (ts : Lexemes) (left : ℕ) : Type 0 
   pub viable : Accepts most g (before ++ after)
   pub after_then : Lexemes
   pub deep : Accepts (suc most) g ((before ++ token ∷ []) ++ after_then)
-  pub here : (m : Lexemes) (x : List Declaration) → outcome most g ((before ++ token ∷ []) ++ m) ≡ Ok x → ⊥
+  pub here : (m : Lexemes) (x : Tree) → outcome most g ((before ++ token ∷ []) ++ m) ≡ Ok x → ⊥
 
 -- At the end no token is left.
 unexpected_end : (g : Goal) (left : ℕ) → finish g ≡ Err (unexpected left) → left ≡ 0
-unexpected_end (done xs) left e = cc
+unexpected_end (nothing_more x) left e = cc
 unexpected_end (more_exp d low x k) left e = unexpected_end (k x) left e
 unexpected_end (after_name d n k) left e = unexpected_end (k (s.named n)) left e
 unexpected_end (more_items d k) left e = unexpected_end (k s.no_traces) left e
@@ -63,7 +62,7 @@ unexpected_end g left e = cc
 
 -- The end opens no level.
 not_deep_end : (g : Goal) (left : ℕ) → finish g ≡ Err (too_deep left) → ⊥
-not_deep_end (done xs) left e = cc
+not_deep_end (nothing_more x) left e = cc
 not_deep_end (more_exp d low x k) left e = not_deep_end (k x) left e
 not_deep_end (after_name d n k) left e = not_deep_end (k (s.named n)) left e
 not_deep_end (more_items d k) left e = not_deep_end (k s.no_traces) left e
@@ -79,20 +78,20 @@ not_deep_end (some_parameters d k) left e = not_deep_end (k s.no_parameters) lef
 not_deep_end (declarations k) left e = not_deep_end (k []) left e
 not_deep_end g left e = cc
 
--- A refusal is no program.
-err_is_not_ok : (e : Stop) (x : List Declaration) → ◌≡◌ {A = Result (List Declaration) Stop} (Err e) (Ok x) → ⊥
+-- A refusal is no tree.
+err_is_not_ok : (e : Stop) (x : Tree) → ◌≡◌ {A = Result Tree Stop} (Err e) (Ok x) → ⊥
 err_is_not_ok e x q = cc
 
 -- A level too many is no unexpected token.
-deep_is_not_unexpected : (a c : ℕ) → ◌≡◌ {A = Result (List Declaration) Stop} (Err (too_deep a)) (Err (unexpected c)) → ⊥
+deep_is_not_unexpected : (a c : ℕ) → ◌≡◌ {A = Result Tree Stop} (Err (too_deep a)) (Err (unexpected c)) → ⊥
 deep_is_not_unexpected a c q = cc
 
 -- Equal refusals for a token leave as many tokens.
-same_left : (a c : ℕ) → ◌≡◌ {A = Result (List Declaration) Stop} (Err (unexpected a)) (Err (unexpected c)) → a ≡ c
+same_left : (a c : ℕ) → ◌≡◌ {A = Result Tree Stop} (Err (unexpected a)) (Err (unexpected c)) → a ≡ c
 same_left a c q = cc
 
 -- Equal refusals for a level leave as many tokens.
-same_depth : (a c : ℕ) → ◌≡◌ {A = Result (List Declaration) Stop} (Err (too_deep a)) (Err (too_deep c)) → a ≡ c
+same_depth : (a c : ℕ) → ◌≡◌ {A = Result Tree Stop} (Err (too_deep a)) (Err (too_deep c)) → a ≡ c
 same_depth a c q = cc
 
 -- a token is taken, and this is wanted after it
@@ -100,12 +99,12 @@ abbrev Takes : Move → Goal → Type 0
 Takes a goal = (a ≡ next goal) ⊎ ((d : ℕ) × (a ≡ opens d goal))
 
 -- What isn't refused at a test continues.
-let_through : (b' : Bool) (y z : Result (List Declaration) Stop) (x : List Declaration) (e : Stop) → z ≡ Err e → (if b' then y else z) ≡ Ok x → y ≡ Ok x
+let_through : (b' : Bool) (y z : Result Tree Stop) (x : Tree) (e : Stop) → z ≡ Err e → (if b' then y else z) ≡ Ok x → y ≡ Ok x
 let_through true y z x e r q = q
 let_through false y z x e r q = cc
 
 -- Reading continues after a token that is taken.
-is_taken_on : (most : ℕ) (a : Move) (goal : Goal) (m : Lexemes) (x : List Declaration) → Takes a goal → onward most a (length m) (λ g. outcome most g m) ≡ Ok x → outcome most goal m ≡ Ok x
+is_taken_on : (most : ℕ) (a : Move) (goal : Goal) (m : Lexemes) (x : Tree) → Takes a goal → onward most a (length m) (λ g. outcome most g m) ≡ Ok x → outcome most goal m ≡ Ok x
 is_taken_on most a goal m x (inl e) q = sym (ap (λ a'. onward most a' (length m) (λ g. outcome most g m)) e) ∙ q
 is_taken_on most a goal m x (inr e) q =
     let_through (nat_le e.0 most) (outcome most goal m) (Err (too_deep (suc (length m)))) x (too_deep (suc (length m))) refl (sym (ap (λ a'. onward most a' (length m) (λ g. outcome most g m)) e.1) ∙ q)
@@ -217,80 +216,83 @@ deepens (lexeme sign w at ∷ us) most left g le h low e =
 
 -- OF A WHOLE TEXT
 
--- After the whole program comes nothing.
-start_tidy : Tidy (declarations done)
-start_tidy = λ xs. (tt, refl)
+-- What isn't read is no beginning of a tree, however many levels may be open.
+none_continues : {X : Type 0} (spells : ℕ → Lexemes → X → Type 0) (tree : X → Tree) (wanted : Goal) → IsWhole spells tree wanted → (before rest : Lexemes) → StuckAt wanted before rest → NoneContinues spells before rest
+none_continues spells tree wanted whole before [] h = λ most x p. h most (tree x) (whole.read most before x p)
+none_continues spells tree wanted whole before (u ∷ us) h = λ most v. h most v.0 (tree v.1) (whole.read most ((before ++ u ∷ []) ++ v.0) v.1 v.2)
 
--- It speaks of no levels.
-start_low : (most : ℕ) → Low most (declarations done)
-start_low most = λ xs. tt
-
--- What isn't read is no beginning of a program, however many levels may be open.
-none_continues : (before rest : Lexemes) → StuckAt (declarations done) before rest → NoneContinues before rest
-none_continues before [] h = λ most x p. h most x (spelled_is_read x most before p)
-none_continues before (u ∷ us) h = λ most v. h most v.0 v.1 (spelled_is_read v.1 most ((before ++ u ∷ []) ++ v.0) v.2)
-
--- Where what is wanted can be met after these tokens, some program begins with them.
-viable_from : (most : ℕ) (ts after : Lexemes) → Accepts most (declarations done) (ts ++ after) → IsViableWithin most ts
-viable_from most ts after a = let p = accepted_is_spelled most (ts ++ after) a in (after, p.0, p.1)
+-- Where what is wanted can be met after these tokens, some tree begins with them.
+viable_from : {X : Type 0} (spells : ℕ → Lexemes → X → Type 0) (tree : X → Tree) (wanted : Goal) → IsWhole spells tree wanted → (most : ℕ) (ts after : Lexemes) → Accepts most wanted (ts ++ after) → IsViableWithin spells most ts
+viable_from spells tree wanted whole most ts after a = let p = whole.accepted most (ts ++ after) a in (after, p.0, p.1)
 
 -- Where reading stops for an unexpected token, one is.
-unexpected_is_there : (ts : Lexemes) (left : ℕ) → outcome most_levels (declarations done) ts ≡ Err (unexpected left) → (rest : Lexemes) × (length rest ≡ left) × IsUnexpected ts rest
-unexpected_is_there ts left e =
-    let q = refuses ts most_levels left (declarations done) (omega arith) start_tidy e in (
+unexpected_is_there : {X : Type 0} (spells : ℕ → Lexemes → X → Type 0) (tree : X → Tree) (wanted : Goal) → IsWhole spells tree wanted
+    → (ts : Lexemes) (left : ℕ) → outcome most_levels wanted ts ≡ Err (unexpected left) → (rest : Lexemes) × (length rest ≡ left) × IsUnexpected spells ts rest
+unexpected_is_there spells tree wanted whole ts left e =
+    let q = refuses ts most_levels left wanted (omega arith) whole.tidy e in (
       q.rest,
       q.place,
       record {
         before = q.before;
         parts = q.parts;
-        viable = viable_from most_levels q.before q.after q.viable;
-        stuck = none_continues q.before q.rest q.here;
+        viable = viable_from spells tree wanted whole most_levels q.before q.after q.viable;
+        stuck = none_continues spells tree wanted whole q.before q.rest q.here;
       },
     )
 
 -- Where reading stops for a level too many, a token opens it.
-deep_is_there : (ts : Lexemes) (left : ℕ) → outcome most_levels (declarations done) ts ≡ Err (too_deep left) → (token : Lexeme) × (rest : Lexemes) × (suc (length rest) ≡ left) × IsTooDeep ts token rest
-deep_is_there ts left e =
-    let q = deepens ts most_levels left (declarations done) (omega arith) start_tidy (start_low most_levels) e in (
+deep_is_there : {X : Type 0} (spells : ℕ → Lexemes → X → Type 0) (tree : X → Tree) (wanted : Goal) → IsWhole spells tree wanted
+    → (ts : Lexemes) (left : ℕ) → outcome most_levels wanted ts ≡ Err (too_deep left) → (token : Lexeme) × (rest : Lexemes) × (suc (length rest) ≡ left) × IsTooDeep spells ts token rest
+deep_is_there spells tree wanted whole ts left e =
+    let q = deepens ts most_levels left wanted (omega arith) whole.tidy whole.low e in (
       q.token,
       q.rest,
       q.place,
       record {
         before = q.before;
         parts = q.parts;
-        viable = viable_from most_levels q.before q.after q.viable;
-        deep = viable_from (suc most_levels) (q.before ++ q.token ∷ []) q.after_then q.deep;
-        stuck = λ v. q.here v.0 v.1 (spelled_is_read v.1 most_levels ((q.before ++ q.token ∷ []) ++ v.0) v.2);
+        viable = viable_from spells tree wanted whole most_levels q.before q.after q.viable;
+        deep = viable_from spells tree wanted whole (suc most_levels) (q.before ++ q.token ∷ []) q.after_then q.deep;
+        stuck = λ v. q.here v.0 (tree v.1) (whole.read most_levels ((q.before ++ q.token ∷ []) ++ v.0) v.1 v.2);
       },
     )
 
 -- At an unexpected token reading stops for it, whatever it was said to do.
-stops_unexpected : (ts rest : Lexemes) → IsUnexpected ts rest → (r : Result (List Declaration) Stop) → outcome most_levels (declarations done) ts ≡ r → r ≡ Err (unexpected (length rest))
-stops_unexpected ts rest q (Ok x) e = absurd (program_has_none ts q.before rest x (unexpected_stops ts rest q) (read_is_spelled most_levels ts x e))
-stops_unexpected ts rest q (Err (unexpected left)) e =
-    let p = unexpected_is_there ts left e in
-    ap (λ n. Err (unexpected n)) (sym p.1 ∙ ap (λ m. length m) (one_unexpected ts p.0 rest p.2 q))
-stops_unexpected ts rest q (Err (too_deep left)) e = let p = deep_is_there ts left e in absurd (not_both ts rest p.0 p.1 q p.3)
+stops_unexpected : {X : Type 0} (spells : ℕ → Lexemes → X → Type 0) (tree : X → Tree) (wanted : Goal) → IsWhole spells tree wanted
+    → (ts rest : Lexemes) → IsUnexpected spells ts rest → (r : Result Tree Stop) → outcome most_levels wanted ts ≡ r → r ≡ Err (unexpected (length rest))
+stops_unexpected spells tree wanted whole ts rest q (Ok y) e =
+    let p = some_spelled spells tree wanted whole most_levels ts y e in
+    absurd (tree_has_none spells ts q.before rest p.0 (unexpected_stops spells ts rest q) p.1)
+stops_unexpected spells tree wanted whole ts rest q (Err (unexpected left)) e =
+    let p = unexpected_is_there spells tree wanted whole ts left e in
+    ap (λ n. Err (unexpected n)) (sym p.1 ∙ ap (λ m. length m) (one_unexpected spells ts p.0 rest p.2 q))
+stops_unexpected spells tree wanted whole ts rest q (Err (too_deep left)) e =
+    let p = deep_is_there spells tree wanted whole ts left e in
+    absurd (not_both spells ts rest p.0 p.1 q p.3)
 
 -- At a token that opens a level too many reading stops for that, whatever it was said to do.
-stops_deep : (ts : Lexemes) (token : Lexeme) (rest : Lexemes) → IsTooDeep ts token rest
-    → (r : Result (List Declaration) Stop) → outcome most_levels (declarations done) ts ≡ r → r ≡ Err (too_deep (suc (length rest)))
-stops_deep ts token rest q (Ok x) e = absurd (program_has_none ts q.before (token ∷ rest) x (deep_stops ts token rest q) (read_is_spelled most_levels ts x e))
-stops_deep ts token rest q (Err (unexpected left)) e = let p = unexpected_is_there ts left e in absurd (not_both ts p.0 token rest p.2 q)
-stops_deep ts token rest q (Err (too_deep left)) e =
-    let p = deep_is_there ts left e in
-    ap (λ n. Err (too_deep n)) (sym p.2 ∙ ap (λ m. suc (length m)) (one_deep ts p.0 token p.1 rest p.3 q))
+stops_deep : {X : Type 0} (spells : ℕ → Lexemes → X → Type 0) (tree : X → Tree) (wanted : Goal) → IsWhole spells tree wanted
+    → (ts : Lexemes) (token : Lexeme) (rest : Lexemes) → IsTooDeep spells ts token rest → (r : Result Tree Stop) → outcome most_levels wanted ts ≡ r → r ≡ Err (too_deep (suc (length rest)))
+stops_deep spells tree wanted whole ts token rest q (Ok y) e =
+    let p = some_spelled spells tree wanted whole most_levels ts y e in
+    absurd (tree_has_none spells ts q.before (token ∷ rest) p.0 (deep_stops spells ts token rest q) p.1)
+stops_deep spells tree wanted whole ts token rest q (Err (unexpected left)) e =
+    let p = unexpected_is_there spells tree wanted whole ts left e in
+    absurd (not_both spells ts p.0 token rest p.2 q)
+stops_deep spells tree wanted whole ts token rest q (Err (too_deep left)) e =
+    let p = deep_is_there spells tree wanted whole ts left e in
+    ap (λ n. Err (too_deep n)) (sym p.2 ∙ ap (λ m. suc (length m)) (one_deep spells ts p.0 token p.1 rest p.3 q))
 
 -- Reading stops for an unexpected token exactly where there is one.
-pub unexpected_is_exact : UnexpectedIsExact
-unexpected_is_exact = λ ts left. (
-  unexpected_is_there ts left,
-  λ q. stops_unexpected ts q.0 q.2 (outcome most_levels (declarations done) ts) refl ∙ ap (λ n. Err (unexpected n)) q.1,
+pub unexpected_is_exact : {X : Type 0} (spells : ℕ → Lexemes → X → Type 0) (tree : X → Tree) (wanted : Goal) → IsWhole spells tree wanted → UnexpectedIsExact spells wanted
+unexpected_is_exact spells tree wanted whole = λ ts left. (
+  unexpected_is_there spells tree wanted whole ts left,
+  λ q. stops_unexpected spells tree wanted whole ts q.0 q.2 (outcome most_levels wanted ts) refl ∙ ap (λ n. Err (unexpected n)) q.1,
 )
 
 -- Reading stops for a level too many exactly where there is one.
-pub too_deep_is_exact : TooDeepIsExact
-too_deep_is_exact = λ ts left. (
-  deep_is_there ts left,
-  λ q. stops_deep ts q.0 q.1 q.3 (outcome most_levels (declarations done) ts) refl ∙ ap (λ n. Err (too_deep n)) q.2,
+pub too_deep_is_exact : {X : Type 0} (spells : ℕ → Lexemes → X → Type 0) (tree : X → Tree) (wanted : Goal) → IsWhole spells tree wanted → TooDeepIsExact spells wanted
+too_deep_is_exact spells tree wanted whole = λ ts left. (
+  deep_is_there spells tree wanted whole ts left,
+  λ q. stops_deep spells tree wanted whole ts q.0 q.1 q.3 (outcome most_levels wanted ts) refl ∙ ap (λ n. Err (too_deep n)) q.2,
 )

@@ -8,12 +8,12 @@ use Rattle.lt_parser.specs.declared.refusal.Refusal.{Refusal}
 use Rattle.lt_parser.specs.declared.refusal.Refusal.TheVariants as r
 use Rattle.lt_lexer.specs.declared.lexeme.Lexeme.{Lexeme as Token}
 use Rattle.lt_parser.specs.inner.Parsing.{ProgramReadsAs, Refused}
-use Rattle.lt_parser.specs.Lexemes.{Lexemes}
+use Rattle.lt_grammar.specs.Lexemes.{Lexemes}
 use Rattle.lt_parser.specs.inner.Tokens.{lexemes}
 use Rattle.lt_parser.specs.inner.Onto.{declarations_after, declarations_more, declarations_onto}
-use Rattle.lt_parser.specs.inner.Reading.{declarations, done, outcome}
+use Rattle.lt_parser.specs.inner.Reading.{declarations, done, outcome, program_tree}
 use Rattle.lt_parser.proofs.Steps.{pushed}
-use Rattle.lt_parser.specs.Nesting.{most_levels}
+use Rattle.lt_grammar.specs.Nesting.{most_levels}
 
 -- declarations in turn
 declarations_onto-none : (xs : List Decl) → declarations_onto xs [] ≡ map declaration xs
@@ -37,6 +37,6 @@ refused_after ts rest xs e (Err e') h g a = subst (λ f. ProgramReadsAs ts (Err 
     refused_so r.Memory q = tt
 
 -- At the end the declarations so far are the program.
-pub at_end : (ts : Lexemes) (rest : List Token) (xs : List Decl) → length rest ≡ 0 → outcome most_levels (declarations done) ts ≡ outcome most_levels (declarations_after xs) (lexemes rest) → outcome most_levels (declarations done) ts ≡ Ok (map declaration xs)
-at_end ts [] xs e h = h ∙ ap (λ ds. Ok ds) (declarations_onto-none xs)
+pub at_end : (ts : Lexemes) (rest : List Token) (xs : List Decl) → length rest ≡ 0 → outcome most_levels (declarations done) ts ≡ outcome most_levels (declarations_after xs) (lexemes rest) → outcome most_levels (declarations done) ts ≡ Ok (program_tree (map declaration xs))
+at_end ts [] xs e h = h ∙ ap (λ ds. Ok (program_tree ds)) (declarations_onto-none xs)
 at_end ts (t ∷ rest) xs e h = cc

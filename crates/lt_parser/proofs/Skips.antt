@@ -8,8 +8,8 @@ use Rattle.lt_ast.specs.declared.span.Span.{Span}
 use Rattle.lt_ast.specs.declared.expr.BinOp.{BinOp}
 use Rattle.lt_ast.specs.Syntax as s
 use Rattle.lt_ast.specs.Syntax.{Word, Figure, Exp, Arguments, Limits, Traces, MaybeExp, MaybeTrace, Parameters, WrittenRange}
-use Rattle.lt_parser.specs.Lexemes.{Lexemes, lexeme, IsNotFirst}
-use Rattle.lt_parser.specs.Precedence.{rank, operator}
+use Rattle.lt_grammar.specs.Lexemes.{Lexemes, lexeme, IsNotFirst}
+use Rattle.lt_grammar.specs.Precedence.{rank, operator}
 use Rattle.lt_ast.specs.Places.{across, span_of}
 use Rattle.lt_parser.specs.inner.Reading.{Goal, Move, too_deep, outcome, onward, operand, stuck, extend, step, top, more_exp, after_name, more_items, a_handler, some_limits, a_ref, a_range, a_step, a_first, some_parameters, more_names}
 

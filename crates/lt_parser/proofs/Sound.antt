@@ -13,14 +13,14 @@ use Rattle.lt_ast.specs.declared.expr.UnOp.TheVariants as u
 use Rattle.lt_ast.specs.declared.expr.BinOp.{BinOp}
 use Rattle.lt_ast.specs.declared.expr.BinOp.TheVariants as b
 use Rattle.lt_ast.specs.Syntax as s
-use Rattle.lt_ast.specs.Syntax.{Word, Figure, WrittenRange, Exp, Argument, Arguments, Limits, Braces, Alternative, Alternatives, Trace, Traces, Grouping, Groupings, MaybeExp, MaybeTrace, Parameters, Meaning, Macro, Declaration}
+use Rattle.lt_ast.specs.Syntax.{Word, Figure, WrittenRange, Exp, Argument, Arguments, Limits, Braces, Alternative, Alternatives, Trace, Traces, Grouping, Groupings, MaybeExp, MaybeTrace, Parameters, Meaning, Macro, Run, Declaration}
 use Rattle.lt_ast.specs.Tokens.{binary_sign, type_sign}
-use Rattle.lt_parser.specs.Lexemes.{Lexemes, lexeme, IsNotFirst}
-use Rattle.lt_parser.specs.Precedence.{rank, operator, Stands, left_least, right_least, side_least, IsNoOperator}
+use Rattle.lt_grammar.specs.Lexemes.{Lexemes, lexeme, IsNotFirst}
+use Rattle.lt_grammar.specs.Precedence.{rank, operator, Stands, left_least, right_least, side_least, IsNoOperator}
 use Rattle.lt_ast.specs.Places.{across, span_of}
-use Rattle.lt_parser.specs.Grammar.{IsNoWeight, opened, MayOpen, whole, item, DerivesNames, DerivesMoreNames, DerivesFigure, DerivesRange, DerivesStep, DerivesRef, DerivesExp, DerivesArgument, DerivesArguments, DerivesMoreArguments, DerivesBraced, DerivesMoreAlternatives, DerivesAlternative, DerivesMoreTraces, DerivesLimits, DerivesBound, DerivesGrouping, DerivesFirst, DerivesGroups, DerivesMoreGroups, DerivesParameters, DerivesMeaning, DerivesMacro, DerivesTrace, DerivesMoreItems, DerivesHandler, Means, DerivesDeclaration, SpellsWithin}
-use Rattle.lt_parser.specs.inner.Reading.{Goal, ReadIsSpelled, too_deep, Move, stuck, next, opens, Stop, outcome, onward, step, finish, extend, operand, allowed, top, cap, done, a_sign, a_name, an_exp, more_exp, a_right_side, after_name, some_arguments, more_arguments, an_argument, an_item, more_items, a_handler, some_limits, a_bound, some_braced, after_first, an_alternative, after_weight, more_alternatives, more_traces, some_groups, more_groups, more_names, a_type, a_ref, a_range, a_step, a_figure, a_digits, a_list, a_first, some_parameters, declarations, a_trace, names, a_group, groups, a_meaning, a_macro, sequence_of, begin_exp, begin_item, begin_argument, begin_alternative, begins_item, right_side_low, unary_goal, if_goal}
-use Rattle.lt_parser.proofs.Complete.{spelled_is_read}
+use Rattle.lt_grammar.specs.Grammar.{IsNoWeight, opened, MayOpen, whole, item, DerivesNames, DerivesMoreNames, DerivesFigure, DerivesRange, DerivesStep, DerivesRef, DerivesExp, DerivesArgument, DerivesArguments, DerivesMoreArguments, DerivesBraced, DerivesMoreAlternatives, DerivesAlternative, DerivesMoreTraces, DerivesLimits, DerivesBound, DerivesGrouping, DerivesFirst, DerivesGroups, DerivesMoreGroups, DerivesParameters, DerivesMeaning, DerivesMacro, DerivesTrace, DerivesMoreItems, DerivesHandler, Means, DerivesMoreExpressions, DerivesExpressions, DerivesRun, DerivesRuns, DerivesDeclaration, SpellsWithin, SpellsExpressionWithin}
+use Rattle.lt_parser.specs.inner.Reading.{Goal, Tree, program_tree, expression_tree, ReadIsSpelled, too_deep, Move, stuck, next, opens, Stop, outcome, onward, step, finish, extend, operand, allowed, top, cap, nothing_more, done, expression_done, whole_exp, a_sign, a_name, an_exp, more_exp, a_right_side, after_name, some_arguments, more_arguments, an_argument, an_item, more_items, a_handler, some_limits, a_bound, some_braced, after_first, an_alternative, after_weight, more_alternatives, more_traces, some_groups, more_groups, more_names, a_type, a_ref, a_range, a_step, a_figure, a_digits, a_list, a_first, some_parameters, some_expressions, more_expressions, some_runs, run_goal, declarations, a_trace, names, a_group, groups, a_meaning, a_macro, sequence_of, begin_exp, begin_item, begin_argument, begin_alternative, begins_item, right_side_low, unary_goal, if_goal}
+use Rattle.lt_parser.proofs.Complete.{spelled_is_read, expression_is_read}
 use Rattle.lt_parser.proofs.Skips.{Heads}
 use Rattle.lt_parser.proofs.Operators.{looser}
 use Rattle.lt_parser.proofs.Begins.{same_first, no_not, none_some, no_item_begins, exp_begins}
@@ -32,7 +32,7 @@ DerivesAll most ts (x ∷ xs) rest = (m : Lexemes) × DerivesDeclaration most ts
 
 -- The tokens are what is wanted, to the end.
 abbrev pub Accepts : ℕ → Goal → Lexemes → Type 0
-Accepts most (done xs) ts = ts ≡ []
+Accepts most (nothing_more x) ts = ts ≡ []
 Accepts most (a_sign wanted k) ts = (w : List ℕ) × (p : Span) × (m : Lexemes) × (ts ≡ lexeme wanted w p ∷ m) × Accepts most (k p) m
 Accepts most (a_name k) ts = (n : Word) × (m : Lexemes) × (ts ≡ lexeme t.Name n.text n.span ∷ m) × Accepts most (k n) m
 Accepts most (an_exp d low k) ts = (e : Exp) × (m : Lexemes) × Stands low e × DerivesExp most d ts e m × Heads (λ op. rank op < low) m × Accepts most (k e) m
@@ -69,6 +69,9 @@ Accepts most (a_list d k) ts =
     (w : List ℕ) × (p : Span) × (n : Lexemes) × (ts ≡ lexeme t.Open w p ∷ n) × (suc d ≤ most) × (x : Groupings) × (m : Lexemes) × DerivesGroups most (suc d) t.Close n x m × Accepts most (k x) m
 Accepts most (a_first d k) ts = (x : MaybeExp) × (m : Lexemes) × DerivesFirst most d ts x m × Accepts most (k x) m
 Accepts most (some_parameters d k) ts = (x : Parameters) × (m : Lexemes) × DerivesParameters most d ts x m × Accepts most (k x) m
+Accepts most (some_expressions d k) ts = (x : List Exp) × (m : Lexemes) × DerivesExpressions most d ts x m × Accepts most (k x) m
+Accepts most (more_expressions d k) ts = (x : List Exp) × (m : Lexemes) × DerivesMoreExpressions most d ts x m × Accepts most (k x) m
+Accepts most (some_runs d k) ts = (x : List Run) × (y : Trace) × (m : Lexemes) × DerivesRuns most d ts x y m × Accepts most (k x y) m
 Accepts most (declarations k) ts = (x : List Declaration) × (m : Lexemes) × DerivesAll most ts x m × Accepts most (k x) m
 
 -- What is left after a token is accepted, where the level that it opens may be opened.
@@ -148,6 +151,39 @@ macro_accepts most d k ts a =
       z.1,
       (a.1, a.2, c.0, c.1, y.1, y.2, q.0, q.1, q.2, subst (λ l. DerivesParameters most d a.1 ps.0 l) (c.3 ∙ ap (λ l. lexeme t.Colon c.0 c.1 ∷ l) (y.4 ∙ ap (λ l. lexeme (type_sign y.0) y.1 y.2 ∷ l) q.3)) ps.2, z.2, z.3),
       z.4,
+    )
+
+run_accepts : (most d : ℕ) (at : Span) (w : List ℕ) (k : Run → Goal) (ts : Lexemes) → suc (suc d) ≤ most → Accepts most (run_goal (suc (suc d)) at k) ts
+    → (r : Run) × (m : Lexemes) × DerivesRun most d (lexeme t.Run w at ∷ ts) r m × Accepts most (k r) m
+run_accepts most d at w k ts l a =
+    let a_run : List Word → Word → List Exp → Span → Run = λ ns n es q. record { names = ns; node = n; arguments = es; span = across at q } in
+    let ns = names_accept most (λ ns'. a_sign t.Assign (λ p. a_name (λ n. a_sign t.Open (λ o. some_expressions (suc (suc d)) (λ es. a_sign t.In (λ q. k (a_run ns' n es q))))))) ts a in
+    let c = ns.3 in
+    let n = c.4 in
+    let o = n.3 in
+    let es = o.4 in
+    let q = es.3 in (
+      a_run ns.0 n.0 es.0 q.1,
+      q.2,
+      (
+        w,
+        at,
+        ts,
+        refl,
+        omega (arith, l),
+        c.0,
+        c.1,
+        o.0,
+        o.1,
+        o.2,
+        subst (λ r. DerivesNames ts ns.0 r) (c.3 ∙ ap (λ r. lexeme t.Assign c.0 c.1 ∷ r) (n.2 ∙ ap (λ r. lexeme t.Name n.0.text n.0.span ∷ r) o.3)) ns.2,
+        l,
+        q.0,
+        q.1,
+        subst (λ r. DerivesExpressions most (suc (suc d)) o.2 es.0 r) q.3 es.2,
+        refl,
+      ),
+      q.4,
     )
 
 -- EXPRESSIONS
@@ -504,7 +540,7 @@ from_sign wanted sign true e most goal w at ts a = ((λ i. lexeme (sym (same_tru
 from_sign wanted sign false e most goal w at ts a = absurd a
 
 pub back : (g : Goal) (most : ℕ) (sign : Sign) (w : List ℕ) (at : Span) (ts : Lexemes) → Accepted most (step g sign w at) ts → Accepts most g (lexeme sign w at ∷ ts)
-back (done xs) most sign w at ts a = absurd a
+back (nothing_more x) most sign w at ts a = absurd a
 back (a_sign wanted k) most sign w at ts a = let b' = from_sign wanted sign (sameb the_type wanted sign) refl most (k at) w at ts a in (w, at, ts, b'.0, b'.1)
 back (a_name k) most t.Name w at ts a = (record { text = w; span = at }, ts, refl, a)
 back (a_name k) most sign w at ts a = absurd a
@@ -626,17 +662,33 @@ back (a_first d k) most t.Equal w at ts a = (s.an_exp a.0, a.1, (w, at, ts, refl
 back (a_first d k) most sign w at ts a = (s.no_exp, lexeme sign w at ∷ ts, (refl, not_first_by t.Equal sign w at ts refl), back (k s.no_exp) most sign w at ts a)
 back (some_parameters d k) most t.Open w at ts a = let x = a.1 in (s.parameters x.0, x.1, (w, at, ts, refl, a.0, x.2), x.3)
 back (some_parameters d k) most sign w at ts a = (s.no_parameters, lexeme sign w at ∷ ts, (refl, not_first_by t.Open sign w at ts refl), back (k s.no_parameters) most sign w at ts a)
+back (some_expressions d k) most t.Close w at ts a = ([], ts, (w, at, refl), a)
+back (some_expressions d k) most sign w at ts a =
+    let e = from_exp most d 0 (λ e'. more_expressions d (λ es. k (e' ∷ es))) sign w at ts a in
+    let m = e.5 in
+    (e.0 ∷ m.0, m.1, (e.1, e.3, m.2), m.3)
+back (more_expressions d k) most t.Close w at ts a = ([], ts, (w, at, refl), a)
+back (more_expressions d k) most t.Comma w at ts a = let m = a.5 in (a.0 ∷ m.0, m.1, (w, at, ts, refl, a.1, a.3, m.2), m.3)
+back (more_expressions d k) most sign w at ts a = absurd a
+back (some_runs d k) most t.Run w at ts a =
+    let r = run_accepts most d at w (λ r'. some_runs (suc d) (λ rs x. k (r' ∷ rs) x)) ts a.0 a.1 in
+    let z = r.3 in
+    (r.0 ∷ z.0, z.1, z.2, (r.1, r.2, z.3), z.4)
+back (some_runs d k) most sign w at ts a =
+    let x = from_item most d (λ y. more_items d (λ ys. k [] (sequence_of y ys))) sign w at ts a in
+    let m = x.3 in
+    ([], sequence_of x.0 m.0, m.1, trace_made x.0 m.0 most d (lexeme sign w at ∷ ts) x.1 m.1 x.2 m.2, m.3)
 back (declarations k) most t.Node w at ts a =
     let ins = a.3 in
     let r = ins.8 in
     let outs = r.4 in
     let q = outs.8 in
-    let y = a_trace_accepts most 0 (λ x. declarations (λ xs. k (s.node a.0 ins.5 outs.5 x ∷ xs))) q.2 q.4 in
-    let z = y.accepted in (
-      s.node a.0 ins.5 outs.5 y.trace ∷ z.0,
+    let y = q.4 in
+    let z = y.4 in (
+      s.node a.0 ins.5 outs.5 y.0 y.1 ∷ z.0,
       z.1,
       (
-        y.rest,
+        y.2,
         (
           w,
           at,
@@ -655,7 +707,7 @@ back (declarations k) most t.Node w at ts a =
           q.1,
           q.2,
           subst (λ l. DerivesGroups most 1 t.Close outs.2 outs.5 l) q.3 outs.7,
-          y.derived,
+          y.3,
         ),
         z.2,
       ),
@@ -676,8 +728,8 @@ back (declarations k) most sign w at ts a = ([], lexeme sign w at ∷ ts, refl, 
 none : (wanted : Sign) → IsNotFirst wanted []
 none wanted = λ w at m e. cc
 
-finished : (g : Goal) (most : ℕ) (x : List Declaration) → finish g ≡ Ok x → Accepts most g []
-finished (done xs) most x e = refl
+finished : (g : Goal) (most : ℕ) (x : Tree) → finish g ≡ Ok x → Accepts most g []
+finished (nothing_more y) most x e = refl
 finished (more_exp d low y k) most x e = (y, [], (λ start st dx. (st, dx)), (λ op sign w at m q. cc), finished (k y) most x e)
 finished (after_name d n k) most x e = (s.named n, [], (λ low. tt), (refl, none t.Open), finished (k (s.named n)) most x e)
 finished (more_items d k) most x e = (s.no_traces, [], (refl, none t.Fby), finished (k s.no_traces) most x e)
@@ -694,18 +746,18 @@ finished (declarations k) most x e = ([], [], refl, finished (k []) most x e)
 finished g most x e = cc
 
 -- What is read is accepted.
-read_open : (most d : ℕ) (goal : Goal) (us : Lexemes) (x : List Declaration) (b' : Bool) → nat_le d most ≡ b' → ((g : Goal) → outcome most g us ≡ Ok x → Accepts most g us)
+read_open : (most d : ℕ) (goal : Goal) (us : Lexemes) (x : Tree) (b' : Bool) → nat_le d most ≡ b' → ((g : Goal) → outcome most g us ≡ Ok x → Accepts most g us)
     → (if b' then outcome most goal us else Err (too_deep (suc (length us)))) ≡ Ok x → (d ≤ most) × Accepts most goal us
 read_open most d goal us x true q ih e = (leb-true d most q, ih goal e)
 read_open most d goal us x false q ih e = cc
 
-read_step : (most : ℕ) (answer : Move) (us : Lexemes) (x : List Declaration) → ((g : Goal) → outcome most g us ≡ Ok x → Accepts most g us)
+read_step : (most : ℕ) (answer : Move) (us : Lexemes) (x : Tree) → ((g : Goal) → outcome most g us ≡ Ok x → Accepts most g us)
     → onward most answer (length us) (λ goal. outcome most goal us) ≡ Ok x → Accepted most answer us
 read_step most stuck us x ih e = cc
 read_step most (next goal) us x ih e = ih goal e
 read_step most (opens d goal) us x ih e = read_open most d goal us x (nat_le d most) refl ih e
 
-pub read_is_accepted : (ts : Lexemes) (most : ℕ) (x : List Declaration) (g : Goal) → outcome most g ts ≡ Ok x → Accepts most g ts
+pub read_is_accepted : (ts : Lexemes) (most : ℕ) (x : Tree) (g : Goal) → outcome most g ts ≡ Ok x → Accepts most g ts
 read_is_accepted [] most x g e = finished g most x e
 read_is_accepted (lexeme sign w at ∷ us) most x g e = back g most sign w at us (read_step most (step g sign w at) us x (λ g' e'. read_is_accepted us most x g' e') e)
 
@@ -716,9 +768,19 @@ all_spelled (x ∷ xs) most ts a = (a.0, a.1, all_spelled xs most a.0 a.2)
 pub accepted_is_spelled : (most : ℕ) (ts : Lexemes) → Accepts most (declarations done) ts → (x : List Declaration) × SpellsWithin most ts x
 accepted_is_spelled most ts a = (a.0, all_spelled a.0 most ts (subst (λ l. DerivesAll most ts a.0 l) a.3 a.2))
 
-pub read_is_spelled : ReadIsSpelled
+pub read_is_spelled : ReadIsSpelled SpellsWithin program_tree (declarations done)
 read_is_spelled = λ most ts x e.
-    let a = accepted_is_spelled most ts (read_is_accepted ts most x (declarations done) e) in
-    let q : ◌≡◌ {A = Result (List Declaration) Stop} (Ok a.0) (Ok x) = sym (spelled_is_read a.0 most ts a.1) ∙ e in
+    let a = accepted_is_spelled most ts (read_is_accepted ts most (program_tree x) (declarations done) e) in
+    let q : ◌≡◌ {A = Result Tree Stop} (Ok (program_tree a.0)) (Ok (program_tree x)) = sym (spelled_is_read a.0 most ts a.1) ∙ e in
     let same : a.0 ≡ x = cc in
     subst (λ y. SpellsWithin most ts y) same a.1
+
+pub accepted_is_expression : (most : ℕ) (ts : Lexemes) → Accepts most (whole_exp expression_done) ts → (e : Exp) × SpellsExpressionWithin most ts e
+accepted_is_expression most ts a = (a.0, subst (λ l. DerivesExp most 0 ts a.0 l) a.5 a.3)
+
+pub read_is_expression : ReadIsSpelled SpellsExpressionWithin expression_tree (whole_exp expression_done)
+read_is_expression = λ most ts x e.
+    let a = accepted_is_expression most ts (read_is_accepted ts most (expression_tree x) (whole_exp expression_done) e) in
+    let q : ◌≡◌ {A = Result Tree Stop} (Ok (expression_tree a.0)) (Ok (expression_tree x)) = sym (expression_is_read a.0 most ts a.1) ∙ e in
+    let same : a.0 ≡ x = cc in
+    subst (λ y. SpellsExpressionWithin most ts y) same a.1

@@ -21,11 +21,11 @@ use Rattle.lt_parser.specs.declared.refusal.Refusal.TheVariants as r
 use Rattle.lt_lexer.specs.Source.{lexeme_span}
 use Rattle.lt_lexer.specs.declared.lexeme.Lexeme.{Lexeme as Token}
 use Rattle.lt_parser.specs.inner.Parsing.{ReadsTo, Refused}
-use Rattle.lt_parser.specs.Lexemes.{Lexemes, lexeme, IsNotFirst}
+use Rattle.lt_grammar.specs.Lexemes.{Lexemes, lexeme, IsNotFirst}
 use Rattle.lt_parser.specs.inner.Tokens.{lexemes, Begins}
 use Rattle.lt_parser.specs.inner.Onto.{onto, words_onto}
 use Rattle.lt_parser.specs.inner.Reading.{Goal, a_list, an_item, value_goal, unexpected, too_deep, outcome, onward, next, stuck, a_sign, a_right_side, an_exp, a_trace, more_arguments, more_alternatives, more_traces, more_groups, some_groups, groups, some_arguments, an_argument, some_braced, after_first}
-use Rattle.lt_parser.specs.Nesting.{most_levels}
+use Rattle.lt_grammar.specs.Nesting.{most_levels}
 
 same_sign : (a b : Sign) → sameb the_type a b ≡ true → a ≡ b
 same_sign a b e = same_true the_type (search rules) a b e

@@ -11,14 +11,14 @@ use Rattle.lt_ast.specs.declared.expr.UnOp.TheVariants as u
 use Rattle.lt_ast.specs.declared.expr.BinOp.{BinOp}
 use Rattle.lt_ast.specs.declared.expr.BinOp.TheVariants as b
 use Rattle.lt_ast.specs.Syntax as s
-use Rattle.lt_ast.specs.Syntax.{Word, Figure, WrittenRange, Exp, Argument, Arguments, Limits, Braces, Alternative, Alternatives, Trace, Traces, Grouping, Groupings, MaybeExp, MaybeTrace, Parameters, Meaning, Macro, Declaration}
-use Rattle.lt_parser.specs.Lexemes.{Lexemes, lexeme, IsNotFirst}
-use Rattle.lt_parser.specs.Precedence.{rank, operator}
+use Rattle.lt_ast.specs.Syntax.{Word, Figure, WrittenRange, Exp, Argument, Arguments, Limits, Braces, Alternative, Alternatives, Trace, Traces, Grouping, Groupings, MaybeExp, MaybeTrace, Parameters, Meaning, Macro, Run, Declaration}
+use Rattle.lt_grammar.specs.Lexemes.{Lexemes, lexeme, IsNotFirst}
+use Rattle.lt_grammar.specs.Precedence.{rank, operator}
 use Rattle.lt_ast.specs.Places.{across, span_of}
 use Rattle.lt_parser.proofs.Skips.{Heads}
 use Rattle.lt_parser.proofs.Begins.{same_first, none_some, closed}
 use Rattle.lt_parser.proofs.Sound.{Accepts, not_first_by}
-use Rattle.lt_parser.specs.inner.Reading.{Goal, Move, stuck, next, opens, step, extend, operand, allowed, top, done, a_sign, a_name, an_exp, more_exp, a_right_side, after_name, some_arguments, more_arguments, an_argument, an_item, more_items, a_handler, some_limits, a_bound, some_braced, after_first, an_alternative, after_weight, more_alternatives, more_traces, some_groups, more_groups, more_names, a_type, a_ref, a_range, a_step, a_figure, a_digits, a_list, a_first, some_parameters, declarations, a_trace, after_group_name, groups, a_meaning, a_macro, sequence_of, begin_exp, begin_item, begin_argument, begin_alternative, begins_item, right_side_low, unary_goal, if_goal}
+use Rattle.lt_parser.specs.inner.Reading.{Goal, Move, stuck, next, opens, step, extend, operand, allowed, top, nothing_more, a_sign, a_name, an_exp, more_exp, a_right_side, after_name, some_arguments, more_arguments, an_argument, an_item, more_items, a_handler, some_limits, a_bound, some_braced, after_first, an_alternative, after_weight, more_alternatives, more_traces, some_groups, more_groups, more_names, a_type, a_ref, a_range, a_step, a_figure, a_digits, a_list, a_first, some_parameters, some_expressions, more_expressions, some_runs, declarations, a_trace, after_group_name, groups, a_meaning, a_macro, sequence_of, begin_exp, begin_item, begin_argument, begin_alternative, begins_item, right_side_low, unary_goal, if_goal}
 
 abbrev pub here : Span
 here = record { start = 0; end = 0 }
@@ -31,7 +31,7 @@ some_figure = record { minus = false; text = []; span = record { start = 0; end 
 
 -- the sign that the shortest tokens for a want begin with, if any
 abbrev pub head : Goal → Option Sign
-head (done xs) = None
+head (nothing_more x) = None
 head (a_sign wanted k) = Some wanted
 head (a_name k) = Some t.Name
 head (an_exp d low k) = Some t.Number
@@ -64,6 +64,9 @@ head (a_digits p k) = Some t.Number
 head (a_list d k) = Some t.Open
 head (a_first d k) = head (k s.no_exp)
 head (some_parameters d k) = head (k s.no_parameters)
+head (some_expressions d k) = Some t.Close
+head (more_expressions d k) = Some t.Close
+head (some_runs d k) = Some t.Number
 head (declarations k) = head (k [])
 
 -- what may come after an expression, after a trace, after a group, and after names
@@ -94,6 +97,7 @@ abbrev pub after_names : Option Sign → Bool
 after_names None = true
 after_names (Some t.In) = true
 after_names (Some t.Colon) = true
+after_names (Some t.Assign) = true
 after_names sign = false
 
 abbrev pub is_colon : Option Sign → Bool
@@ -106,7 +110,7 @@ is_number sign = false
 
 -- After each want comes what may come there.
 abbrev pub Tidy : Goal → Type 0
-Tidy (done xs) = Unit {0}
+Tidy (nothing_more x) = Unit {0}
 Tidy (a_sign wanted k) = (p : Span) → Tidy (k p)
 Tidy (a_name k) = (n : Word) → Tidy (k n)
 Tidy (an_exp d low k) = (e : Exp) → Tidy (k e) × (after_exp (head (k e)) ≡ true)
@@ -139,6 +143,9 @@ Tidy (a_digits p k) = (x : Figure) → Tidy (k x)
 Tidy (a_list d k) = (d ≡ 0) × ((x : Groupings) → Tidy (k x))
 Tidy (a_first d k) = (x : MaybeExp) → Tidy (k x) × (after_group (head (k x)) ≡ true)
 Tidy (some_parameters d k) = (x : Parameters) → Tidy (k x) × (is_colon (head (k x)) ≡ true)
+Tidy (some_expressions d k) = (x : List Exp) → Tidy (k x)
+Tidy (more_expressions d k) = (x : List Exp) → Tidy (k x)
+Tidy (some_runs d k) = (x : List Run) (y : Trace) → Tidy (k x y) × (after_trace (head (k x y)) ≡ true)
 Tidy (declarations k) = (x : List Declaration) → Tidy (k x) × (head (k x) ≡ None)
 
 abbrev pub TidyMove : Move → Type 0
@@ -255,7 +262,7 @@ tidy_extend (Some op) d low x k skip h g =
     (tidy_operand op d (λ y. more_exp d low (s.binary op x y (across (span_of x) (span_of y))) k) (λ y. (h, (h (s.binary op x y (across (span_of x) (span_of y)))).1))) tt)
 
 pub tidy_step : (g : Goal) (sign : Sign) (w : List ℕ) (at : Span) → Tidy g → TidyMove (step g sign w at)
-tidy_step (done xs) sign w at h = tt
+tidy_step (nothing_more x) sign w at h = tt
 tidy_step (a_sign wanted k) sign w at h = tidy_if (sameb the_type wanted sign) (next (k at)) stuck (h at) tt
 tidy_step (a_name k) t.Name w at h = h (record { text = w; span = at })
 tidy_step (a_name k) sign w at h = tt
@@ -336,13 +343,21 @@ tidy_step (a_first d k) t.Equal w at h = λ e. ((h (s.an_exp e)).0, group_exp (h
 tidy_step (a_first d k) sign w at h = tidy_step (k s.no_exp) sign w at (h s.no_exp).0
 tidy_step (some_parameters d k) t.Open w at h = λ gs. (h (s.parameters gs)).0
 tidy_step (some_parameters d k) sign w at h = tidy_step (k s.no_parameters) sign w at (h s.no_parameters).0
+tidy_step (some_expressions d k) t.Close w at h = h []
+tidy_step (some_expressions d k) sign w at h = tidy_exp d 0 (λ e. more_expressions d (λ es. k (e ∷ es))) (λ e. ((λ es. h (e ∷ es)), refl)) sign w at
+tidy_step (more_expressions d k) t.Close w at h = h []
+tidy_step (more_expressions d k) t.Comma w at h = λ e. ((λ es. h (e ∷ es)), refl)
+tidy_step (more_expressions d k) sign w at h = tt
+tidy_step (some_runs d k) t.Run w at h =
+    λ n ns. ((λ p n' o es q rs x. h (record { names = n ∷ ns; node = n'; arguments = es; span = across at q } ∷ rs) x), refl)
+tidy_step (some_runs d k) sign w at h =
+    tidy_item d (λ x. more_items d (λ xs. k [] (sequence_of x xs))) (λ x. ((λ xs. h [] (sequence_of x xs)), (h [] x).1)) sign w at
 tidy_step (declarations k) t.Node w at h =
     λ n. (
       refl,
       (λ ins p. (
         refl,
-        (λ outs q.
-            tidy_trace 0 (λ x. declarations (λ xs. k (s.node n ins outs x ∷ xs))) (λ x. ((λ xs. h (s.node n ins outs x ∷ xs)), none_trace (head (k (s.node n ins outs x ∷ []))) (h (s.node n ins outs x ∷ [])).1))),
+        (λ outs q rs x. ((λ xs. h (s.node n ins outs rs x ∷ xs)), none_trace (head (k (s.node n ins outs rs x ∷ []))) (h (s.node n ins outs rs x ∷ [])).1)),
       )),
     )
 tidy_step (declarations k) t.Let w at h =
@@ -354,7 +369,7 @@ tidy_step (declarations k) sign w at h = tidy_step (k []) sign w at (h []).0
 -- TOKENS THAT END IT
 
 abbrev pub words : Goal → Lexemes
-words (done xs) = []
+words (nothing_more x) = []
 words (a_sign wanted k) = lexeme wanted [] here ∷ words (k here)
 words (a_name k) = lexeme t.Name [] here ∷ words (k some_word)
 words (an_exp d low k) = lexeme t.Number [] here ∷ words (k (s.number some_figure))
@@ -387,6 +402,9 @@ words (a_digits p k) = lexeme t.Number [] here ∷ words (k (record { minus = tr
 words (a_list d k) = lexeme t.Open [] here ∷ (lexeme t.Close [] here ∷ words (k s.no_groups))
 words (a_first d k) = words (k s.no_exp)
 words (some_parameters d k) = words (k s.no_parameters)
+words (some_expressions d k) = lexeme t.Close [] here ∷ words (k [])
+words (more_expressions d k) = lexeme t.Close [] here ∷ words (k [])
+words (some_runs d k) = lexeme t.Number [] here ∷ words (k [] (s.value (s.number some_figure)))
 words (declarations k) = words (k [])
 
 abbrev FirstIs : Option Sign → Lexemes → Type 0
@@ -394,7 +412,7 @@ FirstIs None ts = ts ≡ []
 FirstIs (Some sign) ts = (w : List ℕ) × (p : Span) × (m : Lexemes) × (ts ≡ lexeme sign w p ∷ m)
 
 first_words : (g : Goal) → FirstIs (head g) (words g)
-first_words (done xs) = refl
+first_words (nothing_more x) = refl
 first_words (a_sign wanted k) = ([], here, words (k here), refl)
 first_words (a_name k) = ([], here, words (k some_word), refl)
 first_words (an_exp d low k) = ([], here, words (k (s.number some_figure)), refl)
@@ -427,6 +445,9 @@ first_words (a_digits p k) = ([], here, words (k (record { minus = true; text = 
 first_words (a_list d k) = ([], here, (lexeme t.Close [] here ∷ words (k s.no_groups)), refl)
 first_words (a_first d k) = first_words (k s.no_exp)
 first_words (some_parameters d k) = first_words (k s.no_parameters)
+first_words (some_expressions d k) = ([], here, words (k []), refl)
+first_words (more_expressions d k) = ([], here, words (k []), refl)
+first_words (some_runs d k) = ([], here, words (k [] (s.value (s.number some_figure))), refl)
 first_words (declarations k) = first_words (k [])
 
 empty_front : (w : List ℕ) (p : Span) (m : Lexemes) (sign : Sign) → ◌≡◌ {A = Lexemes} [] (lexeme sign w p ∷ m) → ⊥
@@ -473,7 +494,7 @@ not_bracket : (h : Option Sign) → h ≡ Some t.CloseBracket → h ≡ Some t.S
 not_bracket h e r = cc
 
 pub completes : (g : Goal) (most : ℕ) → 1 ≤ most → Tidy g → Accepts most g (words g)
-completes (done xs) most le h = refl
+completes (nothing_more x) most le h = refl
 completes (a_sign wanted k) most le h = ([], here, words (k here), refl, completes (k here) most le (h here))
 completes (a_name k) most le h = (some_word, words (k some_word), refl, completes (k some_word) most le (h some_word))
 completes (an_exp d low k) most le h =
@@ -531,4 +552,16 @@ completes (a_first d k) most le h =
     let x = s.no_exp in (x, words (k x), (refl, not_in (head (k x)) t.Equal (words (k x)) (first_words (k x)) (not_group (head (k x)) t.Equal refl (h x).1)), completes (k x) most le (h x).0)
 completes (some_parameters d k) most le h =
     let x = s.no_parameters in (x, words (k x), (refl, not_in (head (k x)) t.Open (words (k x)) (first_words (k x)) (not_colon (head (k x)) t.Open refl (h x).1)), completes (k x) most le (h x).0)
+completes (some_expressions d k) most le h = ([], words (k []), ([], here, refl), completes (k []) most le (h []))
+completes (more_expressions d k) most le h = ([], words (k []), ([], here, refl), completes (k []) most le (h []))
+completes (some_runs d k) most le h =
+    let x = s.value (s.number some_figure) in
+    let f = first_words (k [] x) in
+    let t' = (h [] x).1 in (
+      [],
+      x,
+      words (k [] x),
+      ((refl, refl), exp_heads (λ op. ⊥) (head (k [] x)) (words (k [] x)) f (trace_exp (head (k [] x)) t'), not_in (head (k [] x)) t.Fby (words (k [] x)) f (not_trace (head (k [] x)) t.Fby refl t')),
+      completes (k [] x) most le (h [] x).0,
+    )
 completes (declarations k) most le h = ([], words (k []), refl, completes (k []) most le (h []).0)

@@ -3,9 +3,9 @@
 ghost use Rattle.std.specs.Prelude.{◌≡◌, ◌<◌, ◌≤◌, suc, Bool, length, nat_le, true, false, IfOk, MatchOption, MatchResult};
 ghost use Rattle.lt_ast.specs.View.{figure, word, words, written_range, written_step};
 ghost use Rattle.lt_lexer.specs.Source.{lexeme_span};
-ghost use Rattle.lt_parser.specs.Nesting.{most_levels};
+ghost use Rattle.lt_grammar.specs.Nesting.{most_levels};
 ghost use Rattle.lt_parser.specs.inner.Parsing.{ReadsAs};
-ghost use Rattle.lt_parser.specs.Lexemes.{IsNotFirst};
+ghost use Rattle.lt_grammar.specs.Lexemes.{IsNotFirst};
 ghost use Rattle.lt_parser.specs.inner.Tokens.{Begins, lexemes};
 ghost use Rattle.lt_parser.specs.inner.Reading.{Goal, a_digits, a_figure, a_name, a_range, a_ref, a_sign, a_step, a_type, outcome};
 ghost use Rattle.lt_parser.specs.inner.Reading as reading;

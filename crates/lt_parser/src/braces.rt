@@ -4,7 +4,7 @@ ghost use Rattle.std.specs.Prelude.{◌≢◌, ◌<◌, ◌≤◌, length, IfOk}
 ghost use Rattle.lt_ast.specs.inner.Rows.{weighed};
 ghost use Rattle.lt_ast.specs.Syntax as syntax;
 ghost use Rattle.lt_ast.specs.View.{braced, trace};
-ghost use Rattle.lt_parser.specs.Nesting.{most_levels};
+ghost use Rattle.lt_grammar.specs.Nesting.{most_levels};
 ghost use Rattle.lt_parser.specs.inner.Parsing.{BeginsItem, ReadsAs, ReadsTo};
 ghost use Rattle.lt_parser.specs.inner.Tokens.{lexemes};
 ghost use Rattle.lt_parser.specs.inner.Onto.{choice_after, parallel_after, plain_after, priority_after, traces_after, traces_onto};

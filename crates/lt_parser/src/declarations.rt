@@ -11,7 +11,7 @@ ghost use Rattle.lt_parser.specs.inner.Reading.{a_list, node_goal};
 use crate::atoms::{Parsed, after, expect, parse_name, parse_names};
 use crate::groups::{parse_listed_groups, parse_macro};
 use crate::refusal::Refusal;
-use crate::traces::parse_trace;
+use crate::runs::parse_runs;
 use lt_ast::{Decl, Groups, NodeDecl, Program, Sign};
 use lt_lexer::Lexeme;
 use std::alloc::Global;
@@ -72,12 +72,13 @@ fn parse_node<'a>(alloc: Global, tokens: &'a [Lexeme<'a>]) -> Parsed<'a, NodeDec
     let (_, rest) = expect(rest, Sign::Returns)?;
     let (outputs, rest) = parse_group_list(alloc, rest)?;
     let (_, rest) = expect(rest, Sign::Equal)?;
-    let (body, rest) = parse_trace(alloc, 0, rest)?;
+    let (runs, body, rest) = parse_runs(alloc, rest)?;
     Ok((
         NodeDecl {
             name,
             inputs,
             outputs,
+            runs,
             body,
         },
         rest,

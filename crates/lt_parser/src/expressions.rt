@@ -3,8 +3,8 @@
 ghost use Rattle.std.specs.Prelude.{◌≡◌, ◌<◌, ◌≤◌, suc, length, IfOk, MatchOption};
 ghost use Rattle.lt_ast.specs.Syntax as syntax;
 ghost use Rattle.lt_ast.specs.View.{argument, exp, word};
-ghost use Rattle.lt_parser.specs.Nesting.{most_levels};
-ghost use Rattle.lt_parser.specs.inner.Parsing.{ReadsAs, ReadsTo, IsExtended, IsNotExtended, OperandReadsAs};
+ghost use Rattle.lt_grammar.specs.Nesting.{most_levels};
+ghost use Rattle.lt_parser.specs.inner.Parsing.{ExpressionReadsAs, ReadsAs, ReadsTo, IsExtended, IsNotExtended, OperandReadsAs};
 ghost use Rattle.lt_ast.specs.Places.{across, span_of};
 ghost use Rattle.lt_parser.specs.inner.Tokens.{lexemes};
 ghost use Rattle.lt_parser.specs.inner.Onto.{arguments_onto};
@@ -17,6 +17,17 @@ use crate::refusal::Refusal;
 use lt_ast::{Arg, Args, BinOp, Expr, Name, Operands, Sign, Span, UnOp};
 use lt_lexer::Lexeme;
 use std::alloc::{AllocError, Global};
+
+/// An expression up to the end of the tokens.
+pub(crate) fn parse_whole_expr<'a>(alloc: Global, tokens: &'a [Lexeme<'a>]) -> Result<Expr, Refusal>
+    ensures { ExpressionReadsAs (lexemes tokens.now) result }
+{
+    let (found, rest) = parse_expr(alloc, 0, 0, tokens)?;
+    if rest.is_empty() {
+        return Ok(found);
+    }
+    Err(Refusal::Unexpected(rest.len()))
+}
 
 /// An expression that binds at least so tightly.
 #[cycle(parser)]

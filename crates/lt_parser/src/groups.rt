@@ -3,7 +3,7 @@
 ghost use Rattle.std.specs.Prelude.{◌<◌, ◌≤◌, length, IfOk};
 ghost use Rattle.lt_ast.specs.inner.Rows.{group_of, maybe_exp};
 ghost use Rattle.lt_ast.specs.View.{groupings, macro, meaning};
-ghost use Rattle.lt_parser.specs.Nesting.{most_levels};
+ghost use Rattle.lt_grammar.specs.Nesting.{most_levels};
 ghost use Rattle.lt_parser.specs.inner.Parsing.{ReadsAs, parameters_of};
 ghost use Rattle.lt_parser.specs.inner.Tokens.{lexemes};
 ghost use Rattle.lt_parser.specs.inner.Reading.{a_first, a_group, a_macro, a_meaning, some_groups, some_parameters};

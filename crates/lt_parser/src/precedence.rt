@@ -2,7 +2,7 @@
 
 ghost use Rattle.std.specs.Prelude.{◌≡◌};
 ghost use Rattle.lt_ast.specs.View.{exp};
-ghost use Rattle.lt_parser.specs.Precedence as precedence;
+ghost use Rattle.lt_grammar.specs.Precedence as precedence;
 ghost use Rattle.lt_parser.specs.inner.Reading as reading;
 
 use lt_ast::{BinOp, Expr, Sign, UnOp};

@@ -5,9 +5,9 @@
 
 ghost use Rattle.std.specs.Prelude.{◌≡◌, ◌≤◌, ◌-◌, ◌⊎◌, ◌++◌, length, map, take, IfErr, IfOk, OnOk, string_bytes};
 ghost use Rattle.lt_ast.specs.Printed.{line, spaced, spaced_token};
-ghost use Rattle.lt_parser.specs.PrintedText.{IsPrintOf};
+ghost use Rattle.lt_grammar.specs.PrintedText.{IsPrintOf};
 ghost use Rattle.lt_parser.specs.Text.{IsRefusal};
-ghost use Rattle.lt_parser.specs.Written.{written_of};
+ghost use Rattle.lt_grammar.specs.Written.{written_of};
 ghost use Rattle.lt_parser.specs.inner.Printing.{PrintsAs};
 ghost use Rattle.lt_parser.specs.inner.Tokens.{lexeme_of, lexemes};
 ghost use Rattle.lt_parser.specs.declared.refusal.ParseRefusal.{ParseRefusal};

@@ -4,7 +4,7 @@ ghost use Rattle.std.specs.Prelude.{◌<◌, ◌≤◌, length, IfOk};
 ghost use Rattle.lt_ast.specs.inner.Rows.{maybe_trace};
 ghost use Rattle.lt_ast.specs.Syntax as syntax;
 ghost use Rattle.lt_ast.specs.View.{exp, limits, trace};
-ghost use Rattle.lt_parser.specs.Nesting.{most_levels};
+ghost use Rattle.lt_grammar.specs.Nesting.{most_levels};
 ghost use Rattle.lt_parser.specs.inner.Parsing.{ReadsAs, guard_goal};
 ghost use Rattle.lt_parser.specs.inner.Tokens.{lexemes};
 ghost use Rattle.lt_parser.specs.inner.Onto.{items_after};

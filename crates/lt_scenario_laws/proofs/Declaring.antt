@@ -1,17 +1,18 @@
 -- The variables of what a program's node stands for have names of the program.
 use Rattle.std.proofs.Common.{◌≡◌, ℕ, suc, ◌+◌, Bool, true, false, List, [], ◌∷◌, ◌++◌, map, length, Option, None, Some, bytes_eq, if◌then◌else◌, refl, sym, subst}
+use Rattle.std.specs.List.{flat_map}
 use Rattle.lt_ast.specs.Syntax as s
-use Rattle.lt_ast.specs.Syntax.{Word, Exp, Argument, Arguments, Braces, Alternative, Alternatives, Trace, Traces, Grouping, Groupings, MaybeTrace, Meaning, Macro, Declaration}
-use Rattle.lt_ast.specs.Tokens.{alternative_tokens, alternatives_tokens, argument_tokens, arguments_tokens, braced_tokens, declaration_tokens, exp_tokens, grouping_tokens, groupings_tokens, handler_tokens, in_parentheses, limits_tokens, macro_rest, marked_if, meaning_tokens, more_alternatives, more_arguments, more_groupings, more_names, more_traces, names_tokens, parameters_tokens, tokens_of, trace_tokens, traces_tokens}
+use Rattle.lt_ast.specs.Syntax.{Word, Exp, Argument, Arguments, Braces, Alternative, Alternatives, Trace, Traces, Grouping, Groupings, MaybeTrace, Meaning, Macro, Run, Declaration}
+use Rattle.lt_ast.specs.Tokens.{alternative_tokens, alternatives_tokens, argument_tokens, arguments_tokens, braced_tokens, declaration_tokens, exp_tokens, grouping_tokens, groupings_tokens, handler_tokens, in_parentheses, limits_tokens, macro_rest, marked_if, meaning_tokens, more_alternatives, more_arguments, more_groupings, more_names, more_traces, names_tokens, parameters_tokens, run_tokens, tokens_of, trace_tokens, traces_tokens}
 use Rattle.lt_ast.specs.declared.sign.Sign.{Sign}
 use Rattle.lt_ast.specs.declared.sign.Sign.TheVariants as t
 use Rattle.lt_ast.specs.declared.span.Span.{Span}
 use Rattle.lt_formula.specs.declared.role.Role.{Role}
 use Rattle.lt_formula.specs.declared.role.Role.TheVariants as role
 use Rattle.lt_macros.specs.Placed as p
-use Rattle.lt_macros.specs.Expanded.{Declared, Bounds, Expanded, eps, dead, con, raise, seq, loop, count, any, pri, par, assert, exist, catch, try, Parts, no_part, part, Node}
+use Rattle.lt_macros.specs.Expanded.{Declared, Call, Bounds, Expanded, eps, dead, con, raise, seq, loop, count, any, pri, par, assert, exist, catch, try, Parts, no_part, part, Node, all_inputs}
 use Rattle.lt_macros.specs.Environment.{Binding, variable, parameter, macro, Raised, deadlock, declared, NamedBinding, Environment, at_start, found, found_exception, with_name, with_arguments, with_variables, with_exceptions}
-use Rattle.lt_macros.specs.Expansion.{expanded_node, group_variables, groups_variables, with_group, with_groups, node_of, is_wanted, node_among}
+use Rattle.lt_macros.specs.Expansion.{expanded_node, group_variables, groups_variables, with_group, with_groups, node_of, is_wanted, node_among, Runnable, runnable_of, outputs_of, all_given_as, with_declared, with_calls, calls_of}
 use Rattle.lt_macros.specs.Denotation.{Numbers, ExpandedTrace, behind_term, behind_local, behind_counter, Denotation, expression, trace, as_trace, standing_for, before, macro_name, parameter_names, declared_as, first_of, group_names, caught_as, raised_as, repeated, bounds_of, in_locals, in_group, in_groups, caught, exp_denotation, argument_denotation, argument_denotations, braces_denotation, alternative_denotation, parts_of, traces_denotation, handler_denotation, meaning_denotation, macro_denotation, trace_denotation}
 use Rattle.lt_scenario_laws.proofs.Words.{AreOnLines, IsOnLine, prefix, back}
 
@@ -313,43 +314,76 @@ groups_known : (r : Role) (i : ℕ) (gs : Groupings) (env : Environment Denotati
 groups_known r i s.no_groups env h = h
 groups_known r i (s.one_group g gs) env h = groups_known r (i + length (group_names g)) gs (with_group r i g env) (group_known r i g env h)
 
+-- ---- runs
+
+-- outputs by other names have these
+given_declared : (decimals : ℕ) (ws : List Word) (ds : List Declared) → AreWords ws → Each IsLined (all_given_as decimals ws ds)
+given_declared decimals [] ds h = tt
+given_declared decimals (w ∷ ws) [] h = tt
+given_declared decimals (w ∷ ws) (d ∷ ds) h = (h.0, given_declared decimals ws ds h.1)
+
+-- the inputs that runs give have names of the text
+calls_declared : (known : List Runnable) (i : ℕ) (env : Environment Denotation) (rs : List Run) → AreOnLines (flat_map run_tokens rs) → Each IsLined (flat_map (λ (c : Call). c.names) (calls_of known i env rs))
+calls_declared known i env [] on = tt
+calls_declared known i env (r ∷ rs) on =
+    let names = all_given_as env.decimals r.names (outputs_of known r.node.text) in
+    let here = prefix (run_tokens r) (flat_map run_tokens rs) on in
+    each_append IsLined names _ (given_declared env.decimals r.names (outputs_of known r.node.text) (are_words r.names (prefix (names_tokens r.names) _ here.1)))
+    (calls_declared known (i + length names) (with_declared role.Input i names env) rs (back (run_tokens r) (flat_map run_tokens rs) on))
+
+declared_known : (r : Role) (i : ℕ) (ds : List Declared) (env : Environment Denotation) → AreLinedNames env.names → AreLinedNames (with_declared r i ds env).names
+declared_known r i [] env h = h
+declared_known r i (d ∷ ds) env h = declared_known r (suc i) ds (with_name d.name (variable r i) env) (tt, h)
+
+calls_known : (i : ℕ) (cs : List Call) (env : Environment Denotation) → AreLinedNames env.names → AreLinedNames (with_calls i cs env).names
+calls_known i [] env h = h
+calls_known i (c ∷ cs) env h = calls_known (i + length c.names) cs (with_declared role.Input i c.names env) (declared_known role.Input i c.names env h)
+
 -- the names of a node's variables are on lines
 pub record IsLinedNode (node : Node) : Type 0 where
-  pub inputs : Each IsLined node.inputs
+  pub inputs : Each IsLined (all_inputs node)
   pub outputs : Each IsLined node.outputs
   pub body : EachLocal IsLined node.body
 
-node_lined : (env : Environment Denotation) (w : Word) (ins outs : Groupings) (x : Trace) → AreLinedNames env.names → AreOnLines (declaration_tokens (s.node w ins outs x)) → IsLinedNode (node_of env w ins outs x)
-node_lined env w ins outs x h on =
+node_lined : (known : List Runnable) (env : Environment Denotation) (w : Word) (ins outs : Groupings) (rs : List Run) (x : Trace) → AreLinedNames env.names → AreOnLines (declaration_tokens (s.node w ins outs rs x))
+    → IsLinedNode (node_of known env w ins outs rs x)
+node_lined known env w ins outs rs x h on =
+    let inputs = groups_variables role.Input 0 env ins in
     let inner = with_groups role.Input 0 ins env in
-    let inside = with_groups role.Output 0 outs inner in
+    let both = with_groups role.Output 0 outs inner in
+    let calls = calls_of known (length inputs) both rs in
+    let inside = with_calls (length inputs) calls both in
     let head = prefix (in_parentheses (groupings_tokens ins)) _ on.1.1 in
     let later = back (in_parentheses (groupings_tokens ins)) _ on.1.1 in
     let results = prefix (in_parentheses (groupings_tokens outs)) _ later.1 in
-    let body = back (in_parentheses (groupings_tokens outs)) _ later.1 in
+    let rest = back (in_parentheses (groupings_tokens outs)) _ later.1 in
+    let runs = prefix (flat_map run_tokens rs) (trace_tokens x) rest.1 in
+    let body = back (flat_map run_tokens rs) (trace_tokens x) rest.1 in
+    let visible = calls_known (length inputs) calls both (groups_known role.Output 0 outs inner (groups_known role.Input 0 ins env h)) in
     record {
-      inputs = groups_declared role.Input 0 env ins (prefix (groupings_tokens ins) _ head.1);
+      inputs = each_append IsLined inputs (flat_map (λ (c : Call). c.names) calls) (groups_declared role.Input 0 env ins (prefix (groupings_tokens ins) _ head.1)) (calls_declared known (length inputs) both rs runs);
       outputs = groups_declared role.Output 0 inner outs (prefix (groupings_tokens outs) _ results.1);
-      body = as_lined (trace_denotation inside x) (record { term = 0; local = 0; counter = 0 }) (trace_lined inside x (groups_known role.Output 0 outs inner (groups_known role.Input 0 ins env h)) body.1);
+      body = as_lined (trace_denotation inside x) (record { term = 0; local = 0; counter = 0 }) (trace_lined inside x visible body);
     }
 
 one_holds : (P : Node → Type 0) (b : Bool) (one node : Node) (other : Option Node) → P one → (other ≡ Some node → P node) → (if b then Some one else other) ≡ Some node → P node
 one_holds P true one node other p q e = let same : one ≡ node = cc in subst P same p
 one_holds P false one node other p q e = q e
 
-among_lined : (env : Environment Denotation) (wanted : Option (List ℕ)) (ds : List Declaration) (node : Node) → AreLinedNames env.names → AreOnLines (tokens_of ds) → node_among env wanted ds ≡ Some node → IsLinedNode node
-among_lined env wanted [] node h on e = absurd (cc)
-among_lined env wanted (s.node w ins outs x ∷ ds) node h on e =
-    let here = prefix (declaration_tokens (s.node w ins outs x)) (tokens_of ds) on in
-    let later = back (declaration_tokens (s.node w ins outs x)) (tokens_of ds) on in
-    one_holds IsLinedNode (is_wanted wanted w) (node_of env w ins outs x) node (node_among env wanted ds) (node_lined env w ins outs x h here) (among_lined env wanted ds node h later) e
-among_lined env wanted (s.macro_declaration m ∷ ds) node h on e =
+among_lined : (known : List Runnable) (env : Environment Denotation) (wanted : Option (List ℕ)) (ds : List Declaration) (node : Node) → AreLinedNames env.names → AreOnLines (tokens_of ds) → node_among known env wanted ds ≡ Some node → IsLinedNode node
+among_lined known env wanted [] node h on e = absurd (cc)
+among_lined known env wanted (s.node w ins outs rs x ∷ ds) node h on e =
+    let here = prefix (declaration_tokens (s.node w ins outs rs x)) (tokens_of ds) on in
+    let later = back (declaration_tokens (s.node w ins outs rs x)) (tokens_of ds) on in
+    let known_later = runnable_of env w ins outs ∷ known in
+    one_holds IsLinedNode (is_wanted wanted w) (node_of known env w ins outs rs x) node (node_among known_later env wanted ds) (node_lined known env w ins outs rs x h here) (among_lined known_later env wanted ds node h later) e
+among_lined known env wanted (s.macro_declaration m ∷ ds) node h on e =
     let here = prefix (declaration_tokens (s.macro_declaration m)) (tokens_of ds) on in
     let later = back (declaration_tokens (s.macro_declaration m)) (tokens_of ds) on in
-    among_lined (with_name (macro_name m) (macro (macro_denotation env m)) env) wanted ds node ((λ xs g. macro_lined env m xs h here.1 g), h) later e
-among_lined env wanted (s.exception_declaration ws ∷ ds) node h on e =
-    among_lined (with_exceptions 0 ws env) wanted ds node (exceptions_lined 0 ws env h) (back (declaration_tokens (s.exception_declaration ws)) (tokens_of ds) on) e
+    among_lined known (with_name (macro_name m) (macro (macro_denotation env m)) env) wanted ds node ((λ xs g. macro_lined env m xs h here.1 g), h) later e
+among_lined known env wanted (s.exception_declaration ws ∷ ds) node h on e =
+    among_lined known (with_exceptions 0 ws env) wanted ds node (exceptions_lined 0 ws env h) (back (declaration_tokens (s.exception_declaration ws)) (tokens_of ds) on) e
 
 -- the names of the variables of a program's node are on lines
 pub node_on_lines : (decimals : ℕ) (wanted : Option (List ℕ)) (ds : List Declaration) (node : Node) → AreOnLines (tokens_of ds) → expanded_node decimals wanted ds ≡ Some node → IsLinedNode node
-node_on_lines decimals wanted ds node on e = among_lined (at_start decimals) wanted ds node tt on e
+node_on_lines decimals wanted ds node on e = among_lined [] (at_start decimals) wanted ds node tt on e

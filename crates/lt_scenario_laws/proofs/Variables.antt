@@ -12,12 +12,13 @@ use Rattle.std.proofs.lemmas.List.{length-map}
 use Rattle.std.proofs.lemmas.List.Folds.{list_any-append}
 use Rattle.std.proofs.lemmas.Str.Parse.{digit_at, numerals_by_value, tells_all_ascii_digits, IsNumeralModel}
 use Rattle.lt_ast.specs.Syntax.{Declaration}
-use Rattle.lt_expand.specs.Refusals.{refusals_of}
+use Rattle.lt_expand.specs.Nested.{runs_in_nest}
+use Rattle.lt_expand.specs.Refusals.{node_refusals, refusals_of}
 use Rattle.lt_expand.specs.Scenes.{local_name, locals_of, scene_of, variable_of}
 use Rattle.lt_formula.specs.Domain.{IsDomain}
 use Rattle.lt_formula.specs.Limits.{most_alternatives, most_variables}
 use Rattle.lt_loop.specs.Scene.{declared_as}
-use Rattle.lt_macros.specs.Expanded.{Declared, Expanded, eps, dead, con, raise, seq, loop, count, any, pri, par, assert, exist, catch, try, Parts, no_part, part, Node}
+use Rattle.lt_macros.specs.Expanded.{Declared, Expanded, eps, dead, con, raise, seq, loop, count, any, pri, par, assert, exist, catch, try, Parts, no_part, part, Node, all_inputs}
 use Rattle.lt_macros.specs.Failing.{unless}
 use Rattle.lt_macros.specs.Limits.{most_expression_depth, most_nodes, most_term_depth, passed_limits}
 use Rattle.lt_macros.specs.Naming.{AreEachNamed, AreNamed, HaveDomains, NamesAreThere}
@@ -29,8 +30,8 @@ use Rattle.lt_play.specs.Rules.{known_scene, known_variable}
 use Rattle.lt_frontend.specs.Prepared.{IsScenarioAnswer, IsSceneOf, has_scenario}
 use Rattle.lt_trace_laws.specs.Replay.{IsTraceable}
 use Rattle.lt_rif.specs.ReadBack.{AreOnLines}
-use Rattle.lt_parser.specs.Text.{IsProgramOf}
-use Rattle.lt_parser.specs.Written.{WrittenAsSpelled}
+use Rattle.lt_grammar.specs.Text.{IsProgramOf}
+use Rattle.lt_grammar.specs.Written.{WrittenAsSpelled}
 use Rattle.lt_lexer.specs.Source.{StandInTurn}
 use Rattle.lt_lexer.specs.Tokenization.{IsTokenization}
 use Rattle.lt_lexer.specs.declared.token.Token.{Token}
@@ -176,16 +177,16 @@ at_most : (a b : ℕ) → nat_le a b ≡ true → a ≤ b
 at_most a b h = grind (arith, nat_tests)
 
 -- a node that isn't past a limit has few variables
-few_in : (node : Node) → passed_limits node ≡ [] → (length node.inputs ≤ 128) × (length node.outputs + length (locals_in node) ≤ 128)
+few_in : (node : Node) → passed_limits node ≡ [] → (length (all_inputs node) ≤ 128) × (length node.outputs + length (locals_in node) ≤ 128)
 few_in node none =
     let first = unless (nat_le (node_count node) most_nodes) Nodes in
     let second = unless (nat_le (term_depth node.body) most_term_depth && list_all (λ e. nat_le (expression_depth e) most_expression_depth) (expressions_in node)) Depth in
     let third = unless (list_all (λ x. nat_le (alternatives_at x) most_alternatives) (items node.body)) Children in
-    let given = nat_le (length node.inputs) most_variables in
+    let given = nat_le (length (all_inputs node)) most_variables in
     let drawn = nat_le (drawn_count node) most_variables in
     let fourth = unless (given && drawn) Variables in
     let tests = both_pass given drawn (passes (given && drawn) Variables (none_second third fourth (none_second second (third ++ fourth) (none_second first (second ++ (third ++ fourth)) none)))) in
-    (at_most (length node.inputs) most_variables tests.0, at_most (drawn_count node) most_variables tests.1)
+    (at_most (length (all_inputs node)) most_variables tests.0, at_most (drawn_count node) most_variables tests.1)
 
 -- ---- scenarios
 
@@ -194,13 +195,16 @@ scenario_made : (decimals : ℕ) (node : Option (List ℕ)) (text : List ℕ) (s
 scenario_made decimals asked text scene (has_scenario program same is typed made) = (program, is, made)
 
 -- what is refused first of all of a node is its size
-sizes_first : (decimals : ℕ) (node : Option (List ℕ)) (program : List Declaration) (scene : Scene) (made : IsSceneOf decimals node program scene) → passed_limits made.1.0 ≡ []
-sizes_first decimals wanted program scene made = none_mapped _ (passed_limits made.1.0) (none_first _ _ (subst (λ asked. refusals_of decimals asked ≡ []) made.1.1 made.0))
+sizes_first : (decimals : ℕ) (node : Option (List ℕ)) (program : List Declaration) (scene : Scene) (made : IsSceneOf decimals node program scene) → passed_limits made.2.0 ≡ []
+sizes_first decimals wanted program scene made =
+    let tree = made.2.0 in
+    let none = subst (λ asked. refusals_of decimals (runs_in_nest wanted program) asked ≡ []) made.2.1 made.0 in
+    none_mapped _ (passed_limits tree) (none_first _ _ (none_first (node_refusals decimals tree) _ none))
 
 tree_traceable : (decimals : ℕ) (node : Node) → decimals ≤ most_decimals → passed_limits node ≡ [] → IsLinedNode node → IsTraceable (known_scene (scene_of decimals node))
 tree_traceable decimals node fine none lined =
     let few = few_in node none in
-    let ins = length-map (map (variable_of decimals) node.inputs) known_variable ∙ length-map node.inputs (variable_of decimals) in
+    let ins = length-map (map (variable_of decimals) (all_inputs node)) known_variable ∙ length-map (all_inputs node) (variable_of decimals) in
     let outs = length-map (map (variable_of decimals) node.outputs) known_variable ∙ length-map node.outputs (variable_of decimals) in
     let locals = length-map (locals_of decimals 0 (locals_in node)) known_variable ∙ locals_many decimals 0 (locals_in node) in
     let drawn = few.1 in
@@ -209,7 +213,7 @@ tree_traceable decimals node fine none lined =
       decimals = fine;
       few = omega (arith, ins, outs, locals, drawn, given);
       outputs = variables_on_lines decimals node.outputs lined.outputs;
-      inputs = variables_on_lines decimals node.inputs lined.inputs;
+      inputs = variables_on_lines decimals (all_inputs node) lined.inputs;
       locals = locals_on_lines decimals 0 (locals_in node) (omega (arith, drawn)) (each_in_turn IsLined node.body lined.body);
     }
 
@@ -217,8 +221,8 @@ pub scenarios_are_traceable : ((text : List ℕ) (tokens : List Token) → IsTok
 scenarios_are_traceable stand written decimals node text scene is =
     let parts = scenario_made decimals node text scene is.is in
     let made = parts.2 in
-    let lined = node_on_lines decimals node parts.0 made.1.0 (program_on_lines stand written text parts.0 parts.1) made.1.1 in
-    subst (λ (s : Scene). IsTraceable (known_scene s)) (sym made.1.2) (tree_traceable decimals made.1.0 is.few (sizes_first decimals node parts.0 scene made) lined)
+    let lined = node_on_lines decimals node parts.0 made.2.0 (program_on_lines stand written text parts.0 parts.1) made.2.1 in
+    subst (λ (s : Scene). IsTraceable (known_scene s)) (sym made.2.2) (tree_traceable decimals made.2.0 is.few (sizes_first decimals node parts.0 scene made) lined)
 
 -- the ranges of all variables of a scenario
 pub record HasRanges (s : Scene) : Type 0 where
@@ -229,9 +233,9 @@ pub scenario_has_ranges : NamesAreThere → (decimals : ℕ) (node : Option (Lis
 scenario_has_ranges there decimals node text scene is =
     let parts = scenario_made decimals node text scene is.is in
     let made = parts.2 in
-    let tree = made.1.0 in
-    let named = there decimals node parts.0 tree made.1.1 in
-    subst HasRanges (sym made.1.2) (record {
+    let tree = made.2.0 in
+    let named = there decimals node parts.0 tree made.2.1 in
+    subst HasRanges (sym made.2.2) (record {
       outputs = variables_have decimals tree.outputs named.outputs;
-      locals = locals_have decimals 0 (locals_in tree) (each_in_turn HasDomain tree.body (local_domains (length tree.inputs) (length tree.outputs) tree.body named.body));
+      locals = locals_have decimals 0 (locals_in tree) (each_in_turn HasDomain tree.body (local_domains (length (all_inputs tree)) (length tree.outputs) tree.body named.body));
     })

@@ -2,11 +2,11 @@
 
 ghost use Rattle.lt_scenario_laws.specs.Traced.{InstantsGiveTheirOwn, ScenarioPrefixesShowTheirRun, ScenarioReplaysAreTheSame, ScenarioTracesShowTheirRun, ScenariosAreTraceable, ScenariosShowTheirInstants};
 
+use lt_grammar::program_is_written_as_spelled;
 use lt_instant::solutions_pass;
 use lt_lexer::tokens_stand_in_turn;
 use lt_macros::names_are_there;
 use lt_num::{points_are_those, test_tells_points};
-use lt_parser::program_is_written_as_spelled;
 use lt_play::Player;
 use lt_trace_laws::{prefixes_show_their_run, replays_are_the_same, traces_show_their_run};
 

@@ -12,6 +12,7 @@ node n() returns (x: int[0;9;3]; r: real [-1.0;1.0;-0.25] = 0.5) = b ==> node n 
 node n() returns (b: bool) = a fby {|2:a|{b|>c}} -- the end␊exception e,f ==> node n ( ) returns ( b : bool ) = a fby { | 2 : a | { b |> c } }␊exception e , f␊
 node n() returns (b: bool) = try catch e in raise e do loop ~1:2 (a=>not b=not c) ==> node n ( ) returns ( b : bool ) = try catch e in raise e do loop ~ 1 : 2 ( a => not b = not c )␊
 node n() returns (b: bool) = try try a do b do c ==> node n ( ) returns ( b : bool ) = try try a do b do c␊
+node n() returns (b: bool) = run a:=s() in run c,d:=t(b,1+2*a) in b fby c ==> node n ( ) returns ( b : bool ) = run a := s ( ) in run c , d := t ( b , 1 + 2 * a ) in b fby c␊
 ## a line is printed for each declaration
 node toggle() returns (b: bool) = b fby not b exception stop ==> node toggle ( ) returns ( b : bool ) = b fby not b␊exception stop␊";
 

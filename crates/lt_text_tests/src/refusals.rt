@@ -27,7 +27,16 @@ node n() returns (b: bool) = b & b ==> BadByte(31)";
 const NO_PROGRAM: &str = "\
 node n() (* ==> Lex(OpenComment(9))
 node n() returns (b: bool) = b & b ==> Lex(BadByte(31))
-node n() returns (b: bool) = run ==> Unexpected(29)
+node n() returns (b: bool) = run ==> Unexpected(32)
+node n() returns (b: bool) = run a, := s() in b ==> Unexpected(36)
+node n() returns (b: bool) = run a = s() in b ==> Unexpected(35)
+node n() returns (b: bool) = run a := s in b ==> Unexpected(40)
+node n() returns (b: bool) = run a := s({ b }) in b ==> Unexpected(40)
+node n() returns (b: bool) = run a := s(1,) in b ==> Unexpected(42)
+node n() returns (b: bool) = run a := s() b ==> Unexpected(42)
+node n() returns (b: bool) = b fby run a := s() in b ==> Unexpected(35)
+node n() returns (b: bool := 1 ==> Unexpected(26)
+let m: trace = run a := s() in b ==> Unexpected(15)
 node n() returns (b: bool) = b and  ==> Unexpected(35)
 node n() returns (b: bool) = { b : b } ==> Unexpected(33)
 node n() returns (b: bool) = a < b < c ==> Unexpected(35)
@@ -40,7 +49,7 @@ try a do b do c ==> Unexpected(0)
 node n() returns (b: bool) = try a do b do c ==> Unexpected(40)";
 
 // Texts that open one level of nesting. Where the trace of a node is 200 times such a text, it ends too soon. With one
-// time more it is refused at the token that opens a level.
+// time more it is refused at the token that opens a level. A run has a parenthesis, which opens one more while it is read.
 const OPENERS: &str = "\
 { ==> Unexpected(229) TooDeep(229)
 ( ==> Unexpected(229) TooDeep(229)
@@ -56,7 +65,8 @@ let m: bool = a in  ==> Unexpected(3829) TooDeep(3829)
 exception e in  ==> Unexpected(3029) TooDeep(3029)
 catch e in  ==> Unexpected(2229) TooDeep(2229)
 trap e in  ==> Unexpected(2029) TooDeep(2029)
-try  ==> Unexpected(829) TooDeep(829)";
+try  ==> Unexpected(829) TooDeep(829)
+run a := s() in  ==> TooDeep(3213) TooDeep(3213)";
 
 #[test]
 fn texts_are_refused_at_a_place(rt: HostRuntime) -> Result<(), Fail> {

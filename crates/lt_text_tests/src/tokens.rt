@@ -29,7 +29,8 @@ a--b ==> Name 0-1
 < > ==> Less 0-1 Greater 2-3
 <=> ==> LessEqual 0-2 Greater 2-3
 |>&>=> ==> Priority 0-2 Parallel 2-4 Implies 4-6
-=|~ ==> Equal 0-1 Bar 1-2 Tilde 2-3";
+=|~ ==> Equal 0-1 Bar 1-2 Tilde 2-3
+::=:= ==> Colon 0-1 Assign 1-3 Assign 3-5";
 
 // A comment may hold what is no text.
 const BYTES: &[u8] = b"(*\0\xff--*)z";
@@ -48,10 +49,10 @@ loop loops 2.0 3 => < ==> \
     Loop 0-4 loop Name 5-10 loops Number 11-14 2.0 Number 15-16 3 Implies 17-19 => Less 20-21 <";
 
 // How many tokens there are, how many have the bytes of their letters, and how many are spelled as their sign is. The
-// language has 32 words and 24 symbols.
+// language has 32 words and 25 symbols.
 const SPELLED: &str = "\
 loop loops 2.0 3 => < ==> 6 6 3
-node returns let in exist bool int real trace ref fby loop assert raise catch do trap try exception pre not and or xor if then else div mod true false run ( ) { } [ ] : ; , = <> < <= > >= + - * / => | |> &> ~ ==> 56 56 56";
+node returns let in exist bool int real trace ref fby loop assert raise catch do trap try exception pre not and or xor if then else div mod true false run ( ) { } [ ] : ; , = <> < <= > >= + - * / => | |> &> ~ := ==> 57 57 57";
 
 #[test]
 fn signs_and_letters_of_tokens(rt: HostRuntime) -> Result<(), Fail> {

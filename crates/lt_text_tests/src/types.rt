@@ -127,6 +127,28 @@ node n() returns (x: int [0;3;@0@]) = true ==> BadStep
 node n(@i@, j: int [0; 9; 3]) returns () = true ==> Mismatch
 node n(a: bool; @r@: real [0.0; 1.0; 0.25]) returns () = true ==> Mismatch";
 
+// Nodes that run others.
+const RUNS: &str = "\
+## the names, the node and the arguments of a run
+node n() returns (b: bool) = run x := @n@() in b ==> Unknown
+node s() returns (v: bool) = v node n() returns (b: bool) = run x := s() in b = x ==> Accepted
+node s() returns (v: bool) = v node n() returns (b: bool) = run @b@ := s() in b ==> Twice
+node s() returns (v: bool) = v node n() returns (b: bool) = run x, @x@ := s() in b ==> Twice
+node s() returns (v: bool) = v node n() returns (b: bool) = run x := s() in run @x@ := s() in b ==> Twice
+node s() returns (v: bool) = v node n() returns (b: bool) = run @b@ := q(z) in b ==> Twice
+node s() returns (v: bool) = v node n() returns (b: bool) = run x := @q@(z) in b ==> Unknown
+node s() returns (v: bool) = v node n() returns (b: bool) = run x := s(@z@) in b ==> Unknown
+node s() returns (v: bool) = v node n() returns (b: bool) = run x := @s@(b) in b ==> Arity
+node s() returns (v: bool) = v node n() returns (b: bool) = run x, y := @s@() in b ==> Arity
+node s(i: int) returns (v: bool) = v node n() returns (b: bool) = run x := s(@b@) in b ==> Mismatch
+node s(i: int) returns (v: bool) = v node n() returns (b: bool) = run x := s(1 + 2) in b ==> Accepted
+node s(i: int [0;9]) returns (v: bool) = v node n() returns (b: bool) = run x := s(@1@) in b ==> Mismatch
+node s(i: int) returns (v: int) = v = i node n() returns (b: bool) = run x := s(1) in run y := s(x) in x = y ==> Accepted
+node s() returns (v: int) = v = 1 node n() returns (b: bool) = run x := s() in @x@ ==> Mismatch
+let x: int = 1 node s() returns (v: bool) = v node n() returns (b: bool) = run x := s() in x ==> Accepted
+node s() returns (v: bool) = v node n() returns (b: bool) = run x := s() in pre x ==> Accepted
+node s() returns (v: bool) = v node n() returns (b: bool) = run x := s() in b node m() returns (b: bool) = @x@ ==> Unknown";
+
 // Texts with and without a node.
 const NODES: &str = "\
 node n() returns (b: bool) = b ==> Accepted
@@ -139,6 +161,7 @@ fn each_rule_accepts_and_refuses(rt: HostRuntime) -> Result<(), Fail> {
     check(&rt, rt.alloc(), Asked::Types, NODE, TRACES)?;
     check(&rt, rt.alloc(), Asked::Types, NODE_WITH_REF, REFERENCES)?;
     check(&rt, rt.alloc(), Asked::Types, "", STEPS)?;
+    check(&rt, rt.alloc(), Asked::Types, "", RUNS)?;
     check(&rt, rt.alloc(), Asked::Types, "", NODES)
 }
 

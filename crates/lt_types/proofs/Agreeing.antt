@@ -66,10 +66,14 @@ all_three {xs = xs} {ys = ys} a b c = record {
   back = λ e. (a.back (nil_left xs _ e), b.back (nil_left ys _ (nil_right xs _ e)), c.back (nil_right ys _ (nil_right xs _ e)));
 }
 
-pub all_four : {P Q R S : Type 0} {xs ys zs ws : List TypeRefusal} → Agrees P xs → Agrees Q ys → Agrees R zs → Agrees S ws → Agrees (P × Q × R × S) (xs ++ (ys ++ (zs ++ ws)))
-all_four {xs = xs} {ys = ys} {zs = zs} a b c d = record {
-  clean = λ h. nil_both (a.clean h.0) (nil_both (b.clean h.1) (nil_both (c.clean h.2) (d.clean h.3)));
-  back = λ e. (a.back (nil_left xs _ e), b.back (nil_left ys _ (nil_right xs _ e)), c.back (nil_left zs _ (nil_right ys _ (nil_right xs _ e))), d.back (nil_right zs _ (nil_right ys _ (nil_right xs _ e))));
+pub all_five : {P Q R S T : Type 0} {xs ys zs ws vs : List TypeRefusal} → Agrees P xs → Agrees Q ys → Agrees R zs → Agrees S ws → Agrees T vs → Agrees (P × Q × R × S × T) (xs ++ (ys ++ (zs ++ (ws ++ vs))))
+all_five {xs = xs} {ys = ys} {zs = zs} {ws = ws} a b c d e = record {
+  clean = λ h. nil_both (a.clean h.0) (nil_both (b.clean h.1) (nil_both (c.clean h.2) (nil_both (d.clean h.3) (e.clean h.4))));
+  back = λ n.
+      let behind = nil_right xs _ n in
+      let inner = nil_right ys _ behind in
+      let last = nil_right zs _ inner in
+      (a.back (nil_left xs _ n), b.back (nil_left ys _ behind), c.back (nil_left zs _ inner), d.back (nil_left ws _ last), e.back (nil_right ws _ last));
 }
 
 -- a fact of which two lists speak, with others between them
@@ -129,14 +133,14 @@ same-is t.Trace t.Real e = absurd (cc)
 pub same : (k m : TypeName) (r : TypeRefusal) → Agrees (k ≡ m) (unless (same_type k m) r)
 same k m r = record { clean = λ e. unless_clean _ (ap (λ x. same_type x m) e ∙ same-refl m); back = λ e. same-is k m (unless_back (same_type k m) _ e) }
 
-and-both : {a b : Bool} → a ≡ true → b ≡ true → (a && b) ≡ true
+pub and-both : {a b : Bool} → a ≡ true → b ≡ true → (a && b) ≡ true
 and-both p q = λ i. p i && q i
 
-and-left : (a b : Bool) → (a && b) ≡ true → a ≡ true
+pub and-left : (a b : Bool) → (a && b) ≡ true → a ≡ true
 and-left true b e = refl
 and-left false b e = e
 
-and-right : (a b : Bool) → (a && b) ≡ true → b ≡ true
+pub and-right : (a b : Bool) → (a && b) ≡ true → b ≡ true
 and-right true b e = e
 and-right false b e = absurd (cc)
 

@@ -9,3 +9,4 @@ pub mod Scopes
 pub mod Tracing
 pub mod Checking
 pub mod Indexed
+pub mod Declaring

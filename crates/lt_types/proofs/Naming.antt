@@ -7,17 +7,18 @@ use Rattle.lt_ast.specs.declared.expr.Arg.{Arg}
 use Rattle.lt_ast.specs.declared.expr.Args.{Args}
 use Rattle.lt_ast.specs.declared.expr.Expr.{back-Expr-Named-1}
 use Rattle.lt_ast.specs.Syntax as s
-use Rattle.lt_ast.specs.Syntax.{Word, Arguments}
+use Rattle.lt_ast.specs.Syntax.{Word, Exp, Arguments}
 use Rattle.lt_ast.specs.inner.Lists.{arguments_of}
 use Rattle.lt_ast.specs.View.{word, named_exp, argument}
 use Rattle.lt_ast.proofs.Public.{arguments_list}
 use Rattle.lt_types.specs.Environment.{Environment, macro}
 use Rattle.lt_types.specs.inner.Given.{used}
 use Rattle.lt_types.specs.Operators.{same_type, serves_as}
-use Rattle.lt_types.specs.Refusals.{alone, as_many, arguments_misfit}
+use Rattle.lt_types.specs.Refusals.{all_given_misfit, alone, as_many, arguments_misfit}
 use Rattle.lt_types.specs.Answer.{Leads, first}
-use Rattle.lt_types.specs.inner.Scoping.{param_view}
+use Rattle.lt_types.specs.inner.Scoping.{input_view, param_view}
 use Rattle.lt_types.specs.declared.entry.Param.{Param}
+use Rattle.lt_types.specs.declared.node_types.Input.{Input}
 use Rattle.lt_types.specs.declared.refusal.TypeRefusal.TheVariants.{Arity}
 
 -- a name with its arguments, as the code has them
@@ -57,3 +58,9 @@ pub arguments_misfit_none : (env : Environment) (args : Arguments) (ps : List Pa
 arguments_misfit_none env s.no_arguments ps h = refl
 arguments_misfit_none env (s.argument a rest) [] h = refl
 arguments_misfit_none env (s.argument a rest) (p ∷ ps) h = absurd (omega arith)
+
+-- nor is an expression without inputs
+pub all_given_misfit_none : (env : Environment) (es : List Exp) (inputs : List Input) → length inputs ≤ 0 → all_given_misfit env es (map input_view inputs) ≡ []
+all_given_misfit_none env [] inputs h = refl
+all_given_misfit_none env (e ∷ es) [] h = refl
+all_given_misfit_none env (e ∷ es) (i ∷ inputs) h = absurd (omega arith)

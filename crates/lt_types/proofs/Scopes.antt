@@ -1,23 +1,27 @@
 -- What scopes are before and after a list of names.
-use Rattle.std.proofs.Common.{◌≡◌, ℕ, ◌+◌, ◌-◌, ◌<◌, ◌≤◌, get_or, List, [], ◌∷◌, ◌++◌, map, take, drop, length, refl, ap, sym, ◌∙◌, subst, arith}
+use Rattle.std.proofs.Common.{◌≡◌, ℕ, ◌+◌, ◌-◌, ◌<◌, ◌≤◌, Option, Some, None, nat_eq, eqb-true, get_or, List, [], ◌∷◌, ◌++◌, map, take, drop, length, refl, ap, sym, ◌∙◌, subst, arith}
 use Rattle.lt_ast.specs.declared.group.Group.{Group}
+use Rattle.lt_ast.specs.declared.group.TypeName.{TypeName}
 use Rattle.lt_ast.specs.declared.group.Groups.{Groups, out-Groups}
+use Rattle.lt_ast.specs.declared.program.RunDecl.{RunDecl}
 use Rattle.lt_ast.specs.declared.trace.MacroDecl.{MacroDecl, MacroDecl', out-MacroDecl, view-MacroDecl-params, Held-MacroDecl-params, MacroDecl-params-None', MacroDecl-params-Some'}
 use denote.Hole.Carrier.{out}
 use Rattle.lt_ast.specs.inner.Lists.{groups_of}
 use Rattle.lt_ast.specs.inner.Rows.{group_of}
 use Rattle.lt_ast.specs.Syntax as s
-use Rattle.lt_ast.specs.Syntax.{Word, Grouping, Groupings, Parameters, Macro}
-use Rattle.lt_ast.specs.View.{word, groupings, meaning, macro as macro_seen, parameters as parameters_held}
+use Rattle.lt_ast.specs.Syntax.{Word, Grouping, Groupings, Parameters, Macro, Run}
+use Rattle.lt_ast.specs.View.{word, groupings, meaning, macro as macro_seen, parameters as parameters_held, run}
 use Rattle.lt_ast.proofs.Public.{groups_list}
-use Rattle.lt_types.specs.Environment.{Environment, Binding, Entry, Role, inputs, variables, with_bindings, with_names, with_group, with_groups, with_group_names, with_parameters, with_macro, with_exceptions, group_entry}
+use Rattle.lt_types.specs.Environment.{Environment, Binding, Entry, Role, inputs, variables, with_bindings, with_variables, with_names, with_group, with_groups, with_group_names, with_parameters, with_macro, with_exceptions, group_entry}
 use Rattle.lt_types.specs.Environment as e
 use Rattle.lt_types.specs.inner.Given.{parameters_view}
-use Rattle.lt_types.specs.Refusals.{group_refusals, groups_refusals, macro_refusals, parameters_refusals}
+use Rattle.lt_types.specs.Refusals.{unless, new_names, group_refusals, groups_refusals, macro_refusals, parameters_refusals, known_node, exps_refusals, all_given_misfit, counts_agree, applied_node, run_refusals, runs_refusals}
 use Rattle.lt_types.specs.inner.Scoping.{oldest, since, declared_since, with_oldest_names, with_oldest_exceptions}
 use Rattle.lt_types.specs.Answer.{Leads}
 use Rattle.lt_types.specs.declared.refusal.TypeRefusal.{TypeRefusal}
+use Rattle.lt_types.specs.declared.refusal.TypeRefusal.TheVariants.{Arity}
 use Rattle.lt_types.proofs.Leading.{Leads_more}
+use Rattle.lt_types.proofs.Agreeing.{nil_left, nil_right, unless_back, and-left}
 use Rattle.lt_types.proofs.Stacks.{drop_next, oldest_all, oldest_more, since_more}
 
 -- NAMES
@@ -82,6 +86,57 @@ declared_nothing env = ap (map (λ (b : Binding). b.name)) (since_nothing env.na
 pub exceptions_nothing : (names : List (List ℕ)) → since (length names) names ≡ []
 exceptions_nothing names = since_nothing names
 
+-- RUNS
+
+-- variables
+variables_more : (ws : List Word) (kinds : List TypeName) (names : List Binding) → length names ≤ length (with_variables ws kinds names)
+variables_more [] kinds names = omega arith
+variables_more (w ∷ ws) [] names = omega arith
+variables_more (w ∷ ws) (k ∷ ks) names = omega (arith, variables_more ws ks (record { name = w.text; entry = e.variable k } ∷ names))
+
+variables_oldest : (count : ℕ) (ws : List Word) (kinds : List TypeName) (names : List Binding) → count ≤ length names → oldest count (with_variables ws kinds names) ≡ oldest count names
+variables_oldest count [] kinds names h = refl
+variables_oldest count (w ∷ ws) [] names h = refl
+variables_oldest count (w ∷ ws) (k ∷ ks) names h =
+    variables_oldest count ws ks (record { name = w.text; entry = e.variable k } ∷ names) (omega arith) ∙ oldest_more count (record { name = w.text; entry = e.variable k }) names h
+
+variables_since : (from : ℕ) (ws : List Word) (kinds : List TypeName) (names : List Binding) → length ws ≡ length kinds → from ≤ length names
+    → map (λ (b : Binding). b.name) (since from (with_variables ws kinds names)) ≡ with_names ws (map (λ (b : Binding). b.name) (since from names))
+variables_since from [] kinds names c h = refl
+variables_since from (w ∷ ws) [] names c h = absurd (omega arith)
+variables_since from (w ∷ ws) (k ∷ ks) names c h =
+    variables_since from ws ks (record { name = w.text; entry = e.variable k } ∷ names) (omega arith) (omega arith)
+    ∙ ap (λ l. with_names ws (map (λ (b : Binding). b.name) l)) (since_more from (record { name = w.text; entry = e.variable k }) names h)
+
+-- no name is lost, nor is an older one changed
+pub run_more : (env : Environment) (r : Run) → length env.names ≤ length (e.with_run env r).names
+run_more env r = variables_more r.names (e.outputs_of (e.found_node env.nodes r.node.text)) env.names
+
+pub runs_more : (env : Environment) (rs : List Run) → length env.names ≤ length (e.with_runs env rs).names
+runs_more env [] = omega arith
+runs_more env (r ∷ rs) = omega (arith, run_more env r, runs_more (e.with_run env r) rs)
+
+pub runs_oldest : (count : ℕ) (env : Environment) (rs : List Run) → count ≤ length env.names → with_oldest_names count (e.with_runs env rs) ≡ with_oldest_names count env
+runs_oldest count env [] h = refl
+runs_oldest count env (r ∷ rs) h =
+    runs_oldest count (e.with_run env r) rs (omega (arith, run_more env r))
+    ∙ ap (λ names. record env { names = names }) (variables_oldest count r.names (e.outputs_of (e.found_node env.nodes r.node.text)) env.names h)
+
+-- a run that is as it should be has as many names as its node has outputs
+outputs_agree : (env : Environment) (r : Run) (o : Option e.Node) → known_node r.node o ++ (exps_refusals env r.arguments ++ applied_node env r o) ≡ [] → length r.names ≡ length (e.outputs_of o)
+outputs_agree env r None h = absurd (cc)
+outputs_agree env r (Some n) h =
+    let applied = nil_right (exps_refusals env r.arguments) (applied_node env r (Some n)) h in
+    let counts = unless_back (counts_agree r n) (Arity r.node.span) (nil_left (unless (counts_agree r n) (Arity r.node.span)) (all_given_misfit env r.arguments n.inputs) applied) in
+    eqb-true (length r.names) (length n.outputs) (and-left (nat_eq (length r.names) (length n.outputs)) (nat_eq (length r.arguments) (length n.inputs)) counts)
+
+-- its names are those that were declared meanwhile
+pub run_since : (from : ℕ) (env : Environment) (taken : List (List ℕ)) (r : Run) → run_refusals env taken r ≡ [] → from ≤ length env.names
+    → declared_since from (e.with_run env r) ≡ with_names r.names (declared_since from env)
+run_since from env taken r h k =
+    let node = e.found_node env.nodes r.node.text in
+    variables_since from r.names (e.outputs_of node) env.names (outputs_agree env r node (nil_right (new_names taken r.names) _ h)) k
+
 -- ENDS OF SCOPES
 
 -- after groups
@@ -119,7 +174,7 @@ exceptions_end env ws = ap (λ names. record env { exceptions = names }) (names_
 pub exceptions_more : (env : Environment) (ws : List Word) → length env.exceptions ≤ length (with_exceptions env ws).exceptions
 exceptions_more env ws = names_more ws env.exceptions
 
-pub ruleset scope_ends = (groups_end, groups_more, groups_since, parameters_end, parameters_more, macro_end, macro_more, exceptions_end, exceptions_more, declared_nothing, exceptions_nothing)
+pub ruleset scope_ends = (groups_end, groups_more, groups_since, runs_more, parameters_end, parameters_more, macro_end, macro_more, exceptions_end, exceptions_more, declared_nothing, exceptions_nothing)
 
 -- GROUPS OF A LIST
 
@@ -158,6 +213,13 @@ pub ruleset groups_steps = (groups_refusals_list, with_groups_list, groups_next,
 pub groups_parameters_list : (g : Groups) → e.groups_parameters (groupings g) ≡ e.groups_parameters (groups_of (map group_of (out-Groups g).items.items))
 groups_parameters_list g = ap e.groups_parameters (groups_list g)
 
+-- the inputs and the types of a list
+pub groups_inputs_list : (g : Groups) → e.groups_inputs (groupings g) ≡ e.groups_inputs (groups_of (map group_of (out-Groups g).items.items))
+groups_inputs_list g = ap e.groups_inputs (groups_list g)
+
+pub groups_types_list : (g : Groups) → e.groups_types (groupings g) ≡ e.groups_types (groups_of (map group_of (out-Groups g).items.items))
+groups_types_list g = ap e.groups_types (groups_list g)
+
 parameters_held_seen : (ps : Held-MacroDecl-params) → parameters_held ps ≡ parameters_view (view-MacroDecl-params ps)
 parameters_held_seen MacroDecl-params-None' = refl
 parameters_held_seen (MacroDecl-params-Some' gs) = refl
@@ -172,7 +234,35 @@ macro_parts (MacroDecl' n ps kind b) = ap (λ p. s.macro (word n) p kind (meanin
 pub macro_params_first : (env : Environment) (d : MacroDecl) (r : TypeRefusal) → Leads r (parameters_refusals env (parameters_view (out-MacroDecl d).params)) → Leads r (macro_refusals env (macro_seen d))
 macro_params_first env d r h = subst (λ m. Leads r (macro_refusals env m)) (sym (macro_parts d)) (Leads_more _ h)
 
+-- RUNS OF A LIST
+
+-- what is left after one of them breaks the rules that it does before
+pub runs_next : (from : ℕ) (env behind : Environment) (items : List RunDecl) (i : ℕ) (x : RunDecl) → i < length items → x ≡ get_or items i x → from ≤ length env.names
+    → run_refusals env (declared_since from env) (run x) ≡ [] → behind ≡ e.with_run env (run x)
+    → runs_refusals env (declared_since from env) (map run (drop i items)) ≡ runs_refusals behind (declared_since from behind) (map run (drop (i + 1) items))
+runs_next from env behind items i x h is k clean e' =
+    ap (λ l. runs_refusals env (declared_since from env) (map run l)) (drop_next items i x h is)
+    ∙ ap (λ l. l ++ runs_refusals (e.with_run env (run x)) (with_names (run x).names (declared_since from env)) (map run (drop (i + 1) items))) clean
+    ∙ ap (λ l. runs_refusals (e.with_run env (run x)) l (map run (drop (i + 1) items))) (sym (run_since from env (declared_since from env) (run x) clean k))
+    ∙ ap (λ env'. runs_refusals env' (declared_since from env') (map run (drop (i + 1) items))) (sym e')
+
+-- one that breaks a rule is refused first
+pub runs_first : (env : Environment) (taken : List (List ℕ)) (items : List RunDecl) (i : ℕ) (x : RunDecl) (r : TypeRefusal) → i < length items → x ≡ get_or items i x
+    → Leads r (run_refusals env taken (run x)) → Leads r (runs_refusals env taken (map run (drop i items)))
+runs_first env taken items i x r h is l =
+    subst (λ rs. Leads r (runs_refusals env taken (map run rs))) (sym (drop_next items i x h is)) (Leads_more _ l)
+
+pub with_runs_next : (env behind : Environment) (items : List RunDecl) (i : ℕ) (x : RunDecl) → i < length items → x ≡ get_or items i x → behind ≡ e.with_run env (run x)
+    → e.with_runs env (map run (drop i items)) ≡ e.with_runs behind (map run (drop (i + 1) items))
+with_runs_next env behind items i x h is e' =
+    ap (λ l. e.with_runs env (map run l)) (drop_next items i x h is) ∙ ap (λ env'. e.with_runs env' (map run (drop (i + 1) items))) (sym e')
+
+-- the names that are there
+pub run_from : (from : ℕ) (env behind : Environment) (r : Run) → from ≤ length env.names → behind ≡ e.with_run env r → from ≤ length behind.names
+run_from from env behind r h e' = omega (arith, run_more env r, ap (λ env'. length env'.names) e')
+
 -- after a node
-pub inputs_and_outputs_end : (env : Environment) (ins outs : Groupings) → with_oldest_names (length env.names) (e.with_inputs_and_outputs env ins outs) ≡ env
-inputs_and_outputs_end env ins outs =
-    groups_oldest (length env.names) variables (with_groups inputs env ins) outs (groups_more inputs env ins) ∙ groups_end inputs env ins
+pub node_oldest : (env : Environment) (ins outs : Groupings) (rs : List Run) → with_oldest_names (length env.names) (e.with_runs (e.with_inputs_and_outputs env ins outs) rs) ≡ env
+node_oldest env ins outs rs =
+    runs_oldest (length env.names) (e.with_inputs_and_outputs env ins outs) rs (omega (arith, groups_more inputs env ins, groups_more variables (with_groups inputs env ins) outs))
+    ∙ groups_oldest (length env.names) variables (with_groups inputs env ins) outs (groups_more inputs env ins) ∙ groups_end inputs env ins

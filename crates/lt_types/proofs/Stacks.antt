@@ -3,16 +3,18 @@ use Rattle.std.proofs.Common.{◌≡◌, ℕ, suc, Bool, true, false, not, ◌||
 use Rattle.std.proofs.lemmas.List.{reverse-append, length-reverse, length-take-le, length-map, get_or-reverse, get_or-map, take-append-drop, drop_at, map_more, map_push, drop_more, take-map, length-drop}
 use Rattle.std.proofs.lemmas.Bool.Decides.{nat_tests}
 use Rattle.std.proofs.lemmas.Bool.{cases_lt}
+use Rattle.std.proofs.lemmas.Slice.Eq.{bytes_eq-Decides}
 use Rattle.lt_types.specs.Environment as e
-use Rattle.lt_types.specs.Environment.{Binding, is_among, found}
+use Rattle.lt_types.specs.Environment.{Binding, is_among, found, found_node, node_names}
 use Rattle.lt_ast.specs.declared.name.Name.{Name}
 use Rattle.lt_ast.specs.Letters.{letters}
 use Rattle.lt_ast.specs.View.{word}
 use Rattle.lt_types.specs.Answer.{Leads, first}
 use Rattle.lt_types.specs.Refusals.{new_names, unless}
 use Rattle.lt_types.specs.declared.entry.Entry.{Entry}
+use Rattle.lt_types.specs.declared.node_types.NodeTypes.{NodeTypes}
 use Rattle.lt_types.specs.declared.refusal.TypeRefusal.TheVariants.{Twice}
-use Rattle.lt_types.specs.inner.Scoping.{newest, oldest, since, bindings, entry_view}
+use Rattle.lt_types.specs.inner.Scoping.{newest, oldest, since, bindings, entry_view, node_view, nodes_of}
 
 -- one more
 pub turned : {X : Type 0} (xs : List X) (x : X) → reverse (xs ++ (x ∷ [])) ≡ x ∷ reverse xs
@@ -225,6 +227,71 @@ pub oldest_length : {X : Type 0} (count : ℕ) (xs : List X) → count ≤ lengt
 oldest_length count xs h = omega (arith, length-drop (length xs - count) xs)
 
 pub ruleset scope_steps = (scope_length, scope_since, scope_oldest, scope_found, scope_unknown, newest_below, oldest_length, length-take-le, turned, map_push)
+
+-- NODES
+
+-- their names
+nodes_names : (ns : List (List ℕ)) (types : List NodeTypes) → length ns ≡ length types → node_names (nodes_of ns types) ≡ ns
+nodes_names [] types h = refl
+nodes_names (n ∷ ns) [] h = absurd (omega arith)
+nodes_names (n ∷ ns) (x ∷ xs) h = ap (λ l. n ∷ l) (nodes_names ns xs (omega arith))
+
+-- the newest one of a name, where a test decides
+node_by : (b : Bool) (name n : List ℕ) (x : NodeTypes) (xs : List NodeTypes) (found : Option e.Node) (o : Option ℕ) (count place : ℕ) (d : NodeTypes) → count ≡ length xs
+    → (b ≡ true → name ≡ n) → (if b then Some count else o) ≡ Some place → (o ≡ Some place → place < count)
+    → (o ≡ Some place → found ≡ Some (node_view name (get_or xs (length xs - 1 - place) d)))
+    → (if b then Some (node_view n x) else found) ≡ Some (node_view name (get_or (x ∷ xs) (suc (length xs) - 1 - place) d))
+node_by true name n x xs found o count place d h s e below f =
+    let same : count ≡ place = cc in
+    let front : suc (length xs) - 1 - place ≡ 0 = omega arith in
+    ap (λ m. Some (node_view m x)) (sym (s refl)) ∙ sym (ap (λ k. Some (node_view name (get_or (x ∷ xs) k d))) front)
+node_by false name n x xs found o count place d h s e below f =
+    let less : place < count = below e in
+    let further : suc (length xs) - 1 - place ≡ suc (length xs - 1 - place) = omega arith in
+    f e ∙ sym (ap (λ k. Some (node_view name (get_or (x ∷ xs) k d))) further)
+
+unknown_by : (b : Bool) (x : e.Node) (found : Option e.Node) (o : Option ℕ) (count : ℕ) → (if b then Some count else o) ≡ None → (o ≡ None → found ≡ None)
+    → (if b then Some x else found) ≡ None
+unknown_by true x found o count e h = absurd (cc)
+unknown_by false x found o count e h = h e
+
+-- the newest one of a name, from the end
+node_turned : (ns : List (List ℕ)) (types : List NodeTypes) (name : List ℕ) (place : ℕ) (d : NodeTypes) → length ns ≡ length types → newest ns name ≡ Some place
+    → found_node (nodes_of ns types) name ≡ Some (node_view name (get_or types (length types - 1 - place) d))
+node_turned [] types name place d h e = absurd (cc)
+node_turned (n ∷ ns) [] name place d h e = absurd (omega arith)
+node_turned (n ∷ ns) (x ∷ xs) name place d h e =
+    node_by (bytes_eq name n) name n x xs (found_node (nodes_of ns xs) name) (newest ns name) (length ns) place d (omega arith) (λ t. (bytes_eq-Decides name n).0 t) e
+    (newest_below ns name place) (node_turned ns xs name place d (omega arith))
+
+-- or that there is none
+node_none : (ns : List (List ℕ)) (types : List NodeTypes) (name : List ℕ) → length ns ≡ length types → newest ns name ≡ None → found_node (nodes_of ns types) name ≡ None
+node_none [] types name h e = refl
+node_none (n ∷ ns) [] name h e = refl
+node_none (n ∷ ns) (x ∷ xs) name h e =
+    unknown_by (bytes_eq name n) (node_view n x) (found_node (nodes_of ns xs) name) (newest ns name) (length ns) e (node_none ns xs name (omega arith))
+
+-- the same of what a scope has
+pub scope_node_names : (ns : List (List ℕ)) (types : List NodeTypes) → length ns ≡ length types → node_names (nodes_of ns (reverse types)) ≡ ns
+scope_node_names ns types h = nodes_names ns (reverse types) (h ∙ sym (length-reverse types))
+
+pub scope_node : (ns : List (List ℕ)) (types : List NodeTypes) (name : List ℕ) (place : ℕ) (x : NodeTypes) → length ns ≡ length types → newest ns name ≡ Some place
+    → x ≡ get_or types place x → found_node (nodes_of ns (reverse types)) name ≡ Some (node_view name x)
+scope_node ns types name place x h at is =
+    let count : length (reverse types) ≡ length types = length-reverse types in
+    let below : place < length ns = newest_below ns name place at in
+    let back : length types - 1 - (length (reverse types) - 1 - place) ≡ place = omega arith in
+    node_turned ns (reverse types) name place x (h ∙ sym count) at
+    ∙ ap (λ y. Some (node_view name y)) (get_or-reverse types (length (reverse types) - 1 - place) x (omega arith) ∙ ap (λ k. get_or types k x) back ∙ sym is)
+
+pub scope_no_node : (ns : List (List ℕ)) (types : List NodeTypes) (name : List ℕ) → length ns ≡ length types → newest ns name ≡ None
+    → found_node (nodes_of ns (reverse types)) name ≡ None
+scope_no_node ns types name h at = node_none ns (reverse types) name (h ∙ sym (length-reverse types)) at
+
+pub new_node_names : (ns : List (List ℕ)) (types : List NodeTypes) (name : List ℕ) → length ns ≡ length types → is_among name (node_names (nodes_of ns (reverse types))) ≡ is_some (newest ns name)
+new_node_names ns types name h = ap (is_among name) (scope_node_names ns types h) ∙ sym (newest_among ns name)
+
+pub ruleset node_steps = (scope_node, scope_no_node, scope_node_names, newest_below, turned)
 
 -- NEW NAMES
 

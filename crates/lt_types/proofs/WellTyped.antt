@@ -1,19 +1,19 @@
 -- A text is well typed exactly where it breaks no rule.
-use Rattle.std.proofs.Common.{◌≡◌, ℕ, List, [], ◌∷◌, ◌++◌, Option, Some, None, option_map, refl, subst}
+use Rattle.std.proofs.Common.{◌≡◌, ℕ, suc, nat_eq, eqb-true, eq-eqb, not, ◌&&◌, length, arith, ap, List, [], ◌∷◌, ◌++◌, Option, Some, None, option_map, refl, subst, true, ◌∙◌}
 use Rattle.lt_ast.specs.declared.group.TypeName.{TypeName}
 use Rattle.lt_ast.specs.declared.group.TypeName.TheVariants as t
 use Rattle.lt_ast.specs.Syntax as s
-use Rattle.lt_ast.specs.Syntax.{Word, Exp, Argument, Arguments, Limits, Braces, Alternative, Alternatives, Trace, Traces, Grouping, Groupings, MaybeExp, MaybeTrace, Parameters, Meaning, Macro, Declaration}
-use Rattle.lt_types.specs.Environment.{Environment, at_start, Entry, variable, parameter, macro, Parameter, by_value, by_ref, found, Role, inputs, variables, parameters, with_group, with_groups, with_group_names, with_groups_names, with_parameters, with_macro, with_exceptions, with_declaration, with_inputs_and_outputs}
-use Rattle.lt_types.specs.Operators.{serves_as, unary_takes, unary_gives, binary_takes, binary_gives}
+use Rattle.lt_ast.specs.Syntax.{Word, Exp, Argument, Arguments, Limits, Braces, Alternative, Alternatives, Trace, Traces, Grouping, Groupings, MaybeExp, MaybeTrace, Parameters, Meaning, Macro, Run, Declaration}
+use Rattle.lt_types.specs.Environment.{Environment, at_start, Entry, variable, parameter, macro, Input, Node, Parameter, by_value, by_ref, found, found_node, node_names, with_names, with_run, with_runs, TypedName, with_variables_alone, Role, inputs, variables, parameters, with_group, with_groups, with_group_names, with_groups_names, with_parameters, with_macro, with_exceptions, with_declaration, with_inputs_and_outputs}
+use Rattle.lt_types.specs.Operators.{same_type, serves_as, unary_takes, unary_gives, binary_takes, binary_gives}
 use Rattle.lt_ast.specs.Literals.{figure_type}
-use Rattle.lt_types.specs.Typing.{HasType, ArgumentFits, ArgumentsFit, AreLimits, IsBraced, IsAlternative, AreAlternatives, AreTraces, IsGroup, AreGroups, IsFirst, IsHandler, AreParameters, IsMeaning, IsMacro, IsTrace, IsDeclaration, AreDeclarations, IsWellTyped, may_be_written, has_node}
+use Rattle.lt_types.specs.Typing.{HasType, AreNew, ArgumentFits, ArgumentsFit, AreLimits, IsBraced, IsAlternative, AreAlternatives, AreTraces, IsGroup, AreGroups, IsFirst, IsHandler, AreParameters, IsMeaning, IsMacro, IsTrace, AreGiven, AreRuns, IsRun, IsCondition, IsDeclaration, AreDeclarations, IsWellTyped, may_be_written, has_node}
 use Rattle.lt_ast.specs.Places.{span_of}
-use Rattle.lt_types.specs.Refusals.{unless, entry_type, type_of, known, applied, argument_misfit, arguments_misfit, as_many, first_wanted, first_place, exp_refusals, argument_refusals, arguments_refusals, limits_refusals, braces_refusals, alternative_refusals, alternatives_refusals, traces_refusals, group_refusals, groups_refusals, first_refusals, handler_refusals, parameters_refusals, meaning_refusals, macro_refusals, trace_refusals, declaration_refusals, declarations_refusals, type_refusals}
+use Rattle.lt_types.specs.Refusals.{unless, entry_type, type_of, known, applied, argument_misfit, arguments_misfit, as_many, first_wanted, first_place, exp_refusals, argument_refusals, arguments_refusals, limits_refusals, braces_refusals, alternative_refusals, alternatives_refusals, traces_refusals, group_refusals, groups_refusals, first_refusals, handler_refusals, parameters_refusals, meaning_refusals, macro_refusals, trace_refusals, known_node, exps_refusals, given_misfit, all_given_misfit, counts_agree, applied_node, new_names, run_refusals, runs_refusals, condition_refusals, declaration_refusals, declarations_refusals, type_refusals}
 use Rattle.lt_types.specs.Law.{TypesAreOne, WellTypedIsUnrefused}
 use Rattle.lt_types.specs.declared.refusal.TypeRefusal.{TypeRefusal}
 use Rattle.lt_types.specs.declared.refusal.TypeRefusal.TheVariants.{Mismatch, Arity, NoNode}
-use Rattle.lt_types.proofs.Agreeing.{Agrees, AgreesInTwo, Types, none, never, test, both, all_three, all_four, four_in_five, one_more, same, tested, of_type, of_type_then, of_type_around, in_two, only, with_one, with_two, with_choice, nil_right}
+use Rattle.lt_types.proofs.Agreeing.{Agrees, AgreesInTwo, Types, none, never, test, both, and-both, and-left, and-right, same-refl, same-is, typed_clean, typed_back, unless_clean, unless_back, nil_both, nil_left, all_three, all_five, four_in_five, one_more, same, tested, of_type, of_type_then, of_type_around, in_two, only, with_one, with_two, with_choice, nil_right}
 use Rattle.lt_types.proofs.Names.{named_types, pre_types, variable_agrees, new_agrees, exception_agrees, new_macro_agrees}
 use Rattle.lt_types.proofs.Ranges.{group_range_agrees}
 
@@ -130,9 +130,91 @@ mutual
   trace_agrees env (s.try x h) = both (trace_agrees env x) (handler_agrees env h)
   trace_agrees env (s.value e) = tested (λ k. serves_as k t.Trace) (span_of e) (exp_types env e)
 
+-- what is said of expressions that are given for inputs
+record AreAllGiven (env : Environment) (es : List Exp) (js : List Input) : Type 0 where
+  pub inside : exps_refusals env es ≡ []
+  pub number : length es ≡ length js
+  pub fit : all_given_misfit env es js ≡ []
+
+-- an expression that is given for an input
+given_clean : (env : Environment) (e : Exp) (i : Input) → HasType env e i.kind → not i.ranged ≡ true → (exp_refusals env e ≡ []) × (given_misfit env e i ≡ [])
+given_clean env e i h k =
+    let types = exp_types env e in
+    (types.clean i.kind h, typed_clean (λ kind. same_type kind i.kind && not i.ranged) (span_of e) (types.is_shown i.kind h) (and-both (same-refl i.kind) k))
+
+given_back : (env : Environment) (e : Exp) (i : Input) → exp_refusals env e ≡ [] → given_misfit env e i ≡ [] → HasType env e i.kind × (not i.ranged ≡ true)
+given_back env e i h f =
+    let types = exp_types env e in
+    let own = types.back h in
+    let b : (same_type own.0 i.kind && not i.ranged) ≡ true = typed_back (λ kind. same_type kind i.kind && not i.ranged) (span_of e) (types.is_shown own.0 own.1) f in
+    (subst (HasType env e) (same-is own.0 i.kind (and-left (same_type own.0 i.kind) (not i.ranged) b)) own.1, and-right (same_type own.0 i.kind) (not i.ranged) b)
+
+-- expressions that are given for inputs
+all_given_clean : (env : Environment) (es : List Exp) (js : List Input) → AreGiven env es js → AreAllGiven env es js
+all_given_clean env [] [] h = record { inside = refl; number = refl; fit = refl }
+all_given_clean env [] (i ∷ js) h = absurd h
+all_given_clean env (e ∷ es) [] h = absurd h
+all_given_clean env (e ∷ es) (i ∷ js) h =
+    let here = given_clean env e i h.0 h.1 in
+    let rest = all_given_clean env es js h.2 in
+    record { inside = nil_both here.0 rest.inside; number = ap suc rest.number; fit = nil_both here.1 rest.fit }
+
+all_given_back : (env : Environment) (es : List Exp) (js : List Input) → AreAllGiven env es js → AreGiven env es js
+all_given_back env [] [] h = tt
+all_given_back env [] (i ∷ js) h = absurd (omega (arith, h.number))
+all_given_back env (e ∷ es) [] h = absurd (omega (arith, h.number))
+all_given_back env (e ∷ es) (i ∷ js) h =
+    let here = given_back env e i (nil_left (exp_refusals env e) _ h.inside) (nil_left (given_misfit env e i) _ h.fit) in
+    let rest : AreAllGiven env es js = record {
+      inside = nil_right (exp_refusals env e) _ h.inside;
+      number = omega (arith, h.number);
+      fit = nil_right (given_misfit env e i) _ h.fit;
+    } in
+    (here.0, here.1, all_given_back env es js rest)
+
+-- a run, by the node of its name
+run_clean : (env : Environment) (taken : List (List ℕ)) (r : Run) (o : Option Node) (n : Node) → AreNew taken r.names → o ≡ Some n → length r.names ≡ length n.outputs → AreGiven env r.arguments n.inputs
+    → new_names taken r.names ++ (known_node r.node o ++ (exps_refusals env r.arguments ++ applied_node env r o)) ≡ []
+run_clean env taken r o n new is number given =
+    let all = all_given_clean env r.arguments n.inputs given in
+    let counts : counts_agree r n ≡ true = and-both (eq-eqb (length r.names) (length n.outputs) number) (eq-eqb (length r.arguments) (length n.inputs) all.number) in
+    let applied : applied_node env r (Some n) ≡ [] = nil_both (unless_clean _ counts) all.fit in
+    nil_both ((new_agrees taken r.names).clean new)
+    (ap (λ x. known_node r.node x ++ (exps_refusals env r.arguments ++ applied_node env r x)) is ∙ nil_both all.inside applied)
+
+run_back : (env : Environment) (taken : List (List ℕ)) (r : Run) (o : Option Node) → new_names taken r.names ++ (known_node r.node o ++ (exps_refusals env r.arguments ++ applied_node env r o)) ≡ []
+    → AreNew taken r.names × (n : Node) × (o ≡ Some n) × (length r.names ≡ length n.outputs) × AreGiven env r.arguments n.inputs
+run_back env taken r None h = let f : known_node r.node None ++ (exps_refusals env r.arguments ++ []) ≡ [] = nil_right (new_names taken r.names) _ h in absurd (cc)
+run_back env taken r (Some n) h =
+    let behind : exps_refusals env r.arguments ++ applied_node env r (Some n) ≡ [] = nil_right (new_names taken r.names) _ h in
+    let applied : applied_node env r (Some n) ≡ [] = nil_right (exps_refusals env r.arguments) _ behind in
+    let counts : counts_agree r n ≡ true = unless_back (counts_agree r n) _ (nil_left (unless (counts_agree r n) (Arity r.node.span)) _ applied) in
+    let all : AreAllGiven env r.arguments n.inputs = record {
+      inside = nil_left (exps_refusals env r.arguments) _ behind;
+      number = eqb-true (length r.arguments) (length n.inputs) (and-right (nat_eq (length r.names) (length n.outputs)) (nat_eq (length r.arguments) (length n.inputs)) counts);
+      fit = nil_right (unless (counts_agree r n) (Arity r.node.span)) _ applied;
+    } in (
+      (new_agrees taken r.names).back (nil_left (new_names taken r.names) _ h),
+      n,
+      refl,
+      eqb-true (length r.names) (length n.outputs) (and-left (nat_eq (length r.names) (length n.outputs)) (nat_eq (length r.arguments) (length n.inputs)) counts),
+      all_given_back env r.arguments n.inputs all,
+    )
+
+run_agrees : (env : Environment) (taken : List (List ℕ)) (r : Run) → Agrees (IsRun env taken r) (run_refusals env taken r)
+run_agrees env taken r = record {
+  clean = λ h. run_clean env taken r (found_node env.nodes r.node.text) h.1 h.0 h.2 h.3 h.4;
+  back = run_back env taken r (found_node env.nodes r.node.text);
+}
+
+runs_agree : (env : Environment) (taken : List (List ℕ)) (rs : List Run) → Agrees (AreRuns env taken rs) (runs_refusals env taken rs)
+runs_agree env taken [] = none
+runs_agree env taken (r ∷ rs) = both (run_agrees env taken r) (runs_agree (with_run env r) (with_names r.names taken) rs)
+
 declaration_agrees : (env : Environment) (d : Declaration) → Agrees (IsDeclaration env d) (declaration_refusals env d)
-declaration_agrees env (s.node w ins outs x) =
-    all_four (new_agrees env.nodes (w ∷ [])) (groups_agree inputs env [] ins) (groups_agree variables (with_groups inputs env ins) (with_groups_names ins []) outs) (trace_agrees (with_inputs_and_outputs env ins outs) x)
+declaration_agrees env (s.node w ins outs rs x) =
+    all_five (new_agrees (node_names env.nodes) (w ∷ [])) (groups_agree inputs env [] ins) (groups_agree variables (with_groups inputs env ins) (with_groups_names ins []) outs)
+    (runs_agree (with_inputs_and_outputs env ins outs) (with_groups_names outs (with_groups_names ins [])) rs) (trace_agrees (with_runs (with_inputs_and_outputs env ins outs) rs) x)
 declaration_agrees env (s.macro_declaration m) = both (new_macro_agrees env m) (macro_agrees env m)
 declaration_agrees env (s.exception_declaration ws) = new_agrees env.exceptions ws
 
@@ -145,6 +227,10 @@ program_agrees decimals ds = both (declarations_agree (at_start decimals) ds) (t
 
 pub well_typed_is_unrefused : WellTypedIsUnrefused
 well_typed_is_unrefused decimals ds = let a = program_agrees decimals ds in (a.clean, a.back)
+
+-- a condition is well typed exactly where it breaks no rule
+pub condition_agrees : (decimals : ℕ) (vs : List TypedName) (e : Exp) → Agrees (IsCondition decimals vs e) (condition_refusals decimals vs e)
+condition_agrees decimals vs e = of_type t.Bool (span_of e) (exp_types (with_variables_alone decimals vs) e)
 
 pub types_are_one : TypesAreOne
 types_are_one env e kind other h j =

@@ -1,10 +1,12 @@
 -- the names that are visible at a place, and what they stand for
 pub mod Environment
+-- what values of the code stand for
+pub mod View
 -- the types of operators, and where one type serves as another
 pub mod Operators
 -- the numbers that the ends of a range are read as
 pub mod Literal
--- programs that texts spell
+-- programs and expressions that texts spell
 pub mod Spelled
 -- when a program is well typed
 pub mod Typing

@@ -1,22 +1,23 @@
--- The rules that a program breaks, in the order of its text: the first of them is the answer, and of the rest only that there
--- are none counts. A name that is declared, a name that is used, and each part of a construct come at their places; the
--- construct's own rules come after its parts, the one with the smaller place first. An `assert` judges its condition's type
--- after its trace; a weight, a bound, an item and a macro's body are judged right after their own expression; a range by the
--- types of its literals, then their sizes, then the order of its ends, then its step; the number of arguments before their
--- types. A rule that needs the type of an expression is judged only where the expression has one. A list that is named by a
--- rule holds the refusals where the rule is broken.
-use Rattle.std.specs.Prelude.{ℕ, nat_le, Bool, true, false, not, ◌&&◌, List, [], ◌∷◌, ◌++◌, unsigned_abs, int_lt, pos, option_map, is_none}
+-- The rules that a program breaks, in the order of its text: the first of them is the answer, and of the rest only that
+-- there are none counts. A name that is declared, a name that is used, and each part of a construct come at their places;
+-- the construct's own rules come after its parts, the one with the smaller place first. An `assert` judges its condition's
+-- type after its trace; a weight, a bound, an item and a macro's body are judged right after their own expression; a range
+-- by the types of its literals, then their sizes, then the order of its ends, then its step; the number of arguments before
+-- their types. A run has its names, the name of its node and its arguments as parts. A rule that needs the type of an
+-- expression is judged only where the expression has one. A list that is named by a rule holds the refusals where the rule
+-- is broken.
+use Rattle.std.specs.Prelude.{ℕ, nat_le, nat_eq, length, Bool, true, false, not, ◌&&◌, List, [], ◌∷◌, ◌++◌, unsigned_abs, int_lt, pos, option_map, is_none}
 use Rattle.std.specs.declared.option.Option.{Option}
 use Rattle.std.specs.declared.option.Option.TheVariants.{None, Some}
 use Rattle.lt_ast.specs.declared.span.Span.{Span}
 use Rattle.lt_ast.specs.declared.group.TypeName.{TypeName}
 use Rattle.lt_ast.specs.declared.group.TypeName.TheVariants as t
 use Rattle.lt_ast.specs.Syntax as s
-use Rattle.lt_ast.specs.Syntax.{Word, Figure, WrittenRange, Exp, Argument, Arguments, Limits, Braces, Alternative, Alternatives, Trace, Traces, Grouping, Groupings, MaybeExp, MaybeTrace, Parameters, Meaning, Macro, Declaration}
+use Rattle.lt_ast.specs.Syntax.{Word, Figure, WrittenRange, Exp, Argument, Arguments, Limits, Braces, Alternative, Alternatives, Trace, Traces, Grouping, Groupings, MaybeExp, MaybeTrace, Parameters, Meaning, Macro, Run, Declaration}
 use Rattle.lt_ast.specs.Literals.{figure_type}
 use Rattle.lt_ast.specs.Places.{span_of}
 use Rattle.lt_num.specs.Bounds.{most_raw}
-use Rattle.lt_types.specs.Environment.{Parameter, by_value, by_ref, Entry, variable, parameter, macro, Environment, at_start, found, is_among, Role, inputs, variables, parameters, with_group, with_groups, with_group_names, with_groups_names, with_parameters, with_macro, with_exceptions, with_declaration, with_inputs_and_outputs}
+use Rattle.lt_types.specs.Environment.{Parameter, by_value, by_ref, Entry, variable, parameter, macro, Input, Node, Environment, at_start, found, found_node, node_names, is_among, with_names, Role, inputs, variables, parameters, with_group, with_groups, with_group_names, with_groups_names, with_parameters, with_macro, with_run, with_runs, with_exceptions, with_declaration, with_inputs_and_outputs, TypedName, with_variables_alone}
 use Rattle.lt_types.specs.Operators.{is_value, same_type, serves_as, unary_takes, binary_takes, unary_gives, binary_gives}
 use Rattle.lt_types.specs.Literal.{raw_of}
 use Rattle.lt_types.specs.Typing.{may_be_written, has_node}
@@ -295,17 +296,63 @@ abbrev mutual
   trace_refusals env (s.try x h) = trace_refusals env x ++ handler_refusals env h
   trace_refusals env (s.value e) = exp_refusals env e ++ typed (λ k. serves_as k t.Trace) (type_of env e) (span_of e)
 
+-- the node that is run is known
+abbrev pub known_node : Word → Option Node → List TypeRefusal
+known_node w None = Unknown w.span ∷ []
+known_node w (Some n) = []
+
+-- expressions in turn
+abbrev pub exps_refusals : Environment → List Exp → List TypeRefusal
+exps_refusals env [] = []
+exps_refusals env (e ∷ es) = exp_refusals env e ++ exps_refusals env es
+
+-- an expression is of the type of the input that it is given for, and no range is written for that
+abbrev pub given_misfit : Environment → Exp → Input → List TypeRefusal
+given_misfit env e i = typed (λ k. same_type k i.kind && not i.ranged) (type_of env e) (span_of e)
+
+-- expressions that are given for inputs, as far as both go
+abbrev pub all_given_misfit : Environment → List Exp → List Input → List TypeRefusal
+all_given_misfit env [] js = []
+all_given_misfit env (e ∷ es) [] = []
+all_given_misfit env (e ∷ es) (i ∷ js) = given_misfit env e i ++ all_given_misfit env es js
+
+-- a node that is run has as many outputs as there are names, and as many inputs as there are arguments
+abbrev pub counts_agree : Run → Node → Bool
+counts_agree r n =
+    nat_eq (length r.names) (length n.outputs) && nat_eq (length r.arguments) (length n.inputs)
+
+-- what a run asks of the node that it runs
+abbrev pub applied_node : Environment → Run → Option Node → List TypeRefusal
+applied_node env r None = []
+applied_node env r (Some n) =
+    unless (counts_agree r n) (Arity r.node.span) ++ all_given_misfit env r.arguments n.inputs
+
+-- a run, where these names are taken
+abbrev pub run_refusals : Environment → List (List ℕ) → Run → List TypeRefusal
+run_refusals env taken r =
+    let node = found_node env.nodes r.node.text in
+    new_names taken r.names
+    ++ (known_node r.node node ++ (exps_refusals env r.arguments ++ applied_node env r node))
+
+-- runs, each of which sees the names of those before it
+abbrev pub runs_refusals : Environment → List (List ℕ) → List Run → List TypeRefusal
+runs_refusals env taken [] = []
+runs_refusals env taken (r ∷ rs) =
+    run_refusals env taken r ++ runs_refusals (with_run env r) (with_names r.names taken) rs
+
 -- no macro of the text before has the macro's name
 abbrev pub new_macro : Environment → Macro → List TypeRefusal
 new_macro env (s.macro w ps kind m) = unless (is_none (found env.names w.text)) (Twice w.span)
 
 -- a declaration of a text, after those before it
 abbrev pub declaration_refusals : Environment → Declaration → List TypeRefusal
-declaration_refusals env (s.node w ins outs x) =
-    new_names env.nodes (w ∷ [])
+declaration_refusals env (s.node w ins outs rs x) =
+    let inside = with_inputs_and_outputs env ins outs in
+    new_names (node_names env.nodes) (w ∷ [])
     ++ (groups_refusals inputs env [] ins
     ++ (groups_refusals variables (with_groups inputs env ins) (with_groups_names ins []) outs
-    ++ trace_refusals (with_inputs_and_outputs env ins outs) x))
+    ++ (runs_refusals inside (with_groups_names outs (with_groups_names ins [])) rs
+    ++ trace_refusals (with_runs inside rs) x)))
 declaration_refusals env (s.macro_declaration m) = new_macro env m ++ macro_refusals env m
 declaration_refusals env (s.exception_declaration ws) = new_names env.exceptions ws
 
@@ -317,3 +364,9 @@ declarations_refusals env (d ∷ ds) = declaration_refusals env d ++ declaration
 -- the rules that a text breaks; that it has no node is the last
 abbrev pub type_refusals : ℕ → List Declaration → List TypeRefusal
 type_refusals decimals ds = declarations_refusals (at_start decimals) ds ++ unless (has_node ds) NoNode
+
+-- the rules that an expression over variables alone breaks, which is to be a Boolean
+abbrev pub condition_refusals : ℕ → List TypedName → Exp → List TypeRefusal
+condition_refusals decimals vs e =
+    let env = with_variables_alone decimals vs in
+    exp_refusals env e ++ wanted t.Bool env e

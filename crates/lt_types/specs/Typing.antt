@@ -1,14 +1,14 @@
 -- When a program is well typed: a line for each construct.
-use Rattle.std.specs.Prelude.{◌≡◌, ℕ, Bool, true, false, not, ◌&&◌, ◌||◌, IsTrue, List, [], ◌∷◌, ◌≤ℤ◌, pos, is_none, Ok}
+use Rattle.std.specs.Prelude.{◌≡◌, ℕ, Bool, true, false, not, ◌&&◌, ◌||◌, IsTrue, List, [], ◌∷◌, length, ◌≤ℤ◌, pos, is_none, Ok}
 use Rattle.std.specs.declared.option.Option.{Option}
 use Rattle.std.specs.declared.option.Option.TheVariants.{None, Some}
 use Rattle.lt_ast.specs.declared.group.TypeName.{TypeName}
 use Rattle.lt_ast.specs.declared.group.TypeName.TheVariants as t
 use Rattle.lt_ast.specs.Syntax as s
-use Rattle.lt_ast.specs.Syntax.{Word, Figure, WrittenRange, Exp, Argument, Arguments, Limits, Braces, Alternative, Alternatives, Trace, Traces, Grouping, Groupings, MaybeExp, MaybeTrace, Parameters, Meaning, Macro, Declaration}
+use Rattle.lt_ast.specs.Syntax.{Word, Figure, WrittenRange, Exp, Argument, Arguments, Limits, Braces, Alternative, Alternatives, Trace, Traces, Grouping, Groupings, MaybeExp, MaybeTrace, Parameters, Meaning, Macro, Run, Declaration}
 use Rattle.lt_num.specs.Literal.{IsRead}
 use Rattle.lt_num.specs.declared.fixed.Fixed.{Fixed}
-use Rattle.lt_types.specs.Environment.{Parameter, by_value, by_ref, Entry, variable, parameter, macro, Environment, at_start, found, is_among, Role, inputs, variables, parameters, with_group, with_groups, with_group_names, with_groups_names, with_parameters, with_macro, with_exceptions, with_declaration, with_inputs_and_outputs}
+use Rattle.lt_types.specs.Environment.{Parameter, by_value, by_ref, Entry, variable, parameter, macro, Input, Node, Environment, at_start, found, found_node, node_names, is_among, with_names, Role, inputs, variables, parameters, with_group, with_groups, with_group_names, with_groups_names, with_parameters, with_macro, with_run, with_runs, with_exceptions, with_declaration, with_inputs_and_outputs, TypedName, with_variables_alone}
 use Rattle.lt_types.specs.Operators.{is_number, is_value, serves_as, unary_takes, binary_takes, unary_gives, binary_gives}
 use Rattle.lt_ast.specs.Literals.{figure_type, figure_text}
 
@@ -181,17 +181,42 @@ abbrev mutual
   IsTrace env (s.try x h) = IsTrace env x × IsHandler env h
   IsTrace env (s.value e) = (k : TypeName) × HasType env e k × IsTrue (serves_as k t.Trace)
 
+-- expressions are given for inputs, which are as many: each has the type of its input, which has no written range
+abbrev pub AreGiven : Environment → List Exp → List Input → Type 0
+AreGiven env [] [] = Unit {0}
+AreGiven env [] (i ∷ js) = ⊥
+AreGiven env (e ∷ es) [] = ⊥
+AreGiven env (e ∷ es) (i ∷ js) =
+    HasType env e i.kind × IsTrue (not i.ranged) × AreGiven env es js
+
+-- A run: its names are new, where those of the node's inputs and outputs and of its earlier runs are taken. The node is one
+-- before, has as many outputs as there are names, and may be given the arguments.
+abbrev pub IsRun : Environment → List (List ℕ) → Run → Type 0
+IsRun env taken r =
+    AreNew taken r.names
+    × (n : Node) × (found_node env.nodes r.node.text ≡ Some n)
+    × (length r.names ≡ length n.outputs)
+    × AreGiven env r.arguments n.inputs
+
+-- runs, each of which sees the names of those before it
+abbrev pub AreRuns : Environment → List (List ℕ) → List Run → Type 0
+AreRuns env taken [] = Unit {0}
+AreRuns env taken (r ∷ rs) =
+    IsRun env taken r × AreRuns (with_run env r) (with_names r.names taken) rs
+
 -- no earlier macro of the text has the macro's name
 abbrev pub IsNewMacro : Environment → Macro → Type 0
 IsNewMacro env (s.macro w ps kind m) = found env.names w.text ≡ None
 
 -- a declaration of a text, after those before it
 abbrev pub IsDeclaration : Environment → Declaration → Type 0
-IsDeclaration env (s.node w ins outs x) =
-    AreNew env.nodes (w ∷ [])
+IsDeclaration env (s.node w ins outs rs x) =
+    AreNew (node_names env.nodes) (w ∷ [])
     × AreGroups inputs env [] ins
     × AreGroups variables (with_groups inputs env ins) (with_groups_names ins []) outs
-    × IsTrace (with_inputs_and_outputs env ins outs) x
+    × AreRuns (with_inputs_and_outputs env ins outs)
+    (with_groups_names outs (with_groups_names ins [])) rs
+    × IsTrace (with_runs (with_inputs_and_outputs env ins outs) rs) x
 IsDeclaration env (s.macro_declaration m) = IsNewMacro env m × IsMacro env m
 IsDeclaration env (s.exception_declaration ws) = AreNew env.exceptions ws
 
@@ -203,10 +228,14 @@ AreDeclarations env (d ∷ ds) = IsDeclaration env d × AreDeclarations (with_de
 -- one of them is a node
 abbrev pub has_node : List Declaration → Bool
 has_node [] = false
-has_node (s.node w ins outs x ∷ ds) = true
+has_node (s.node w ins outs rs x ∷ ds) = true
 has_node (s.macro_declaration m ∷ ds) = has_node ds
 has_node (s.exception_declaration ws ∷ ds) = has_node ds
 
 -- A text is well typed: each declaration is, and one of them is a node.
 abbrev pub IsWellTyped : ℕ → List Declaration → Type 0
 IsWellTyped decimals ds = AreDeclarations (at_start decimals) ds × IsTrue (has_node ds)
+
+-- An expression over variables alone is well typed as a condition: it is a Boolean.
+abbrev pub IsCondition : ℕ → List TypedName → Exp → Type 0
+IsCondition decimals vs e = HasType (with_variables_alone decimals vs) e t.Bool

@@ -13,7 +13,9 @@ ghost use Rattle.lt_types.specs.Typing.{IsWellTyped, has_node};
 
 use crate::entry::Role;
 use crate::groups::{check_groups, check_macro, declare_macro};
+use crate::node_types::NodeTypes;
 use crate::refusal::TypeRefusal;
+use crate::runs::check_runs;
 use crate::scope::Scope;
 use crate::traces::check_trace;
 use lt_ast::{Decl, MacroDecl, NodeDecl, Program};
@@ -127,7 +129,7 @@ fn check_decl(alloc: Global, scope: &mut Scope, decl: &Decl) -> Result<(), TypeR
 }
 
 // A node.
-#[tactic(auto, using(crate::proofs::Leading::leads, crate::proofs::Scopes::scope_ends, crate::proofs::Scopes::inputs_and_outputs_end))]
+#[tactic(auto, using(crate::proofs::Leading::leads, crate::proofs::Scopes::scope_ends, crate::proofs::Scopes::node_oldest))]
 fn check_node(alloc: Global, scope: &mut Scope, declared: &NodeDecl) -> Result<(), TypeRefusal>
     ensures answered { Checks result
         (declaration_refusals scope.old (node_declaration declared.now)) }
@@ -138,9 +140,11 @@ fn check_node(alloc: Global, scope: &mut Scope, declared: &NodeDecl) -> Result<(
     let before = scope.name_count();
     check_groups(alloc, scope, Role::Inputs, before, &declared.inputs)?;
     check_groups(alloc, scope, Role::Variables, before, &declared.outputs)?;
+    check_runs(alloc, scope, before, &declared.runs)?;
     check_trace(alloc, scope, &declared.body)?;
     scope.forget_names(before);
-    scope.declare_node(&declared.name)
+    let types = NodeTypes::of_node(alloc, declared)?;
+    scope.declare_node(&declared.name, types)
 }
 
 // That no macro of the text before has the macro's name.

@@ -1,16 +1,18 @@
 //! What is visible at a place of a text.
 
-ghost use Rattle.std.specs.Prelude.{◌≡◌, ◌≤◌, [], ◌∷◌, length, option_map, IfOk, OnOk};
+ghost use Rattle.std.specs.Prelude.{◌≡◌, ◌≤◌, [], ◌∷◌, length, map, option_map, IfOk, OnOk};
 ghost use Rattle.lt_ast.specs.Letters.{letters};
 ghost use Rattle.lt_ast.specs.View.{word, words};
 ghost use Rattle.lt_num.specs.Bounds.{most_decimals};
 ghost use Rattle.lt_types.specs.inner.Checks.{Checks};
-ghost use Rattle.lt_types.specs.Environment.{at_start, found, group_entry, is_among, with_bindings, with_exceptions};
+ghost use Rattle.lt_types.specs.Environment.{at_start, found, found_node, group_entry, is_among, node_names, with_bindings, with_exceptions, with_variables, with_variables_alone};
 ghost use Rattle.lt_types.specs.Refusals.{new_names};
-ghost use Rattle.lt_types.specs.inner.Scoping.{declared_since, entry_view, role_view, since, with_oldest_exceptions, with_oldest_names};
+ghost use Rattle.lt_types.specs.inner.Scoping.{declared_since, entry_view, node_view, role_view, since, with_oldest_exceptions, with_oldest_names};
+ghost use Rattle.lt_types.specs.View.{typed_name};
 
 use crate::entry::{Entry, Role};
 use crate::name_stack::NameStack;
+use crate::node_types::NodeTypes;
 use crate::refusal::TypeRefusal;
 use lt_ast::{Name, Names, TypeName};
 use std::alloc::Global;
@@ -27,7 +29,11 @@ pub(crate) struct Scope {
     // .. and what each stands for.
     entries: Vec<Entry>,
 
+    // Nodes ..
     nodes: NameStack,
+
+    // .. and what is known of each.
+    types: Vec<NodeTypes>,
 
     exceptions: NameStack,
 }
@@ -35,18 +41,18 @@ pub(crate) struct Scope {
 impl Model for Scope {
     ghost use Rattle.std.specs.Prelude.{map, reverse};
     ghost use Rattle.lt_types.specs.Environment.{Environment};
-    ghost use Rattle.lt_types.specs.inner.Scoping.{bindings, entry_view, IsMatched};
+    ghost use Rattle.lt_types.specs.inner.Scoping.{bindings, entry_view, nodes_of, IsMatched};
 
     ghost Value = { Environment };
 
     ghost view = { λ s. record {
       decimals = s.decimals;
       names = bindings s.names (reverse (map entry_view s.entries.items));
-      nodes = s.nodes;
+      nodes = nodes_of s.nodes (reverse s.types.items);
       exceptions = s.exceptions;
     } };
 
-    ghost invariant = { λ s. IsMatched s.decimals s.names s.entries.items };
+    ghost invariant = { λ s. IsMatched s.decimals s.names s.entries.items s.nodes s.types.items };
 }
 
 impl Scope {
@@ -64,8 +70,27 @@ impl Scope {
             names: NameStack::new(alloc),
             entries: Vec::new(alloc),
             nodes: NameStack::new(alloc),
+            types: Vec::new(alloc),
             exceptions,
         })
+    }
+
+    // Where nothing is declared but variables; of equal names the first counts.
+    pub(crate) fn with_variables(
+        alloc: Global,
+        decimals: u32,
+        variables: &[(String, TypeName)],
+    ) -> Result<Scope, TypeRefusal>
+        requires { decimals ≤ most_decimals }
+        ensures made { IfOk result (λ s. s ≡
+            with_variables_alone decimals (map typed_name variables.now)) }
+        ensures memory { Checks result [] }
+    {
+        let mut scope = Scope::new(alloc, decimals)?;
+        for (name, kind) in variables.iter().rev() {
+            scope.declare(name.as_str(), Entry::Variable(*kind))?;
+        }
+        Ok(scope)
     }
 
     // How many decimals a real has.
@@ -144,6 +169,24 @@ impl Scope {
         Ok(())
     }
 
+    // Variables of these types, in order and as far as both go.
+    pub(crate) fn declare_variables(
+        &mut self,
+        names: &Names,
+        kinds: &[TypeName],
+    ) -> Result<(), TypeRefusal>
+        ensures ok { OnOk result (self.new ≡
+            record self.old {
+              names = with_variables (words names.now) kinds.now self.old.names;
+            }) }
+        ensures memory { Checks result [] }
+    {
+        for (name, kind) in names.items.iter().zip(kinds) {
+            self.declare(name.text.as_str(), Entry::Variable(*kind))?;
+        }
+        Ok(())
+    }
+
     // Forgets the newest names, so that so many are left.
     #[tactic(auto, using(crate::proofs::Stacks::scope_steps))]
     pub(crate) fn forget_names(&mut self, count: usize)
@@ -208,9 +251,9 @@ impl Scope {
     }
 
     // That no node has this name.
-    #[tactic(auto, using(crate::proofs::Leading::leads, crate::proofs::Stacks::newest_among))]
+    #[tactic(auto, using(crate::proofs::Leading::leads, crate::proofs::Stacks::new_node_names))]
     pub(crate) fn check_new_node(&self, name: &Name) -> Result<(), TypeRefusal>
-        ensures { Checks result (new_names self.now.nodes (word name.now ∷ [])) }
+        ensures { Checks result (new_names (node_names self.now.nodes) (word name.now ∷ [])) }
     {
         if self.nodes.newest(name.text.as_str()).is_some() {
             return Err(TypeRefusal::Twice(name.span));
@@ -218,12 +261,30 @@ impl Scope {
         Ok(())
     }
 
-    // A node.
-    pub(crate) fn declare_node(&mut self, name: &Name) -> Result<(), TypeRefusal>
+    // What is known of the node of this name.
+    #[tactic(auto, using(crate::proofs::Stacks::node_steps))]
+    pub(crate) fn node(&self, name: &str) -> Option<&NodeTypes>
+        ensures { option_map (λ x. node_view name.now x.now) result ≡
+            found_node self.now.nodes name.now }
+    {
+        match self.nodes.newest(name) {
+            Some(place) => Some(&self.types[place]),
+            None => None,
+        }
+    }
+
+    // A node, and what is known of it.
+    #[tactic(auto, using(crate::proofs::Stacks::node_steps))]
+    pub(crate) fn declare_node(&mut self, name: &Name, types: NodeTypes) -> Result<(), TypeRefusal>
         ensures ok { OnOk result (self.new ≡
-            record self.old { nodes = letters name.now.text ∷ self.old.nodes }) }
+            record self.old { nodes = node_view (letters name.now.text) types ∷ self.old.nodes }) }
         ensures memory { Checks result [] }
     {
-        self.nodes.push(name.text.as_str())
+        self.types.push(types)?;
+        let named = self.nodes.push(name.text.as_str());
+        if named.is_err() {
+            self.types.pop();
+        }
+        named
     }
 }

@@ -9,9 +9,9 @@ use Rattle.lt_num.specs.declared.kind.Kind.TheVariants as kind
 use Rattle.lt_formula.specs.Kinds.{Kinds}
 use Rattle.lt_macros.specs.Placed.{Placed}
 use Rattle.lt_macros.specs.Expanded.{Declared, Bounds, between, around, Expanded, eps, dead, con, raise, seq, loop, count, any, pri, par, assert, exist, catch, try, Parts, no_part, part}
-use Rattle.lt_macros.specs.Preorder.{Item, items, items_in, in_bounds, in_first, expressions_at}
+use Rattle.lt_macros.specs.Preorder.{Item, items, items_in, in_bounds, in_first, expressions_at, arguments_in}
 use Rattle.lt_typing_laws.specs.Laws.{NoneIsLeftOut}
-use Rattle.lt_typing_laws.specs.TypedNode.{node_kinds, IsOfKind, IsFirst, HaveFirsts, AreBounds, IsTyped, AreTyped}
+use Rattle.lt_typing_laws.specs.TypedNode.{node_kinds, IsOfKind, IsFirst, HaveFirsts, HaveKinds as EachHasKind, AreBounds, IsTyped, AreTyped}
 
 -- Each of these has some kind.
 abbrev HaveKinds : Kinds → List Placed → Type 0
@@ -40,6 +40,10 @@ first_listed kinds k (Some e) h = one_more kinds e k [] h (no_expression kinds)
 firsts_listed : (kinds : Kinds) (ds : List Declared) → HaveFirsts kinds ds → HaveKinds kinds (flat_map in_first ds)
 firsts_listed kinds [] h = no_expression kinds
 firsts_listed kinds (d ∷ ds) h = both kinds (in_first d) (flat_map in_first ds) (first_listed kinds d.kind d.first h.0) (firsts_listed kinds ds h.1)
+
+arguments_listed : (kinds : Kinds) (es : List Placed) → EachHasKind kinds es → HaveKinds kinds es
+arguments_listed kinds [] h = no_expression kinds
+arguments_listed kinds (e ∷ es) h = one_more kinds e h.0.0 es h.0.1 (arguments_listed kinds es h.1)
 
 bounds_listed : (kinds : Kinds) (b : Bounds) → AreBounds kinds b → HaveKinds kinds (in_bounds b)
 bounds_listed kinds (between d e) h = one_more kinds d kind.Int (e ∷ []) h.0 (one_more kinds e kind.Int [] h.1 (no_expression kinds))
@@ -70,4 +74,5 @@ pub none_is_left_out : NoneIsLeftOut
 none_is_left_out node h =
     let kinds = node_kinds node in
     both kinds (flat_map in_first node.inputs) _ (firsts_listed kinds node.inputs h.inputs)
-    (both kinds (flat_map in_first node.outputs) _ (firsts_listed kinds node.outputs h.outputs) (listed kinds node.body h.body))
+    (both kinds (flat_map in_first node.outputs) _ (firsts_listed kinds node.outputs h.outputs)
+    (both kinds (arguments_in node) _ (arguments_listed kinds (arguments_in node) h.arguments) (listed kinds node.body h.body)))

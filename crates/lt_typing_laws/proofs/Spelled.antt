@@ -6,14 +6,14 @@ use Rattle.lt_ast.specs.declared.sign.Sign.{Sign}
 use Rattle.lt_ast.specs.declared.sign.Sign.TheVariants as t
 use Rattle.lt_ast.specs.declared.span.Span.{Span}
 use Rattle.lt_ast.specs.Syntax as s
-use Rattle.lt_ast.specs.Syntax.{Exp, Argument, Arguments, Limits, Braces, Alternative, Alternatives, Trace, Traces, Grouping, Groupings, MaybeExp, MaybeTrace, Meaning, Macro, Declaration}
+use Rattle.lt_ast.specs.Syntax.{Exp, Argument, Arguments, Limits, Braces, Alternative, Alternatives, Trace, Traces, Grouping, Groupings, MaybeExp, MaybeTrace, Meaning, Macro, Run, Declaration}
 use Rattle.lt_ast.specs.Tokens.{binary_sign}
-use Rattle.lt_parser.specs.Lexemes.{lexeme, Lexemes}
-use Rattle.lt_parser.specs.Grammar.{opened, Means, Place, whole, item, DerivesExp, DerivesArgument, DerivesArguments, DerivesMoreArguments, DerivesBraced, DerivesChoice, DerivesUnweighted, DerivesMoreAlternatives, DerivesAlternative, DerivesTraces, DerivesMoreTraces, DerivesLimits, DerivesBound, DerivesGrouping, DerivesFirst, DerivesGroups, DerivesMoreGroups, DerivesMeaning, DerivesMacro, DerivesTrace, DerivesSequence, DerivesMoreItems, DerivesHandler, DerivesDeclaration, SpellsWithin}
-use Rattle.lt_parser.specs.Nesting.{most_levels}
+use Rattle.lt_grammar.specs.Lexemes.{lexeme, Lexemes}
+use Rattle.lt_grammar.specs.Grammar.{opened, Means, Place, whole, item, DerivesExp, DerivesArgument, DerivesArguments, DerivesMoreArguments, DerivesBraced, DerivesChoice, DerivesUnweighted, DerivesMoreAlternatives, DerivesAlternative, DerivesTraces, DerivesMoreTraces, DerivesLimits, DerivesBound, DerivesGrouping, DerivesFirst, DerivesGroups, DerivesMoreGroups, DerivesMeaning, DerivesMacro, DerivesTrace, DerivesSequence, DerivesMoreItems, DerivesHandler, DerivesMoreExpressions, DerivesExpressions, DerivesRun, DerivesRuns, DerivesDeclaration, SpellsWithin}
+use Rattle.lt_grammar.specs.Nesting.{most_levels}
 use Rattle.lt_typing_laws.specs.TextLaws.{SpelledMacrosFit, TextsKeepTypes}
 use Rattle.lt_typing_laws.specs.Laws.{ExpansionKeepsTypes}
-use Rattle.lt_typing_laws.specs.Macros.{FitInExp, FitInArgument, FitInArguments, FitInLimits, FitInBraces, FitInAlternative, FitInAlternatives, FitInTraces, FitInGroup, FitInGroups, FitInFirst, FitInHandler, FitInMeaning, FitInMacro, FitInTrace, FitInDeclaration, MacrosFitTheirTypes}
+use Rattle.lt_typing_laws.specs.Macros.{FitInExp, FitInArgument, FitInArguments, FitInLimits, FitInBraces, FitInAlternative, FitInAlternatives, FitInTraces, FitInGroup, FitInGroups, FitInFirst, FitInHandler, FitInMeaning, FitInMacro, FitInTrace, FitInExps, FitInRuns, FitInDeclaration, MacrosFitTheirTypes}
 
 -- a macro that stands for a trace has the type of traces
 trace_type : (kind : TypeName) (x : Trace) → Means kind (s.trace_meaning x) → kind ≡ ty.Trace
@@ -144,11 +144,27 @@ mutual
   handler_fits most d ts s.no_trace rest h = tt
   handler_fits most d ts (s.a_trace x) rest h = trace_fits most d whole h.2 x rest h.4
 
+more_expressions_fit : (most d : ℕ) (ts : Lexemes) (es : List Exp) (rest : Lexemes) → DerivesMoreExpressions most d ts es rest → FitInExps es
+more_expressions_fit most d ts [] rest h = tt
+more_expressions_fit most d ts (e ∷ es) rest h = (exp_fits most d h.2 e h.4 h.5, more_expressions_fit most d h.4 es rest h.6)
+
+expressions_fit : (most d : ℕ) (ts : Lexemes) (es : List Exp) (rest : Lexemes) → DerivesExpressions most d ts es rest → FitInExps es
+expressions_fit most d ts [] rest h = tt
+expressions_fit most d ts (e ∷ es) rest h = (exp_fits most d ts e h.0 h.1, more_expressions_fit most d h.0 es rest h.2)
+
+runs_fit : (most d : ℕ) (ts : Lexemes) (rs : List Run) (x : Trace) (rest : Lexemes) → DerivesRuns most d ts rs x rest → FitInRuns rs × FitInTrace x
+runs_fit most d ts [] x rest h = (tt, trace_fits most d whole ts x rest h)
+runs_fit most d ts (r ∷ rs) x rest h =
+    let run : DerivesRun most d ts r h.0 = h.1 in
+    let behind = runs_fit most (suc d) h.0 rs x rest h.2 in
+    ((expressions_fit most (suc (suc d)) run.9 r.arguments (lexeme t.In run.12 run.13 ∷ h.0) run.14, behind.0), behind.1)
+
 declaration_fits : (most : ℕ) (ts : Lexemes) (x : Declaration) (rest : Lexemes) → DerivesDeclaration most ts x rest → FitInDeclaration x
-declaration_fits most ts (s.node n ins outs x) rest h = (
+declaration_fits most ts (s.node n ins outs rs x) rest h = (
   groups_fit most 1 t.Close h.4 ins (lexeme t.Returns h.7 h.8 ∷ (lexeme t.Open h.9 h.10 ∷ h.11)) h.12,
   groups_fit most 1 t.Close h.11 outs (lexeme t.Equal h.13 h.14 ∷ h.15) h.16,
-  trace_fits most 0 whole h.15 x rest h.17,
+  (runs_fit most 0 h.15 rs x rest h.17).0,
+  (runs_fit most 0 h.15 rs x rest h.17).1,
 )
 declaration_fits most ts (s.macro_declaration x) rest h = macro_fits most 0 h.2 x rest h.4
 declaration_fits most ts (s.exception_declaration ns) rest h = tt

@@ -110,7 +110,7 @@ local_value t.Real ref range first h = refl
 local_value t.Trace ref range first h = absurd (cc)
 
 mutual
-  exp_typed : (kinds : Kinds) (env : Environment Denotation) (outer : types.Environment) (e : Exp) (type : TypeName) → AreBoundAs kinds outer.names env.names → FitInExp e → HasType outer e type
+  pub exp_typed : (kinds : Kinds) (env : Environment Denotation) (outer : types.Environment) (e : Exp) (type : TypeName) → AreBoundAs kinds outer.names env.names → FitInExp e → HasType outer e type
       → IsOf kinds type (exp_denotation env e)
   exp_typed kinds env outer (s.number f) type b m h = (ap kind_of h, number_of_figure f _)
   exp_typed kinds env outer (s.flag c at) type b m h = (ap kind_of h, flag_of c)

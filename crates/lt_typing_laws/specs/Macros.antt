@@ -4,7 +4,7 @@ use Rattle.std.specs.Prelude.{◌≡◌, List, [], ◌∷◌}
 use Rattle.lt_ast.specs.declared.group.TypeName.{TypeName}
 use Rattle.lt_ast.specs.declared.group.TypeName.TheVariants as t
 use Rattle.lt_ast.specs.Syntax as s
-use Rattle.lt_ast.specs.Syntax.{Exp, Argument, Arguments, Limits, Braces, Alternative, Alternatives, Trace, Traces, Grouping, Groupings, MaybeExp, MaybeTrace, Meaning, Macro, Declaration}
+use Rattle.lt_ast.specs.Syntax.{Exp, Argument, Arguments, Limits, Braces, Alternative, Alternatives, Trace, Traces, Grouping, Groupings, MaybeExp, MaybeTrace, Meaning, Macro, Run, Declaration}
 
 abbrev mutual
   -- so it is in an expression
@@ -100,9 +100,20 @@ abbrev mutual
   FitInTrace (s.try x h) = FitInTrace x × FitInHandler h
   FitInTrace (s.value e) = FitInExp e
 
+-- in expressions
+abbrev pub FitInExps : List Exp → Type 0
+FitInExps [] = Unit {0}
+FitInExps (e ∷ es) = FitInExp e × FitInExps es
+
+-- in runs
+abbrev pub FitInRuns : List Run → Type 0
+FitInRuns [] = Unit {0}
+FitInRuns (r ∷ rs) = FitInExps r.arguments × FitInRuns rs
+
 -- in a declaration
 abbrev pub FitInDeclaration : Declaration → Type 0
-FitInDeclaration (s.node w ins outs x) = FitInGroups ins × FitInGroups outs × FitInTrace x
+FitInDeclaration (s.node w ins outs rs x) =
+    FitInGroups ins × FitInGroups outs × FitInRuns rs × FitInTrace x
 FitInDeclaration (s.macro_declaration m) = FitInMacro m
 FitInDeclaration (s.exception_declaration ws) = Unit {0}
 

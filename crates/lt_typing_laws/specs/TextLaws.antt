@@ -3,7 +3,7 @@ use Rattle.std.specs.Prelude.{◌≡◌, ℕ, List}
 use Rattle.std.specs.declared.option.Option.{Option}
 use Rattle.std.specs.declared.option.Option.TheVariants.{Some}
 use Rattle.lt_ast.specs.Syntax.{Declaration}
-use Rattle.lt_parser.specs.Text.{IsProgramOf}
+use Rattle.lt_grammar.specs.Text.{IsProgramOf}
 use Rattle.lt_types.specs.Typing.{IsWellTyped}
 use Rattle.lt_macros.specs.Expanded.{Node}
 use Rattle.lt_macros.specs.Expansion.{expanded_node}

@@ -8,13 +8,17 @@ use Rattle.lt_formula.specs.Expression.{variable}
 use Rattle.lt_formula.specs.Kinds.{Kinds}
 use Rattle.lt_formula.specs.declared.role.Role.TheVariants as role
 use Rattle.lt_macros.specs.Placed.{Placed, bare}
-use Rattle.lt_macros.specs.Expanded.{Declared, Bounds, between, around, Expanded, eps, dead, con, raise, seq, loop, count, any, pri, par, assert, exist, catch, try, Parts, no_part, part, Node}
-use Rattle.lt_macros.specs.Preorder.{locals_in}
+use Rattle.lt_macros.specs.Expanded.{Declared, Bounds, between, around, Expanded, eps, dead, con, raise, seq, loop, count, any, pri, par, assert, exist, catch, try, Parts, no_part, part, Node, all_inputs}
+use Rattle.lt_macros.specs.Preorder.{arguments_in, locals_in}
 use Rattle.lt_term.specs.WellTyped.{HasKind}
 
 -- the kinds of a node's variables
 abbrev pub node_kinds : Node → Kinds
-node_kinds node = record { inputs = map (λ d. d.kind) node.inputs; outputs = map (λ d. d.kind) node.outputs; locals = map (λ d. d.kind) (locals_in node) }
+node_kinds node = record {
+  inputs = map (λ d. d.kind) (all_inputs node);
+  outputs = map (λ d. d.kind) node.outputs;
+  locals = map (λ d. d.kind) (locals_in node);
+}
 
 -- an expression of an expansion is well typed, and has this kind
 abbrev pub IsOfKind : Kinds → Placed → Kind → Type 0
@@ -29,6 +33,11 @@ IsFirst kinds k (Some e) = IsOfKind kinds e k
 abbrev pub HaveFirsts : Kinds → List Declared → Type 0
 HaveFirsts kinds [] = Unit {0}
 HaveFirsts kinds (d ∷ ds) = IsFirst kinds d.kind d.first × HaveFirsts kinds ds
+
+-- so are expressions, whatever their kinds are
+abbrev pub HaveKinds : Kinds → List Placed → Type 0
+HaveKinds kinds [] = Unit {0}
+HaveKinds kinds (e ∷ es) = ((k : Kind) × IsOfKind kinds e k) × HaveKinds kinds es
 
 -- the two numbers of a counted loop are ints
 abbrev pub AreBounds : Kinds → Bounds → Type 0
@@ -58,8 +67,9 @@ abbrev mutual
   AreTyped kinds no_part = Unit {0}
   AreTyped kinds (part w x ps) = IsOfKind kinds w kind.Int × IsTyped kinds x × AreTyped kinds ps
 
--- All expressions of a node are well typed.
+-- All expressions of a node are well typed; the first values of what its runs give are those of other nodes.
 pub record IsTypedNode (node : Node) : Type 0 where
   pub inputs : HaveFirsts (node_kinds node) node.inputs
   pub outputs : HaveFirsts (node_kinds node) node.outputs
+  pub arguments : HaveKinds (node_kinds node) (arguments_in node)
   pub body : IsTyped (node_kinds node) node.body

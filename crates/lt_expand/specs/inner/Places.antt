@@ -8,10 +8,10 @@ use Rattle.lt_macros.specs.Placed.{Placed}
 use Rattle.lt_macros.specs.Expanded.{Declared, Node}
 use Rattle.lt_macros.specs.Preorder.{Item, expressions_at, expressions_in, in_first, weight_at, weights_in, with_parts}
 use Rattle.lt_expand.specs.Static.{bad_at, bad_first, bad_statics}
-use Rattle.lt_expand.specs.Classes.{controllable_conditions, controllable_weights, failing, has_known_condition, is_controllable, is_linear_node, kinds_of, not_linear}
+use Rattle.lt_expand.specs.Classes.{controllable_arguments, controllable_conditions, controllable_weights, failing, has_known_condition, is_controllable, is_linear_node, kinds_of, not_linear}
 use Rattle.lt_expand.specs.inner.Firsts.{first}
 use Rattle.lt_expand.specs.declared.refusal.ExpandRefusal.{ExpandRefusal}
-use Rattle.lt_expand.specs.declared.refusal.ExpandRefusal.TheVariants.{BadStatic, NonLinear, ControllableCondition, ControllableWeight, Memory}
+use Rattle.lt_expand.specs.declared.refusal.ExpandRefusal.TheVariants.{BadStatic, NonLinear, ControllableArgument, ControllableCondition, ControllableWeight, Memory}
 use Rattle.lt_expand.specs.declared.places.FirstPlaces.{FirstPlaces}
 
 -- the first of these bounds and first values, and those in these expressions and weights
@@ -40,6 +40,10 @@ or_places p q = record {
 unfoldable pub declared_places : ℕ → Kinds → List Declared → FirstPlaces
 declared_places decimals kinds ds = places_of kinds (flat_map (bad_first decimals) ds) (flat_map in_first ds) []
 
+-- those of inputs that runs give, of which the first values alone are judged, and of arguments
+unfoldable pub call_places : ℕ → Kinds → List Declared → List Placed → FirstPlaces
+call_places decimals kinds ds es = places_of kinds (flat_map (bad_first decimals) ds) es []
+
 -- those of parts of a trace
 unfoldable pub item_places : ℕ → Kinds → List Item → FirstPlaces
 item_places decimals kinds is = places_of kinds (flat_map (bad_at decimals) is) (flat_map expressions_at is) (flat_map weight_at is)
@@ -62,7 +66,8 @@ judged_refusals decimals node =
     map BadStatic (bad_statics decimals node)
     ++ (map NonLinear (not_linear node)
     ++ (map ControllableCondition (controllable_conditions node)
-    ++ map ControllableWeight (controllable_weights node)))
+    ++ (map ControllableWeight (controllable_weights node)
+    ++ map ControllableArgument (controllable_arguments node))))
 
 -- The answer is Ok where nothing is refused, and else it is what is refused first, if memory did not run out.
 abbrev pub IsFirst : Result (Unit {0}) ExpandRefusal → List ExpandRefusal → Type 0

@@ -19,6 +19,7 @@ signs =
     ∷ s.Colon ∷ s.Semicolon ∷ s.Comma ∷ s.Equal ∷ s.Unequal ∷ s.Less
     ∷ s.LessEqual ∷ s.Greater ∷ s.GreaterEqual ∷ s.Plus ∷ s.Minus ∷ s.Star
     ∷ s.Slash ∷ s.Implies ∷ s.Bar ∷ s.Priority ∷ s.Parallel ∷ s.Tilde
+    ∷ s.Assign
     ∷ []
 
 -- the letters begin with this byte

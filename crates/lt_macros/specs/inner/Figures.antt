@@ -4,7 +4,7 @@ use Rattle.std.specs.Prelude.{ℕ, ◌+◌, Bool, true, false, ◌&&◌, nat_le,
 use Rattle.std.specs.declared.option.Option.{Option}
 use Rattle.std.specs.declared.option.Option.TheVariants.{None, Some}
 use Rattle.lt_macros.specs.Placed.{Placed, constant, variable, previous, unary, binary, choice}
-use Rattle.lt_macros.specs.Expanded.{Declared, Bounds, between, around, Expanded, eps, dead, con, raise, seq, loop, count, any, pri, par, assert, exist, catch, try, Parts, no_part, part, Node}
+use Rattle.lt_macros.specs.Expanded.{Declared, Call, Bounds, between, around, Expanded, eps, dead, con, raise, seq, loop, count, any, pri, par, assert, exist, catch, try, Parts, no_part, part, Node}
 use Rattle.lt_macros.specs.Nodes.{parts_count}
 use Rattle.lt_formula.specs.Limits.{most_alternatives, most_variables}
 use Rattle.lt_macros.specs.Limits.{most_nodes, most_term_depth, most_expression_depth}
@@ -108,9 +108,22 @@ abbrev pub variables_figure : Figure → List Declared → ℕ
 variables_figure f [] = 0
 variables_figure f (d ∷ ds) = first_figure f d.first + variables_figure f ds
 
+-- of arguments
+abbrev pub arguments_figure : Figure → List Placed → ℕ
+arguments_figure f [] = 0
+arguments_figure f (e ∷ es) = expression_figure f 1 e + arguments_figure f es
+
+-- of runs
+abbrev pub calls_figure : Figure → List Call → ℕ
+calls_figure f [] = 0
+calls_figure f (c ∷ cs) = arguments_figure f c.arguments + calls_figure f cs
+
 -- of a node
 abbrev pub node_figure : Node → Figure → ℕ
-node_figure node f = variables_figure f node.inputs + (variables_figure f node.outputs + expanded_figure f 1 node.body)
+node_figure node f =
+    variables_figure f node.inputs
+    + (variables_figure f node.outputs
+    + (calls_figure f node.calls + expanded_figure f 1 node.body))
 
 -- the first limit that these figures are past, where there are so many inputs and outputs
 abbrev pub limit_by : (Figure → ℕ) → ℕ → ℕ → Option Limit

@@ -11,7 +11,7 @@ use Rattle.lt_parser.specs.declared.traces.Guard.TheVariants as guard
 use Rattle.lt_parser.specs.inner.Onto.{arguments_onto, alternatives_onto, traces_onto, traces_after, alternatives_after, choice_after, priority_after, parallel_after, plain_after, items_after, groups_onto}
 use Rattle.lt_parser.specs.inner.Parsing.{guard_goal, guarded_trace, parameters_of}
 use Rattle.lt_parser.specs.inner.Reading.{Goal, a_bound, a_first, a_group, a_handler, a_macro, a_meaning, a_range, a_ref, a_right_side, a_sign, a_trace, a_type, after_first, after_name, after_weight, an_alternative, an_argument, an_exp, an_item, exist_goal, group_rest, groups, if_goal, in_trace, more_alternatives, more_arguments, more_groups, more_items, more_traces, outcome, sequence_goal, some_arguments, some_braced, some_groups, some_limits, some_parameters, value_goal}
-use Rattle.lt_parser.specs.Nesting.{most_levels}
+use Rattle.lt_grammar.specs.Nesting.{most_levels}
 use Rattle.lt_lexer.specs.Source.{lexeme_span}
 use Rattle.lt_parser.proofs.Begins.{no_weight}
 use Rattle.lt_parser.proofs.Rows.{parallel_whole, priority_whole, alternatives_whole, sequence_whole, groups_whole}

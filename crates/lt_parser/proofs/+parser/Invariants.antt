@@ -7,7 +7,7 @@ use Rattle.lt_parser.specs.inner.Tokens.{lexemes}
 use Rattle.lt_parser.specs.inner.Onto.{alternatives_after, traces_after, items_after, arguments_onto, alternatives_onto, traces_onto, groups_onto}
 use Rattle.lt_parser.specs.inner.Reading.{Goal, groups, some_arguments, an_exp, more_exp, more_arguments, more_alternatives, more_traces, more_items, more_groups, outcome}
 use Rattle.lt_parser.proofs.+parser.Given as goal
-use Rattle.lt_parser.specs.Nesting.{most_levels}
+use Rattle.lt_grammar.specs.Nesting.{most_levels}
 
 abbrev pub decreases-expressions::parse_first_operand : goal.decreases-expressions::parse_first_operand
 decreases-expressions::parse_first_operand l = 16 * length l.tokens.now + 1

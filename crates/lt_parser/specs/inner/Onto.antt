@@ -2,18 +2,20 @@
 use Rattle.std.specs.Prelude.{ℕ, Bool, List, [], ◌∷◌}
 use Rattle.lt_ast.specs.inner.Rows.{weighed, group_of}
 use Rattle.lt_ast.specs.Syntax as s
-use Rattle.lt_ast.specs.Syntax.{Word, Arguments, Braces, Alternatives, Trace, Traces, Groupings, Declaration}
-use Rattle.lt_ast.specs.View.{word, argument, trace, declaration}
+use Rattle.lt_ast.specs.Syntax.{Word, Exp, Arguments, Braces, Alternatives, Trace, Traces, Groupings, Run, Declaration}
+use Rattle.lt_ast.specs.View.{word, exp, argument, trace, run, declaration}
 use Rattle.lt_ast.specs.declared.sign.Sign.{Sign}
 use Rattle.lt_ast.specs.declared.sign.Sign.TheVariants as t
 use Rattle.lt_ast.specs.declared.span.Span.{Span}
-use Rattle.lt_parser.specs.inner.Reading.{Goal, a_sign, an_alternative, more_alternatives, a_trace, more_traces, an_item, more_items, declarations, done}
+use Rattle.lt_parser.specs.inner.Reading.{Goal, a_sign, an_alternative, more_alternatives, a_trace, more_traces, an_item, more_items, some_runs, declarations, done}
 use Rattle.lt_ast.specs.declared.name.Name.{Name}
 use Rattle.lt_ast.specs.declared.expr.Arg.{Arg}
+use Rattle.lt_ast.specs.declared.expr.Expr.{Expr}
 use Rattle.lt_ast.specs.declared.trace.Part.{Part}
 use Rattle.lt_ast.specs.declared.trace.TraceExpr.{TraceExpr}
 use Rattle.lt_ast.specs.declared.group.Group.{Group}
 use Rattle.lt_ast.specs.declared.program.Decl.{Decl}
+use Rattle.lt_ast.specs.declared.program.RunDecl.{RunDecl}
 
 -- parts in front of others, each put there by f
 abbrev pub onto : {X L : Type 0} → (X → L → L) → List X → L → L
@@ -39,6 +41,14 @@ groups_onto xs more = onto (λ x. s.one_group (group_of x)) xs more
 -- names
 abbrev pub words_onto : List Name → List Word → List Word
 words_onto xs more = onto (λ x ws. word x ∷ ws) xs more
+
+-- expressions
+abbrev pub expressions_onto : List Expr → List Exp → List Exp
+expressions_onto xs more = onto (λ x es. exp x ∷ es) xs more
+
+-- runs of nodes
+abbrev pub runs_onto : List RunDecl → List Run → List Run
+runs_onto xs more = onto (λ x rs. run x ∷ rs) xs more
 
 -- declarations
 abbrev pub declarations_onto : List Decl → List Declaration → List Declaration
@@ -69,6 +79,10 @@ plain_after x k = a_sign t.CloseBrace (λ q. k (s.plain x) q)
 -- .. an item and more of them of a sequence ..
 abbrev pub items_after : ℕ → List TraceExpr → (Trace → Goal) → Goal
 items_after d before k = an_item d (λ x. more_items d (λ more. k (s.sequence (traces_onto before (s.one_trace x more)))))
+
+-- .. runs of nodes, each of which opened a level, and the trace in all of them ..
+abbrev pub runs_after : ℕ → List RunDecl → (List Run → Trace → Goal) → Goal
+runs_after d before k = some_runs d (λ more x. k (runs_onto before more) x)
 
 -- .. declarations up to the end ..
 abbrev pub declarations_after : List Decl → Goal

@@ -2,18 +2,19 @@
 use Rattle.std.specs.Prelude.{◌≡◌, ℕ, suc, length, Bool, true, false, Option, Some, None, Result, Ok, Err, nat_le}
 use Rattle.lt_ast.specs.declared.expr.BinOp.{BinOp}
 use Rattle.lt_ast.specs.Syntax.{Word, Exp, binary, Alternative, unweighted, Trace, catch, trap, MaybeTrace, Parameters, no_parameters, parameters}
-use Rattle.lt_ast.specs.View.{groupings, program}
+use Rattle.lt_ast.specs.View.{exp, groupings, program}
+use Rattle.lt_ast.specs.declared.expr.Expr.{Expr}
 use Rattle.lt_ast.specs.declared.program.Program.{Program}
 use Rattle.lt_ast.specs.declared.group.Groups.{Groups}
 use Rattle.lt_parser.specs.declared.refusal.Refusal.{Refusal}
 use Rattle.lt_parser.specs.declared.refusal.Refusal.TheVariants as r
 use Rattle.lt_parser.specs.declared.traces.Guard.{Guard}
 use Rattle.lt_parser.specs.declared.traces.Guard.TheVariants as guard
-use Rattle.lt_parser.specs.Lexemes.{Lexemes}
-use Rattle.lt_parser.specs.Precedence.{rank}
+use Rattle.lt_grammar.specs.Lexemes.{Lexemes}
+use Rattle.lt_grammar.specs.Precedence.{rank}
 use Rattle.lt_ast.specs.Places.{across, span_of}
-use Rattle.lt_parser.specs.inner.Reading.{Goal, done, declarations, unexpected, too_deep, outcome, more_exp, operand, onward, top, an_alternative, a_trace, an_exp, after_weight, a_name, in_trace, a_handler}
-use Rattle.lt_parser.specs.Nesting.{most_levels}
+use Rattle.lt_parser.specs.inner.Reading.{Goal, Tree, program_tree, expression_tree, done, expression_done, whole_exp, declarations, unexpected, too_deep, outcome, more_exp, operand, onward, top, an_alternative, a_trace, an_exp, after_weight, a_name, in_trace, a_handler}
+use Rattle.lt_grammar.specs.Nesting.{most_levels}
 
 -- Reading stops as a refusal says, whatever is wanted afterwards.
 abbrev pub Refused : {K : Type 0} → (K → Goal) → Lexemes → Refusal → Type 0
@@ -34,12 +35,24 @@ ReadsTo onto rest_of want ts (Err e) = Refused want ts e
 abbrev pub ReadsAs : {X V : Type 0} → (X → V) → (X → Lexemes) → ((V → Goal) → Goal) → Lexemes → Result X Refusal → Type 0
 ReadsAs value_of rest_of want ts result = ReadsTo (λ x k. k (value_of x)) rest_of want ts result
 
--- what the whole reading answered
+-- what the whole reading answered, where this was wanted from the start
+abbrev pub WholeReadsAs : {X : Type 0} → Goal → (X → Tree) → Lexemes → Result X Refusal → Type 0
+WholeReadsAs wanted tree ts (Ok x) = outcome most_levels wanted ts ≡ Ok (tree x)
+WholeReadsAs wanted tree ts (Err (r.Unexpected left)) =
+    outcome most_levels wanted ts ≡ Err (unexpected left)
+WholeReadsAs wanted tree ts (Err (r.TooDeep left)) =
+    outcome most_levels wanted ts ≡ Err (too_deep left)
+WholeReadsAs wanted tree ts (Err r.Memory) = Unit {0}
+
+-- what the whole reading of a program answered
 abbrev pub ProgramReadsAs : Lexemes → Result Program Refusal → Type 0
-ProgramReadsAs ts (Ok x) = outcome most_levels (declarations done) ts ≡ Ok (program x)
-ProgramReadsAs ts (Err (r.Unexpected left)) = outcome most_levels (declarations done) ts ≡ Err (unexpected left)
-ProgramReadsAs ts (Err (r.TooDeep left)) = outcome most_levels (declarations done) ts ≡ Err (too_deep left)
-ProgramReadsAs ts (Err r.Memory) = Unit {0}
+ProgramReadsAs ts result =
+    WholeReadsAs (declarations done) (λ x. program_tree (program x)) ts result
+
+-- what the whole reading of an expression answered
+abbrev pub ExpressionReadsAs : Lexemes → Result Expr Refusal → Type 0
+ExpressionReadsAs ts result =
+    WholeReadsAs (whole_exp expression_done) (λ x. expression_tree (exp x)) ts result
 
 -- No operator follows that binds at least so tightly.
 abbrev pub IsNotExtended : ℕ → Lexemes → Type 0

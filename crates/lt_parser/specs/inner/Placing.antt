@@ -4,8 +4,8 @@ use Rattle.lt_parser.specs.declared.refusal.ParseRefusal.{ParseRefusal}
 use Rattle.lt_parser.specs.declared.refusal.ParseRefusal.TheVariants.{Unexpected, TooDeep, Memory}
 use Rattle.lt_parser.specs.declared.refusal.Refusal.{Refusal}
 use Rattle.lt_parser.specs.declared.refusal.Refusal.TheVariants as r
-use Rattle.lt_parser.specs.Lexemes.{Lexemes}
-use Rattle.lt_parser.specs.Text.{start_of}
+use Rattle.lt_grammar.specs.Lexemes.{Lexemes}
+use Rattle.lt_grammar.specs.Text.{start_of}
 
 -- No more tokens are left than there are.
 abbrev pub IsWithin : Lexemes → Refusal → Type 0

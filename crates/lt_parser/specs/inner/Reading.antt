@@ -12,19 +12,23 @@ use Rattle.lt_ast.specs.declared.expr.UnOp.TheVariants as u
 use Rattle.lt_ast.specs.declared.expr.BinOp.{BinOp}
 use Rattle.lt_ast.specs.declared.expr.BinOp.TheVariants as b
 use Rattle.lt_ast.specs.Syntax as s
-use Rattle.lt_ast.specs.Syntax.{Word, Figure, WrittenRange, Exp, Argument, Arguments, Limits, Braces, Alternative, Alternatives, Trace, Traces, Grouping, Groupings, MaybeExp, MaybeTrace, Parameters, Meaning, Macro, Declaration}
-use Rattle.lt_parser.specs.Lexemes.{Lexeme, lexeme, Lexemes}
-use Rattle.lt_parser.specs.Grammar.{SpellsWithin}
-use Rattle.lt_parser.specs.Program.{IsUnexpected, IsTooDeep}
-use Rattle.lt_parser.specs.Precedence.{rank, under, operator}
+use Rattle.lt_ast.specs.Syntax.{Word, Figure, WrittenRange, Exp, Argument, Arguments, Limits, Braces, Alternative, Alternatives, Trace, Traces, Grouping, Groupings, MaybeExp, MaybeTrace, Parameters, Meaning, Macro, Run, Declaration}
+use Rattle.lt_grammar.specs.Lexemes.{Lexeme, lexeme, Lexemes}
+use Rattle.lt_grammar.specs.Program.{IsUnexpected, IsTooDeep}
+use Rattle.lt_grammar.specs.Precedence.{rank, under, operator}
 use Rattle.lt_ast.specs.Places.{across, span_of}
-use Rattle.lt_parser.specs.Nesting.{most_levels}
+use Rattle.lt_grammar.specs.Nesting.{most_levels}
+
+-- what is read of a whole text: a program, or one expression
+pub data Tree : Type 0 where
+  program_tree : List Declaration → Tree
+  expression_tree : Exp → Tree
 
 -- What is wanted next, and what is wanted after it, once that is found. The number in front is how many levels of
 -- nesting are open; an expression has a second one, how tightly it binds at least.
 pub data Goal : Type 0 where
-  -- nothing: the program is found
-  done : List Declaration → Goal
+  -- nothing: the whole is found
+  nothing_more : Tree → Goal
   -- this sign
   a_sign : Sign → (Span → Goal) → Goal
   -- a name
@@ -72,10 +76,16 @@ pub data Goal : Type 0 where
   a_first : ℕ → (MaybeExp → Goal) → Goal
   -- the parameters of a macro, if they are there
   some_parameters : ℕ → (Parameters → Goal) → Goal
+  -- expressions with the parenthesis after them, and more of them
+  some_expressions : ℕ → (List Exp → Goal) → Goal
+  more_expressions : ℕ → (List Exp → Goal) → Goal
+  -- runs of nodes, if any, and the trace in them
+  some_runs : ℕ → (List Run → Trace → Goal) → Goal
   -- declarations up to the end
   declarations : (List Declaration → Goal) → Goal
 
--- what a token does: it has no place, it is taken, or it is taken and opens the level of this number
+-- what a token does: it has no place, it is taken, or it is taken and opens the level of this number; `run` opens its own
+-- level and that of its parentheses, which must come
 pub data Move : Type 0 where
   stuck : Move
   next : Goal → Move
@@ -144,9 +154,30 @@ abbrev pub a_macro : ℕ → (Macro → Goal) → Goal
 a_macro d k =
     a_name (λ n. some_parameters d (λ ps. a_sign t.Colon (λ p. a_type (λ kind. a_sign t.Equal (λ q. a_meaning d kind (λ x. k (s.macro n ps kind x)))))))
 
+-- a run of a node after its `run`, which stands at this place, where the level of its parentheses is open
+abbrev pub run_goal : ℕ → Span → (Run → Goal) → Goal
+run_goal d at k =
+    names (λ ns. a_sign t.Assign (λ p. a_name (λ n. a_sign t.Open (λ o.
+    some_expressions d (λ es. a_sign t.In (λ q.
+    k (record { names = ns; node = n; arguments = es; span = across at q })))))))
+
 -- a node after its `node`
 abbrev pub node_goal : (Declaration → Goal) → Goal
-node_goal k = a_name (λ n. a_list 0 (λ ins. a_sign t.Returns (λ p. a_list 0 (λ outs. a_sign t.Equal (λ q. a_trace 0 (λ x. k (s.node n ins outs x)))))))
+node_goal k =
+    a_name (λ n. a_list 0 (λ ins. a_sign t.Returns (λ p. a_list 0 (λ outs. a_sign t.Equal (λ q.
+    some_runs 0 (λ rs x. k (s.node n ins outs rs x)))))))
+
+-- nothing more, where a program is found ..
+abbrev pub done : List Declaration → Goal
+done xs = nothing_more (program_tree xs)
+
+-- .. or an expression
+abbrev pub expression_done : Exp → Goal
+expression_done e = nothing_more (expression_tree e)
+
+-- one expression up to the end
+abbrev pub whole_exp : (Exp → Goal) → Goal
+whole_exp k = an_exp 0 0 k
 
 -- WHAT A TOKEN BEGINS
 
@@ -269,7 +300,7 @@ extend (Some op) d low x k skip =
 
 -- one token
 abbrev pub step : Goal → Sign → List ℕ → Span → Move
-step (done xs) sign w at = stuck
+step (nothing_more x) sign w at = stuck
 step (a_sign wanted k) sign w at = if sameb the_type wanted sign then next (k at) else stuck
 step (a_name k) sign w at = begin_name k sign w at
 step (an_exp d low k) sign w at = begin_exp d low k sign w at
@@ -341,6 +372,18 @@ step (a_first d k) t.Equal w at = next (an_exp d 0 (λ e. k (s.an_exp e)))
 step (a_first d k) sign w at = step (k s.no_exp) sign w at
 step (some_parameters d k) t.Open w at = opens (suc d) (some_groups (suc d) (λ gs. k (s.parameters gs)))
 step (some_parameters d k) sign w at = step (k s.no_parameters) sign w at
+step (some_expressions d k) t.Close w at = next (k [])
+step (some_expressions d k) sign w at =
+    begin_exp d 0 (λ e. more_expressions d (λ es. k (e ∷ es))) sign w at
+step (more_expressions d k) t.Close w at = next (k [])
+step (more_expressions d k) t.Comma w at =
+    next (an_exp d 0 (λ e. more_expressions d (λ es. k (e ∷ es))))
+step (more_expressions d k) sign w at = stuck
+step (some_runs d k) t.Run w at =
+    opens (suc (suc d))
+    (run_goal (suc (suc d)) at (λ r. some_runs (suc d) (λ rs x. k (r ∷ rs) x)))
+step (some_runs d k) sign w at =
+    begin_item d (λ x. more_items d (λ xs. k [] (sequence_of x xs))) sign w at
 step (declarations k) t.Node w at = next (node_goal (λ x. declarations (λ xs. k (x ∷ xs))))
 step (declarations k) t.Let w at = next (a_macro 0 (λ m. declarations (λ xs. k (s.macro_declaration m ∷ xs))))
 step (declarations k) t.Exception w at = next (names (λ ns. declarations (λ xs. k (s.exception_declaration ns ∷ xs))))
@@ -352,8 +395,8 @@ pub data Stop : Type 0 where
   too_deep : ℕ → Stop
 
 -- the end
-abbrev pub finish : Goal → Result (List Declaration) Stop
-finish (done xs) = Ok xs
+abbrev pub finish : Goal → Result Tree Stop
+finish (nothing_more x) = Ok x
 finish (more_exp d low x k) = finish (k x)
 finish (after_name d n k) = finish (k (s.named n))
 finish (more_items d k) = finish (k s.no_traces)
@@ -370,31 +413,37 @@ finish (declarations k) = finish (k [])
 finish goal = Err (unexpected 0)
 
 -- after a token, where at most so many levels may be open
-abbrev pub onward : ℕ → Move → ℕ → (Goal → Result (List Declaration) Stop) → Result (List Declaration) Stop
+abbrev pub onward : ℕ → Move → ℕ → (Goal → Result Tree Stop) → Result Tree Stop
 onward most stuck left go = Err (unexpected (suc left))
 onward most (next goal) left go = go goal
 onward most (opens d goal) left go = if nat_le d most then go goal else Err (too_deep (suc left))
 
--- The program, or where reading stops.
-abbrev pub outcome : ℕ → Goal → Lexemes → Result (List Declaration) Stop
+-- What is read, or where reading stops.
+abbrev pub outcome : ℕ → Goal → Lexemes → Result Tree Stop
 outcome most goal [] = finish goal
 outcome most goal (lexeme sign w at ∷ us) = onward most (step goal sign w at) (length us) (λ goal'. outcome most goal' us)
 
--- Where tokens spell a program within so many levels, reading gives that program.
-abbrev pub ReadsTheSpelled : Type 0
-ReadsTheSpelled = (most : ℕ) (ts : Lexemes) (x : List Declaration) → SpellsWithin most ts x → outcome most (declarations done) ts ≡ Ok x
+-- Where tokens spell a tree of some kind within so many levels, reading for that kind gives it.
+abbrev pub ReadsTheSpelled :
+    {X : Type 0} → (ℕ → Lexemes → X → Type 0) → (X → Tree) → Goal → Type 0
+ReadsTheSpelled {X} spells tree wanted =
+    (most : ℕ) (ts : Lexemes) (x : X) → spells most ts x → outcome most wanted ts ≡ Ok (tree x)
 
 -- What reading gives is spelled by the tokens.
-abbrev pub ReadIsSpelled : Type 0
-ReadIsSpelled = (most : ℕ) (ts : Lexemes) (x : List Declaration) → outcome most (declarations done) ts ≡ Ok x → SpellsWithin most ts x
+abbrev pub ReadIsSpelled :
+    {X : Type 0} → (ℕ → Lexemes → X → Type 0) → (X → Tree) → Goal → Type 0
+ReadIsSpelled {X} spells tree wanted =
+    (most : ℕ) (ts : Lexemes) (x : X) → outcome most wanted ts ≡ Ok (tree x) → spells most ts x
 
 -- Reading stops for an unexpected token where so many are left exactly where so many follow from the first unexpected one on.
-abbrev pub UnexpectedIsExact : Type 0
-UnexpectedIsExact =
-    (ts : Lexemes) (left : ℕ) → outcome most_levels (declarations done) ts ≡ Err (unexpected left) ↔ ((rest : Lexemes) × (length rest ≡ left) × IsUnexpected ts rest)
+abbrev pub UnexpectedIsExact : {X : Type 0} → (ℕ → Lexemes → X → Type 0) → Goal → Type 0
+UnexpectedIsExact spells wanted =
+    (ts : Lexemes) (left : ℕ) → outcome most_levels wanted ts ≡ Err (unexpected left)
+    ↔ ((rest : Lexemes) × (length rest ≡ left) × IsUnexpected spells ts rest)
 
 -- Reading stops for a level too many where so many are left exactly where so many follow from the token on that opens it.
-abbrev pub TooDeepIsExact : Type 0
-TooDeepIsExact =
-    (ts : Lexemes) (left : ℕ) → outcome most_levels (declarations done) ts ≡ Err (too_deep left)
-    ↔ ((token : Lexeme) × (rest : Lexemes) × (suc (length rest) ≡ left) × IsTooDeep ts token rest)
+abbrev pub TooDeepIsExact : {X : Type 0} → (ℕ → Lexemes → X → Type 0) → Goal → Type 0
+TooDeepIsExact spells wanted =
+    (ts : Lexemes) (left : ℕ) → outcome most_levels wanted ts ≡ Err (too_deep left)
+    ↔ ((token : Lexeme) × (rest : Lexemes) × (suc (length rest) ≡ left)
+    × IsTooDeep spells ts token rest)

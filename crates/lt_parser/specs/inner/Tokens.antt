@@ -4,7 +4,7 @@ use Rattle.lt_ast.specs.declared.sign.Sign.{Sign}
 use Rattle.lt_ast.specs.declared.span.Span.{Span}
 use Rattle.lt_lexer.specs.Source.{lexeme_span}
 use Rattle.lt_lexer.specs.declared.lexeme.Lexeme.{Lexeme as Token}
-use Rattle.lt_parser.specs.Lexemes.{Lexeme, lexeme, Lexemes}
+use Rattle.lt_grammar.specs.Lexemes.{Lexeme, lexeme, Lexemes}
 
 -- a token
 abbrev pub lexeme_of : Token → Lexeme

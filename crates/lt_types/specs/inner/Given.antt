@@ -13,7 +13,7 @@ use Rattle.lt_ast.specs.declared.span.Span.{Span}
 use Rattle.lt_ast.specs.Syntax as s
 use Rattle.lt_ast.specs.Syntax.{Word, Exp, Argument, MaybeExp, Parameters, Trace, Declaration}
 use Rattle.lt_ast.specs.inner.Lists.{arguments_of}
-use Rattle.lt_ast.specs.View.{argument, groupings, trace, word}
+use Rattle.lt_ast.specs.View.{argument, groupings, run, trace, word}
 use Rattle.lt_types.specs.Environment.{Environment}
 use Rattle.lt_types.specs.declared.refusal.TypeRefusal.{TypeRefusal}
 use Rattle.lt_types.specs.Operators.{same_type}
@@ -60,4 +60,6 @@ IsScoped x = ⊥
 
 -- a node of a text
 abbrev pub node_declaration : NodeDecl → Declaration
-node_declaration n = s.node (word n.name) (groupings n.inputs) (groupings n.outputs) (trace n.body)
+node_declaration n =
+    s.node (word n.name) (groupings n.inputs) (groupings n.outputs) (map run n.runs.items)
+    (trace n.body)

@@ -4,12 +4,14 @@ use Rattle.std.specs.declared.option.Option.{Option}
 use Rattle.std.specs.declared.option.Option.TheVariants.{None, Some}
 use Rattle.lt_num.specs.Bounds.{most_decimals}
 use Rattle.lt_types.specs.Environment as e
-use Rattle.lt_types.specs.Environment.{Environment, Binding, Parameter}
+use Rattle.lt_types.specs.Environment.{Environment, Binding, Parameter, Input, Node}
 use Rattle.lt_types.specs.declared.entry.Entry.{Entry}
 use Rattle.lt_types.specs.declared.entry.Entry.TheVariants as c
 use Rattle.lt_types.specs.declared.entry.Param.{Param}
 use Rattle.lt_types.specs.declared.entry.Role.{Role}
 use Rattle.lt_types.specs.declared.entry.Role.TheVariants as r
+use Rattle.lt_types.specs.declared.node_types.Input.{Input as InputType}
+use Rattle.lt_types.specs.declared.node_types.NodeTypes.{NodeTypes}
 
 -- a parameter
 abbrev pub param_view : Param → Parameter
@@ -26,6 +28,24 @@ abbrev pub role_view : Role → e.Role
 role_view r.Inputs = e.inputs
 role_view r.Variables = e.variables
 role_view r.Parameters = e.parameters
+
+-- an input of a node
+abbrev pub input_view : InputType → Input
+input_view i = record { kind = i.kind; ranged = i.ranged }
+
+-- a node of this name
+abbrev pub node_view : List ℕ → NodeTypes → Node
+node_view name types = record {
+  name = name;
+  inputs = map input_view types.inputs.items;
+  outputs = types.outputs.items;
+}
+
+-- nodes, each with its inputs and the types of its outputs
+abbrev pub nodes_of : List (List ℕ) → List NodeTypes → List Node
+nodes_of [] types = []
+nodes_of (n ∷ ns) [] = []
+nodes_of (n ∷ ns) (x ∷ xs) = node_view n x ∷ nodes_of ns xs
 
 -- the place of the newest of these names that is the name; the oldest has place 0
 abbrev pub newest : List (List ℕ) → List ℕ → Option ℕ
@@ -58,7 +78,9 @@ with_oldest_names count env = record env { names = oldest count env.names }
 abbrev pub with_oldest_exceptions : ℕ → Environment → Environment
 with_oldest_exceptions count env = record env { exceptions = oldest count env.exceptions }
 
--- What a scope keeps to: each name has what it stands for, and decimals are few.
-pub record IsMatched (decimals : ℕ) (names : List (List ℕ)) (entries : List Entry) : Type 0 where
+-- What a scope keeps to: each name has what it stands for, so has each node, and decimals are few.
+pub record IsMatched (decimals : ℕ) (names : List (List ℕ)) (entries : List Entry)
+    (nodes : List (List ℕ)) (types : List NodeTypes) : Type 0 where
   pub paired : length names ≡ length entries
+  pub told : length nodes ≡ length types
   pub few : decimals ≤ most_decimals

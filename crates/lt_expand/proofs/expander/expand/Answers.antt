@@ -1,10 +1,11 @@
-use Rattle.std.proofs.Common.{Ok, subst, sym}
+use Rattle.std.proofs.Common.{◌≡◌, Ok, nat_le, rules, subst, sym}
 use Rattle.std.proofs.Math.Logic.{∥∥₁_map}
 use Rattle.lt_ast.specs.View.{program as declarations}
 use Rattle.lt_macros.specs.Answer.{asked_name}
 use Rattle.lt_macros.specs.Expansion.{expanded_node}
 use Rattle.lt_macros.specs.Tree.{node}
 use Rattle.lt_expand.specs.Answer.{IsAnswer}
+use Rattle.lt_expand.specs.Nested.{most_runs, runs_in_nest}
 use Rattle.lt_expand.proofs.expander.expand.Goals as goal
 
 pub judged_scenario-requires-clause-named : goal.judged_scenario-requires-clause-named
@@ -17,7 +18,7 @@ judged_scenario-requires-clause-numbered c =
 
 pub judged_scenario-requires-clause-inside : goal.judged_scenario-requires-clause-inside
 judged_scenario-requires-clause-inside c =
-    c.locals_are_inside.ensures c.args.typed.decimals (asked_name c.args.node) (declarations c.args.typed.program) (node c.in_ok-asked.asked) c.in_ok-asked.ensures.0
+    (c.locals_are_inside.ensures c.args.typed.decimals (asked_name c.args.node) (declarations c.args.typed.program) (node c.in_ok-asked.asked) c.in_ok-asked.ensures.0).0
 
 pub judged_scenario-requires-clause-typed : goal.judged_scenario-requires-clause-typed
 judged_scenario-requires-clause-typed c =
@@ -28,6 +29,9 @@ judged_scenario-requires-clause-typed c =
 
 pub returns : goal.returns
 returns c =
-    let asked = expanded_node c.args.typed.decimals (asked_name c.args.node) (declarations c.args.typed.program) in
-    subst (λ decimals. IsAnswer decimals asked (Ok c.in_ok-made.made)) c.decimals-decimals.ensures.same
-    (subst (λ node. IsAnswer c.decimals-decimals.result node (Ok c.in_ok-made.made)) (sym c.in_ok-asked.ensures.0) c.in_ok-made.ensures)
+    let program = declarations c.args.typed.program in
+    let asked = expanded_node c.args.typed.decimals (asked_name c.args.node) program in
+    let runs = runs_in_nest (asked_name c.args.node) program in
+    let few = c.is_few-few.ensures c.args.typed (search rules) in
+    subst (λ decimals. IsAnswer decimals runs asked (Ok c.in_ok-made.made)) c.decimals-decimals.ensures.same
+    (subst (λ node. IsAnswer c.decimals-decimals.result runs node (Ok c.in_ok-made.made)) (sym c.in_ok-asked.ensures.0) (c.in_ok-made.ensures runs few))

@@ -16,13 +16,12 @@ use Rattle.lt_expand.proofs.Made.{IsBody, IsMade, IsTable, body_made, conditions
 use Rattle.lt_expand.proofs.Prepared.{inputs_fine, limited, node_ready, outputs_fine, parts_are_fine}
 use Rattle.lt_expand.proofs.scenario.scenario.Goals as goal
 
+pub inputs_of-requires-clause-fine : goal.inputs_of-requires-clause-fine
+inputs_of-requires-clause-fine c = inputs_fine c.args.decimals (node c.args.from.now) c.requires.named c.requires.judged
+
 pub variables_of-requires-clause-fine : goal.variables_of-requires-clause-fine
 variables_of-requires-clause-fine c =
-    subst (λ ds. All (IsFine c.args.decimals) (map declared ds)) (sym c.deref-2.ensures.value) (inputs_fine c.args.decimals (node c.args.from.now) c.requires.named c.requires.judged)
-
-pub variables_of-requires-2-clause-fine : goal.variables_of-requires-2-clause-fine
-variables_of-requires-2-clause-fine c =
-    subst (λ ds. All (IsFine c.args.decimals) (map declared ds)) (sym c.deref-3.ensures.value) (outputs_fine c.args.decimals (node c.args.from.now) c.requires.named c.requires.judged)
+    subst (λ ds. All (IsFine c.args.decimals) (map declared ds)) (sym c.deref-2.ensures.value) (outputs_fine c.args.decimals (node c.args.from.now) c.requires.named c.requires.judged)
 
 pub locals_of-requires-clause-fine : goal.locals_of-requires-clause-fine
 locals_of-requires-clause-fine c =
@@ -48,8 +47,8 @@ invariant_of-result c =
     let table = c.put_term.new.table in
     let few = limited from c.requires.limits in
     let made : IsMade n from inputs outputs locals counters = record {
-      inputs_made = c.in_ok-inputs.ensures ∙ ap (λ ds. map (variable_of n) (map declared ds)) c.deref-2.ensures.value;
-      outputs_made = c.in_ok-outputs.ensures ∙ ap (λ ds. map (variable_of n) (map declared ds)) c.deref-3.ensures.value;
+      inputs_made = c.in_ok-inputs.ensures;
+      outputs_made = c.in_ok-outputs.ensures ∙ ap (λ ds. map (variable_of n) (map declared ds)) c.deref-2.ensures.value;
       locals_made = own_locals n from (items_view c.args.parts.now) _ c.requires.parts c.in_ok-locals.ensures;
       counters_made = own_counters n from (items_view c.args.parts.now) _ c.requires.parts c.in_ok-counters.ensures;
     } in

@@ -6,7 +6,7 @@ use Rattle.lt_parser.specs.inner.Reading.{more_names, names, outcome}
 use Rattle.lt_parser.proofs.Skips.{no_name}
 use Rattle.lt_parser.proofs.Steps.{grows, words_onto-none}
 use Rattle.lt_parser.proofs.atoms.parse_names.Goals as goal
-use Rattle.lt_parser.specs.Nesting.{most_levels}
+use Rattle.lt_grammar.specs.Nesting.{most_levels}
 
 pub loop-next-preserved : goal.loop-next-preserved
 loop-next-preserved c = record {

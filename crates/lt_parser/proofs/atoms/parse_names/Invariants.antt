@@ -4,7 +4,7 @@ use Rattle.lt_parser.specs.inner.Tokens.{lexemes}
 use Rattle.lt_parser.specs.inner.Onto.{words_onto}
 use Rattle.lt_parser.specs.inner.Reading.{Goal, more_names, names, outcome}
 use Rattle.lt_parser.proofs.atoms.parse_names.Given as goal
-use Rattle.lt_parser.specs.Nesting.{most_levels}
+use Rattle.lt_grammar.specs.Nesting.{most_levels}
 
 -- the names so far
 abbrev pub invariant-loop-next : goal.invariant-loop-next

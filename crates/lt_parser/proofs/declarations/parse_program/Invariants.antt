@@ -3,7 +3,7 @@ use Rattle.lt_parser.specs.inner.Tokens.{lexemes}
 use Rattle.lt_parser.specs.inner.Onto.{declarations_after}
 use Rattle.lt_parser.specs.inner.Reading.{declarations, done, outcome}
 use Rattle.lt_parser.proofs.declarations.parse_program.Given as goal
-use Rattle.lt_parser.specs.Nesting.{most_levels}
+use Rattle.lt_grammar.specs.Nesting.{most_levels}
 
 -- the declarations so far
 abbrev pub invariant-loop-rest : goal.invariant-loop-rest

@@ -1,6 +1,6 @@
 use Rattle.std.proofs.Common.{◌≡◌, ◌++◌, map, take, string_bytes}
 use Rattle.lt_ast.specs.Printed.{spaced}
-use Rattle.lt_parser.specs.Written.{written_of}
+use Rattle.lt_grammar.specs.Written.{written_of}
 use Rattle.lt_parser.specs.inner.Tokens.{lexemes}
 use Rattle.lt_parser.proofs.printing.put_tokens.Given as goal
 

@@ -1,6 +1,6 @@
 use Rattle.std.proofs.Common.{◌-◌, ◌∙◌, ap, drop, length, sym}
 use Rattle.lt_parser.specs.inner.Tokens.{lexemes}
-use Rattle.lt_parser.specs.Text.{start_of}
+use Rattle.lt_grammar.specs.Text.{start_of}
 use Rattle.lt_parser.proofs.Placed.{length-lexemes, place_at}
 use Rattle.lt_parser.proofs.text.place.Goals as goal
 

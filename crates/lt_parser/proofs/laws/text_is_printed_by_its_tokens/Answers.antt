@@ -1,5 +1,0 @@
-use Rattle.lt_parser.proofs.PrintedText.{prints_its_tokens}
-use Rattle.lt_parser.proofs.laws.text_is_printed_by_its_tokens.Goals as goal
-
-pub returns : goal.returns
-returns c = prints_its_tokens
