@@ -237,6 +237,8 @@ WITHOUT_PLACE = (
     "type.NoNode",
     "expand.UnknownNode",
     "expand.TooLarge",
+    "expand.TooManyRuns",
+    "run.HasRuns",
     "run.NeedsController",
     "run.TooManyAtoms",
 )

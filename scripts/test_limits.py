@@ -276,6 +276,16 @@ LIMITS = {
         # Equal ones are one.
         checked(NODE + beside("{ |1: true fby b |1: true fby b }", 13), "0", 2, "normal"),
     ],
+    "runs of a node": [
+        Row(
+            "node s() returns (x: bool) = x\nnode n() returns (b: bool) = "
+            + "".join(f"run y{it} := s() in " for it in range(count))
+            + "b",
+            end,
+            ("run", "--node", "n"),
+        )
+        for count, end in ((16, "3 refused run.HasRuns"), (17, "3 refused expand.TooManyRuns"))
+    ],
     "atoms of a conjunct": [
         Row(
             f"node n() returns ({names('y', count)}: bool) = "
