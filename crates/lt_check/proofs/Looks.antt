@@ -39,7 +39,7 @@ module _ (m : DrawContext) (ns : List (t.Node ℕ (Process ℕ))) (all : List (t
 pub whole_at : (worth : Worth Expression Formula) (test : Leaf → Bool) (u : TermTree Expression) (ns : List l.Node) → ns ≡ nodes_by worth test u → IsAt ns 0 (shape_seen worth test u)
 whole_at worth test u ns e = ([], e ∙ nodes_are worth (test_sight worth test) u)
 
-dropped : {A B : Type 0} (f : A → B) (k : ℕ) (xs : List A) → drop k (map f xs) ≡ map f (drop k xs)
+pub dropped : {A B : Type 0} (f : A → B) (k : ℕ) (xs : List A) → drop k (map f xs) ≡ map f (drop k xs)
 dropped f zero xs = refl
 dropped f (suc k) [] = refl
 dropped f (suc k) (x ∷ xs) = dropped f k xs

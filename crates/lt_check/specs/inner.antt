@@ -44,3 +44,23 @@ pub mod Some
 pub mod MomentView
 -- how far a check is
 pub mod ProgressView
+-- what is found in trees as they are visited
+pub mod Visited
+-- what is told of constraints
+pub mod MemoView
+-- choices of what is unfolded
+pub mod ChoiceView
+-- what is asked of what terms offer
+pub mod QuestionView
+-- what is asked
+pub mod JudgeView
+-- whether weights have no fault
+pub mod Weighed
+-- the trees of choices
+pub mod ChoiceTree
+-- how far a search for instants is
+pub mod FinderView
+-- which constraints hold of a step
+pub mod MomentHolds
+-- tasks
+pub mod TaskView

@@ -10,12 +10,16 @@
 
 mod asking;
 mod checking;
+mod choice;
 mod counted;
 mod ending;
+mod finder;
 mod following;
+mod judge;
 mod key;
 mod leaves;
 mod looking;
+mod memo;
 mod moment;
 mod point;
 mod progress;

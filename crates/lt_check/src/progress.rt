@@ -1,6 +1,7 @@
 //! How far a check is.
 
-ghost use Rattle.std.specs.Prelude.{◌≡◌, ◌<◌, ◌≤◌, ◌+◌, ◌^◌, ℕ, IfErr, IfOk, Some, length, slice_get, take};
+ghost use Rattle.std.specs.Prelude.{◌≡◌, ◌<◌, ◌≤◌, ◌+◌, ◌^◌, ℕ, Bool, IfErr, IfOk, Some, length, slice_get, take};
+ghost use Rattle.lt_term.specs.Tree.{Lasts};
 ghost use Rattle.lt_trace.specs.Told.{Told};
 ghost use Rattle.lt_trace.specs.View.{step_view};
 ghost use Rattle.lt_check.specs.inner.Kinded.{IsKindedStep};
@@ -9,11 +10,14 @@ ghost use Rattle.lt_check.specs.inner.ProgressView.{AreHaltedBy, ArePassing, Fol
 ghost use Rattle.std.specs.List.{flat_map};
 ghost use Rattle.lt_check.specs.inner.Fitting.{IsShownIn};
 ghost use Rattle.lt_check.specs.inner.Terms.{with_each};
+ghost use Rattle.lt_check.specs.inner.MemoView.{Tells};
+ghost use Rattle.lt_check.specs.inner.MomentHolds.{moment_holds};
 ghost use Rattle.lt_check.specs.inner.SearcherView.{IsSearcherOf};
 ghost use Rattle.lt_check.specs.inner.TermSet.{terms_of};
 
 use crate::following::{Following, follow};
 use crate::key::TermKey;
+use crate::memo::Memo;
 use crate::moment::Moment;
 use crate::searcher::Searcher;
 use crate::step::ShownStep;
@@ -36,6 +40,9 @@ const MOST_TERMS: usize = 4096;
 pub(crate) struct Progress<'a> {
     pub moment: Moment<'a>,
     pub searcher: Searcher,
+
+    /// Which constraints hold in a step.
+    pub memo: Memo,
     pub terms: IndexSet<TermKey>,
 }
 
@@ -78,6 +85,7 @@ pub(crate) fn begin<'a>(
     Ok(Progress {
         moment: Moment::first(alloc, scenario, budget)?,
         searcher: Searcher::make(alloc, scenario)?,
+        memo: Memo::make(alloc, scenario.table.len())?,
         terms,
     })
 }
@@ -93,12 +101,14 @@ pub(crate) fn step_on<'a>(
     requires kinded { IsKindedStep (moment_scene progress.moment) (step_view step.now) }
     requires few { progress.moment.past.step < 2 ^ 63 }
     ensures sound { IfOk result IsSound }
-    ensures scenario { IfOk result (λ p. p.moment.scenario.now ≡ progress.entry.moment.scenario.now) }
+    ensures scenario { IfOk result (λ p. p.moment.scenario.now ≡
+        progress.entry.moment.scenario.now) }
     ensures goes_on { IfOk result (λ p. (t : Told) (budget k : ℕ) →
         slice_get t.steps k ≡ Some (step_view step.now) → IsBehind t budget k progress.entry →
         IsBehind t budget (k + 1) p) }
     ensures stops { IfErr result (λ stop. (t : Told) (budget k : ℕ) →
-        slice_get t.steps k ≡ Some (step_view step.now) → number ≡ k + 1 → IsBehind t budget k progress.entry →
+        slice_get t.steps k ≡ Some (step_view step.now) → number ≡ k + 1 →
+        IsBehind t budget k progress.entry →
         IsStop progress.entry.moment budget t stop) }
 {
     // Laws that the proof needs: that terms are told by what their numbers stand for, and which points there are.
@@ -106,7 +116,8 @@ pub(crate) fn step_on<'a>(
     test_tells_points();
     progress.moment.scenario.table.len();
     let mut moment = progress.moment;
-    let following = match follow_all(alloc, &moment, progress.searcher, &progress.terms, step) {
+    let none = Following::begin(alloc, progress.memo, progress.searcher)?;
+    let following = match follow_all(alloc, &moment, none, &progress.terms, step) {
         Ok(following) => following,
         Err(Halt::Memory) => return Err(Stop::Memory),
         Err(Halt::Over(need)) => {
@@ -120,22 +131,29 @@ pub(crate) fn step_on<'a>(
         return Err(Stop::Said(Verdict::TooMany { step: number }));
     }
     moment.pass(step);
+    let searcher = following.searcher;
+    let terms = following.terms;
+    let finder = following.finder;
+    let judge = finder.judge;
     Ok(Progress {
         moment,
-        searcher: following.searcher,
-        terms: following.terms,
+        searcher,
+        memo: judge.memo,
+        terms,
     })
 }
 
 // The terms that follow some terms by a step: all of them, or more than are kept.
-fn follow_all(
+fn follow_all<'a>(
     alloc: Global,
     moment: &Moment<'_>,
-    searcher: Searcher,
-    terms: &IndexSet<TermKey>,
+    none: Following<'a>,
+    terms: &'a IndexSet<TermKey>,
     step: &RecordedStep,
-) -> Result<Following, Halt>
-    requires searcher { IsSearcherOf moment.now.scenario.now searcher }
+) -> Result<Following<'a>, Halt>
+    requires searcher { IsSearcherOf moment.now.scenario.now none.searcher }
+    requires none { length none.terms.keys ≡ 0 }
+    requires tells { (holds : Lasts → ℕ → Bool) → Tells holds none.finder.judge.memo }
     requires passing { ArePassing moment.now (terms_of terms.now.keys) }
     requires kinded { IsKindedStep (moment_scene moment.now) (step_view step.now) }
     ensures some { IfOk result (λ following. FollowSome moment.now (step_view step.now)
@@ -143,8 +161,10 @@ fn follow_all(
     ensures all { IfOk result (λ following. length following.terms.keys ≤ 4096 →
         FollowAll moment.now (step_view step.now)
         (terms_of terms.now.keys) (terms_of following.terms.keys)) }
-    ensures searcher { IfOk result (λ following. IsSearcherOf moment.now.scenario.now following.searcher) }
-    ensures halts { IfErr result (IsStepHalt moment.now (step_view step.now) (terms_of terms.now.keys)) }
+    ensures searcher { IfOk result (λ following.
+        IsSearcherOf moment.now.scenario.now following.searcher) }
+    ensures halts { IfErr result
+        (IsStepHalt moment.now (step_view step.now) (terms_of terms.now.keys)) }
 {
     // Laws that the proof needs: what a walk finds, what is live, and which points there are.
     walks_are_walked();
@@ -154,33 +174,31 @@ fn follow_all(
     solutions_pass();
     test_tells_points();
     let shown = ShownStep::make(alloc, moment.scenario, step)?;
-    let following = Following {
-        searcher,
-        terms: IndexSet::new(alloc),
-    };
     if !shown.is_possible {
-        return Ok(following);
+        return Ok(none);
     }
-    follow_each(alloc, moment, following, terms.as_slice(), &shown)
+    follow_each(alloc, moment, none, terms.as_slice(), &shown)
 }
 
 // Adds the terms that follow some terms by a step that is possible, until there are more than are kept.
-fn follow_each(
+fn follow_each<'a>(
     alloc: Global,
     moment: &Moment<'_>,
-    following: Following,
-    keys: &[TermKey],
+    following: Following<'a>,
+    keys: &'a [TermKey],
     shown: &ShownStep,
-) -> Result<Following, Halt>
+) -> Result<Following<'a>, Halt>
     requires searcher { IsSearcherOf moment.now.scenario.now following.searcher }
     requires passing { ArePassing moment.now (terms_of keys.now) }
     requires shown { IsShownIn moment.now.scenario.now shown.now }
+    requires tells { Tells (moment_holds moment.now shown.now) following.finder.judge.memo }
     ensures follows { IfOk result (λ new. (count : ℕ) × (count ≤ length keys.now) ×
-        (terms_of new.terms.keys ≡ with_each (terms_of following.terms.keys)
+        (terms_of new.terms.keys ≡ with_each (terms_of following.entry.terms.keys)
         (flat_map (followers moment.now shown.now) (take count (terms_of keys.now)))) ×
         (length new.terms.keys ≤ 4096 → count ≡ length keys.now)) }
     ensures searcher { IfOk result (λ new. IsSearcherOf moment.now.scenario.now new.searcher) }
-    ensures halts { IfErr result (λ halt. AreHaltedBy moment.now shown.now (terms_of keys.now) halt) }
+    ensures halts { IfErr result (λ halt.
+        AreHaltedBy moment.now shown.now (terms_of keys.now) halt) }
 {
     let mut all = following;
     for key in keys {

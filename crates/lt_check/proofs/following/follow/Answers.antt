@@ -1,51 +1,71 @@
-use Rattle.std.proofs.Common.{◌≡◌, ◌∙◌, ap, arith, false, get_or, map, slice_get, sym, take}
-use Rattle.std.proofs.lemmas.List.{take_all}
-use Rattle.lt_term.specs.Scene.{Scene}
-use Rattle.lt_term.specs.TreeView.{tree_node}
+use Rattle.std.proofs.Common.{◌∙◌, IsTrue, subst, sym}
+use Rattle.std.proofs.lemmas.Result.{IfOk-weaker}
+use Rattle.lt_legal.specs.declared.halt.Halt.TheVariants as halt
+use Rattle.lt_term.specs.SceneView.{numbers_of}
 use Rattle.lt_term.specs.View.{process}
-use Rattle.lt_term.specs.declared.tree.Tree.{Tree}
-use Rattle.lt_instant.specs.inner.DrawContextView.{scene_of}
-use Rattle.lt_check.specs.declared.looking.Look.{Look}
-use Rattle.lt_check.specs.inner.Followers.{next_by}
-use Rattle.lt_check.specs.inner.MomentView.{IsFollowingHalt, is_large, moment_scene}
+use Rattle.lt_term.specs.Within.{passes}
+use Rattle.lt_term.specs.declared.scenario.Scenario.{Scenario}
+use Rattle.lt_check.specs.declared.following.Following.{Following}
+use Rattle.lt_check.specs.declared.memo.Memo.{Memo}
+use Rattle.lt_check.specs.inner.Fitting.{IsShownIn}
+use Rattle.lt_check.specs.inner.MemoView.{Tells}
+use Rattle.lt_check.specs.inner.MomentHolds.{moment_holds}
+use Rattle.lt_check.specs.inner.MomentView.{IsFollowingHalt}
+use Rattle.lt_check.specs.inner.SearcherView.{IsSearcherOf}
 use Rattle.lt_check.specs.inner.TermSet.{terms_of}
-use Rattle.lt_check.specs.inner.Terms.{with_each}
-use Rattle.lt_check.specs.inner.Wanted.{for_step}
-use Rattle.lt_check.proofs.FollowingLooks.{IsLookAt, halt_is, passed_on, scene_is, small_followed}
-use Rattle.lt_check.proofs.FollowingNexts.{next_more}
+use Rattle.lt_check.proofs.FollowingFinds.{finds_followed, holds_is}
+use Rattle.lt_check.proofs.FollowingLooks.{passed_on}
 use Rattle.lt_check.proofs.following.follow.Goals as goal
 
-pub returns-in_err-leaves-clause-halts : goal.returns-in_err-leaves-clause-halts
-returns-in_err-leaves-clause-halts c =
-    let m = c.args.moment.now in
-    let term = c.args.term.now in
-    let step = c.args.step.now in
-    let look : Look = c.in_ok-look.look in
-    let told = c.in_ok-look.ensures in
-    let small : is_large m (process term) ≡ false = sym c.in_ok-is_too_large.ensures ∙ c.if-branch.false in
-    let at : IsLookAt m term look = record { scenario = told.scenario; past = told.past; inputs = told.inputs; budget = told.budget; term_is = told.term } in
-    let failed = c.in_err-leaves in
-    let test = λ (s : Scene). for_step s step.raws.items step.marks.items in
-    let halts = halt_is m term look at (test (scene_of look.context)) (test (moment_scene m)) (ap test (scene_is m term look at)) small failed.field-0.0 failed.ensures.halts in
-    passed_on c.from_residual-in_err-leaves.result failed.field-0.0 (IsFollowingHalt m step (process term)) c.from_residual-in_err-leaves.ensures.1 halts
+pub find-requires-clause-searcher : goal.find-requires-clause-searcher
+find-requires-clause-searcher c =
+    subst (λ (s : Scenario). IsSearcherOf s c.args.following.searcher) (sym c.context-context.ensures.scenario) c.requires.searcher
 
-pub loop-leaf-preserved : goal.loop-leaf-preserved
-loop-leaf-preserved c =
-    let items = c.deref-leaf-items.result.now in
-    let at = c.loop-leaf.leaf-index in
-    let terms = terms_of c.loop-leaf.terms.keys in
-    next_more c.args.step.now.locals.items (map tree_node c.find.new.self.tree.nodes.items) (terms_of c.args.following.terms.keys) items at terms (terms_of c.put_next.new.terms.keys) c.loop-leaf-test.true c.loop-leaf.invariant
-    (c.in_ok-put_next.ensures ∙ (λ i. with_each terms (next_by (c.deref-in-loop-leaf.ensures.value i) (slice_get (map tree_node (c.deref.ensures.value i)) (get_or items at 0)))))
+pub find-requires-clause-shown : goal.find-requires-clause-shown
+find-requires-clause-shown c =
+    subst (λ (s : Scenario). IsShownIn s c.args.step.now) (sym c.context-context.ensures.scenario) c.requires.shown
+
+pub find-requires-clause-tells : goal.find-requires-clause-tells
+find-requires-clause-tells c =
+    let x = c.context-context.ensures in
+    subst (λ holds. Tells holds c.args.following.finder.judge.memo) (sym (holds_is c.args.moment.now c.context-context.result x.scenario x.past x.inputs c.args.step.now)) c.requires.tells
+
+pub find-requires-clause-counted : goal.find-requires-clause-counted
+find-requires-clause-counted c = c.is_counted.ensures c.if-not-is_counted.false
+
+pub find-requires-clause-passes : goal.find-requires-clause-passes
+find-requires-clause-passes c =
+    subst (λ (s : Scenario). IsTrue (passes (numbers_of s) (process c.args.term.now))) (sym c.context-context.ensures.scenario) c.requires.passes
+
+pub follow_by_look-requires-clause-searcher : goal.follow_by_look-requires-clause-searcher
+follow_by_look-requires-clause-searcher c =
+    subst (λ (s : Scenario). IsSearcherOf s c.find.new.searcher) c.context-context.ensures.scenario c.in_ok-find.ensures.searcher
+
+pub follow_by_look-requires-clause-small : goal.follow_by_look-requires-clause-small
+follow_by_look-requires-clause-small c = sym c.in_ok-is_too_large.ensures ∙ c.if-branch.false
+
+pub returns-then-not-branch-clause-tells : goal.returns-then-not-branch-clause-tells
+returns-then-not-branch-clause-tells c =
+    let x = c.context-context.ensures in
+    let holds = moment_holds c.args.moment.now c.args.step.now in
+    let told : Tells holds c.find.new.self.judge.memo =
+    subst (λ are. Tells are c.find.new.self.judge.memo) (holds_is c.args.moment.now c.context-context.result x.scenario x.past x.inputs c.args.step.now) c.in_ok-find.ensures.tells in
+    IfOk-weaker c.follow_by_look.result _ _ (λ (f : Following) h. subst (λ (m : Memo). Tells holds m) (sym h) told) c.follow_by_look.ensures.memo
+
+pub returns-in_err-put_nexts-clause-halts : goal.returns-in_err-put_nexts-clause-halts
+returns-in_err-put_nexts-clause-halts c =
+    passed_on c.from_residual-in_err-put_nexts.result halt.Memory (IsFollowingHalt c.args.moment.now c.args.step.now (process c.args.term.now)) c.from_residual-in_err-put_nexts.ensures.1 tt
 
 pub returns-clause-follows : goal.returns-clause-follows
 returns-clause-follows c =
-    let m = c.args.moment.now in
-    let term = c.args.term.now in
-    let look : Look = c.in_ok-look.look in
-    let told = c.in_ok-look.ensures in
-    let small : is_large m (process term) ≡ false = sym c.in_ok-is_too_large.ensures ∙ c.if-branch.false in
-    let at : IsLookAt m term look = record { scenario = told.scenario; past = told.past; inputs = told.inputs; budget = told.budget; term_is = told.term } in
-    let items = c.deref-leaf-items.result.now in
-    let nodes = ap (λ (t : Tree). map tree_node t.nodes.items) c.in_ok-leaves.ensures.tree ∙ told.nodes in
-    let leaves = take_all c.loop-leaf.leaf-index items (omega (arith, c.loop-leaf-test.false)) ∙ c.deref-leaf-items.ensures.value ∙ c.in_ok-leaves.ensures.finds in
-    small_followed m term look at c.args.step.now (terms_of c.args.following.terms.keys) (terms_of c.loop-leaf.terms.keys) (map tree_node c.find.new.self.tree.nodes.items) (take c.loop-leaf.leaf-index items) small nodes leaves c.loop-leaf.invariant
+    let x = c.context-context.ensures in
+    finds_followed c.args.moment.now c.context-context.result x.scenario x.past x.inputs c.args.step.now (process c.args.term.now) (terms_of c.args.following.terms.keys) _ _ (sym c.in_ok-is_too_large.ensures ∙ c.if-branch.false) (c.in_ok-find.ensures.finds c.if-not-branch.false) c.in_ok-put_nexts.ensures
+
+pub returns-clause-searcher : goal.returns-clause-searcher
+returns-clause-searcher c =
+    subst (λ (s : Scenario). IsSearcherOf s c.find.new.searcher) c.context-context.ensures.scenario c.in_ok-find.ensures.searcher
+
+pub returns-clause-tells : goal.returns-clause-tells
+returns-clause-tells c =
+    let x = c.context-context.ensures in
+    subst (λ holds. Tells holds c.find.new.self.judge.memo) (holds_is c.args.moment.now c.context-context.result x.scenario x.past x.inputs c.args.step.now) c.in_ok-find.ensures.tells

@@ -6,8 +6,9 @@ use Rattle.lt_term.specs.Process.{Process}
 use Rattle.lt_trace.specs.View.{step_view}
 use Rattle.lt_check.specs.declared.following.Following.{Following}
 use Rattle.lt_check.specs.declared.key.TermKey.{TermKey}
+use Rattle.lt_check.specs.inner.MomentHolds.{moment_holds}
 use Rattle.lt_check.specs.inner.MomentView.{followers, moment_scene}
-use Rattle.lt_check.specs.inner.ProgressView.{AreHaltedBy, ArePassing, FollowAll}
+use Rattle.lt_check.specs.inner.ProgressView.{AreHaltedBy, ArePassing, FollowAll, FollowSome}
 use Rattle.lt_check.specs.inner.ShownPoints.{possible}
 use Rattle.lt_check.specs.inner.TermSet.{terms_of}
 use Rattle.lt_check.specs.inner.Terms.{with_each}
@@ -19,13 +20,21 @@ use Rattle.lt_check.proofs.progress.follow_all.Goals as goal
 counted : (items keys : List TermKey) (count : ℕ) → items ≡ keys → count ≡ length items → count ≡ length (terms_of keys)
 counted items keys count same h = let e = ap (λ (xs : List TermKey). length xs) same in let long = terms_long keys in omega (arith, e, long, h)
 
+pub returns-then-not-shown-clause-some : goal.returns-then-not-shown-clause-some
+returns-then-not-shown-clause-some c =
+    let m = c.args.moment.now in
+    let step = step_view c.args.step.now in
+    let ps = terms_of c.args.terms.now.keys in
+    subst (λ (qs : List (Process ℕ)). FollowSome m step ps qs) (sym (no_terms c.args.none.terms.keys c.requires.none))
+    (none_followed c.test_tells_points.ensures m step c.requires.kinded (sym c.in_ok-shown.ensures.points ∙ c.if-not-shown.true) ps).some
+
 pub returns-then-not-shown-clause-all : goal.returns-then-not-shown-clause-all
 returns-then-not-shown-clause-all c =
     let m = c.args.moment.now in
     let step = step_view c.args.step.now in
     let ps = terms_of c.args.terms.now.keys in
     λ few.
-    subst (λ (qs : List (Process ℕ)). FollowAll m step ps qs) (sym (no_terms c.new.result.keys c.new.ensures.len))
+    subst (λ (qs : List (Process ℕ)). FollowAll m step ps qs) (sym (no_terms c.args.none.terms.keys c.requires.none))
     (none_followed c.test_tells_points.ensures m step c.requires.kinded (sym c.in_ok-shown.ensures.points ∙ c.if-not-shown.true) ps)
 
 pub follow_each-requires-clause-passing : goal.follow_each-requires-clause-passing
@@ -36,6 +45,9 @@ pub follow_each-requires-clause-shown : goal.follow_each-requires-clause-shown
 follow_each-requires-clause-shown c =
     shown_in c.args.moment.now.scenario.now (step_view c.args.step.now) c.in_ok-shown.shown c.requires.kinded (sym c.in_ok-shown.ensures.points ∙ c.if-not-shown.false) c.in_ok-shown.ensures.raws
 
+pub follow_each-requires-clause-tells : goal.follow_each-requires-clause-tells
+follow_each-requires-clause-tells c = c.requires.tells (moment_holds c.args.moment.now c.in_ok-shown.shown)
+
 pub returns-clause-some : goal.returns-clause-some
 returns-clause-some c =
     let m = c.args.moment.now in
@@ -44,7 +56,7 @@ returns-clause-some c =
     let ps = terms_of c.args.terms.now.keys in
     let laws : Laws = record { walked = c.walks_are_walked.ensures; legal = c.walk_is_legal.ensures; tell = c.legal_leaves_tell.ensures; stand = c.legal_leaves_stand.ensures; pass = c.solutions_pass.ensures } in
     let can : possible (moment_scene m) step ≡ true = sym c.in_ok-shown.ensures.points ∙ c.if-not-shown.false in
-    let empty = no_terms c.new.result.keys c.new.ensures.len in
+    let empty = no_terms c.args.none.terms.keys c.requires.none in
     let keys = c.as_slice.ensures.keys in
     IfOk-weaker c.follow_each.result _ _
     (λ (f : Following) h.
@@ -60,7 +72,7 @@ returns-clause-all c =
     let ps = terms_of c.args.terms.now.keys in
     let laws : Laws = record { walked = c.walks_are_walked.ensures; legal = c.walk_is_legal.ensures; tell = c.legal_leaves_tell.ensures; stand = c.legal_leaves_stand.ensures; pass = c.solutions_pass.ensures } in
     let can : possible (moment_scene m) step ≡ true = sym c.in_ok-shown.ensures.points ∙ c.if-not-shown.false in
-    let empty = no_terms c.new.result.keys c.new.ensures.len in
+    let empty = no_terms c.args.none.terms.keys c.requires.none in
     let keys = c.as_slice.ensures.keys in
     IfOk-weaker c.follow_each.result _ _
     (λ (f : Following) h few.

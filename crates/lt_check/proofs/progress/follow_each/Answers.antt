@@ -24,5 +24,6 @@ loop-key-preserved c =
     let key = c.key-item.result in
     record {
       searcher = c.in_ok-all.ensures.searcher;
+      tells = c.in_ok-all.ensures.tells;
       terms = followed_more c.args.moment.now c.args.shown.now c.args.keys.now c.loop-key.key-index key key (terms_of c.args.following.terms.keys) (terms_of c.loop-key.all.terms.keys) _ c.loop-key-test.true c.key-item.is c.loop-key.invariant.terms c.in_ok-all.ensures.follows;
     }

@@ -8,6 +8,7 @@ use Rattle.lt_term.specs.SceneView.{numbers_of, variable}
 use Rattle.lt_term.specs.Within.{passes}
 use Rattle.lt_term.specs.declared.scenario.Scenario.{Scenario}
 use Rattle.lt_trace.specs.View.{step_view}
+use Rattle.lt_check.specs.declared.searcher.Searcher.{Searcher}
 use Rattle.lt_check.specs.inner.Members.{Has}
 use Rattle.lt_check.specs.inner.MomentView.{moment_scene}
 use Rattle.lt_check.specs.inner.ProgressView.{IsStepHalt}
@@ -16,6 +17,10 @@ use Rattle.lt_check.specs.inner.TermSet.{terms_of}
 use Rattle.lt_check.proofs.Behind.{IsPassed, behind_step, none_legal, some_there, step_given_up, terms_long, too_many}
 use Rattle.lt_check.proofs.StepTerms.{kinded_long, no_terms}
 use Rattle.lt_check.proofs.progress.step_on.Goals as goal
+
+pub follow_all-requires-clause-searcher : goal.follow_all-requires-clause-searcher
+follow_all-requires-clause-searcher c =
+    subst (λ (x : Searcher). IsSearcherOf c.args.progress.moment.scenario.now x) (sym c.in_ok-none.ensures.searcher) c.requires.sound.searches
 
 pub returns-in-Err-Over-clause-stops : goal.returns-in-Err-Over-clause-stops
 returns-in-Err-Over-clause-stops c =

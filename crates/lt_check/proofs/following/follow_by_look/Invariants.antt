@@ -3,7 +3,7 @@ use Rattle.lt_term.specs.TreeView.{tree_node}
 use Rattle.lt_check.specs.inner.Followers.{nexts_by}
 use Rattle.lt_check.specs.inner.TermSet.{terms_of}
 use Rattle.lt_check.specs.inner.Terms.{with_each}
-use Rattle.lt_check.proofs.following.follow.Given as goal
+use Rattle.lt_check.proofs.following.follow_by_look.Given as goal
 
 -- the terms so far
 abbrev pub invariant-loop-leaf : goal.invariant-loop-leaf
